@@ -1,0 +1,18 @@
+-- The answers' numbers of document 01, and `tolerate_secondary_drift` ("Beside the spend").
+use Prim.Native.Nat.{ℕ}
+use mathlib.Core.Bool.{cond}
+use lib.Dec.{eqb}
+use Rattle.refusal.specs.declared.Answer.{Answer}
+use Rattle.refusal.specs.declared.Answer.the-variants.{Accepted, Refused}
+use Rattle.refusal.specs.declared.Tolerated.{Tolerated}
+use Rattle.refusal.specs.declared.Tolerated.the-variants as tolerated-as
+
+-- the number of an answer: 0 where it is accepted
+abbrev pub code-of : Answer → ℕ
+code-of Accepted = 0
+code-of (Refused code) = code
+
+-- "15 becomes 'skipped', any other answer passes"
+unfoldable pub tolerated : Answer → Tolerated
+tolerated Accepted = tolerated-as.Flipped
+tolerated (Refused code) = cond (eqb code 15) tolerated-as.Skipped (tolerated-as.Refused code)

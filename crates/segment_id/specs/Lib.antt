@@ -1,0 +1,2 @@
+-- The definitions that the contracts of `segment_id` cite.
+pub mod Key

@@ -1,0 +1,3 @@
+-- The definitions that the contracts of `signed` cite.
+pub mod Sign
+pub mod Checked

@@ -1,0 +1,2 @@
+-- The laws of `statement`.
+pub mod FigureLaws

@@ -1,0 +1,2 @@
+-- The definitions that the contracts of `statement` cite.
+pub mod Statement

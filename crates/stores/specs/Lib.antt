@@ -1,0 +1,3 @@
+-- The definitions that the contracts of `stores` cite.
+pub mod Stores
+pub mod Equal

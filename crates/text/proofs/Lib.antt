@@ -1,0 +1,3 @@
+-- The laws of `text`, for its own functions and for every crate above.
+pub mod TextLaws
+pub mod ApartLaws

@@ -1,0 +1,4 @@
+-- The laws of `undo`.
+pub mod EntryLaws
+pub mod RoundTrip
+pub mod PruneLaws

@@ -1,0 +1,3 @@
+-- The definitions that the contracts of `undo` cite.
+pub mod Entry
+pub mod Prune

@@ -1,0 +1,3 @@
+// Undo entries and their retention, after store/undo.rs of the Rust.
+pub mod entry;
+pub mod prune;

@@ -1,0 +1,2 @@
+-- The laws of `vlq`.
+pub mod WritingLaws

@@ -1,0 +1,47 @@
+-- `vlq::put_i64` meets its contract: the length is tested, then written; one law for each way out.
+use mathlib.Core.Path.{_≡_}
+use mir.Syntax.{w64}
+use mir.Facts.{toZ-ofZ}
+use borrow.Author.Tests.{not-true, not-false}
+use Rattle.vlq.proofs.WritingLaws.{put-short, put-room, put-done}
+use borrow.Author.Needs.{needs}
+use Rattle.vlq.proofs.put_i64.Statement.{statement}
+use Rattle.vlq.proofs.put_i64.Tie as tie
+
+number-len-requires : tie.Need-number-len-requires
+number-len-requires c κs = search needs
+
+has-room-requires : tie.Need-has-room-requires
+has-room-requires c κs = search needs
+
+returns : tie.Need-returns
+returns c =
+    let s = c .before .before .before .before in
+    let h = c .before .has-room in
+    put-short (s .args .n) _ (toZ-ofZ {w = w64} (s .fits .n)) (s .args .out .now) (s .args .at) _ (c .before .before .number-len .ensures .0) (h .result) (h .ensures) (not-true _ (c .if1 .taken))
+
+emit-i64-requires : tie.Need-emit-i64-requires
+emit-i64-requires c κs =
+    let s = c .before .before .before .before .before in
+    let h = c .before .before .has-room in
+    put-room (s .args .n) _ (toZ-ofZ {w = w64} (s .fits .n)) (s .args .out .now) (s .args .at) _ (c .before .before .before .number-len .ensures .0) (h .result) (h .ensures) (not-false _ (c .before .if1 .left))
+
+same-length : tie.Need-same-length
+same-length c = search needs
+
+returns-2 : tie.Need-returns-2
+returns-2 c =
+    let s = c .before .before .before .before .before .before .before .before in
+    let h = c .before .before .before .before .before .has-room in
+    put-done (s .args .n) _ (toZ-ofZ {w = w64} (s .fits .n)) (s .args .out .now) (s .args .at) _ (c .before .before .before .before .before .before .number-len .ensures .0) (h .result) (h .ensures) (not-false _ (c .before .before .before .before .if1 .left)) _ _ (c .before .before .emit-i64 .ensures)
+
+pub put-i64-spec : {M : Type 1} → statement M
+put-i64-spec =
+    tie.close
+    (tie.spec
+    number-len-requires
+    has-room-requires
+    returns
+    emit-i64-requires
+    same-length
+    returns-2)

@@ -1,0 +1,2 @@
+-- The definitions that the contracts of `vlq` cite, beside those of `vlq_core`.
+pub mod Writing

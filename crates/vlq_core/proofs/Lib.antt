@@ -1,0 +1,9 @@
+-- The laws of `vlq_core`, for its own functions and for every crate above.
+pub mod Split
+pub mod ZigzagLaws
+pub mod GroupLaws
+pub mod WriteLaws
+pub mod ReadLaws
+pub mod LoopLaws
+pub mod BackLaws
+pub mod Vectors

@@ -1,0 +1,109 @@
+-- Laws of reading a coded number, at either width: what it is made of, its bound, the position after it, and its refusals.
+use mathlib.Core.Path.{_≡_, refl, sym, ap, ap₂, subst, _∙_}
+use mathlib.Core.Logic.{_⊎_, inl, inr, ⊎-elim}
+use mathlib.Core.List.{List, [], _∷_}
+use Prim.Native.Nat.{ℕ, zero, suc, _+_, _*_, _^_, _<_, _≤_}
+use native.Mathlib.Omega.{arith}
+use lib.IntN.{ℤ}
+use lib.ListN.{length, drop, length-drop}
+use lib.Pow.{pow-add, pow-mono}
+use borrow.Author.Tests.{lt-ltb, le-ltb}
+use Rattle.vlq_core.specs.declared.Got.{Got}
+use Rattle.vlq_core.specs.declared.Got.the-variants.{Value, Refused}
+use Rattle.vlq_core.specs.declared.Long.the-variants as long
+use Rattle.vlq_core.specs.declared.Int.the-variants as int
+use Rattle.vlq_core.specs.Zigzag.{zag}
+use Rattle.vlq_core.specs.Reading.{below, dec, narrow, read-at, signed-of, long-of, int-of}
+use Rattle.vlq_core.proofs.Split.{split}
+
+-- ---- a value is below its bound, and its last byte lies in the list; a refusal is 1 or 2
+
+abbrev Good : (bound lo hi : ℕ) → Got → Type 0
+Good bound lo hi (Value v n) = (v < bound) × (lo < n) × (n ≤ hi)
+Good bound lo hi (Refused r) = (r ≡ 1) ⊎ (r ≡ 2)
+
+below-good : (bound lo hi b : ℕ) (g : Got) → Good bound (lo + 1) hi g → Good (bound * 128) lo hi (below b g)
+below-good bound lo hi b (Value v n) h = (omega arith, omega arith, omega arith)
+below-good bound lo hi b (Refused r) h = h
+
+-- f groups and a last one that holds one bit; one group more
+pub bound-suc : (f : ℕ) → 2 ^ (7 * suc f + 1) ≡ 2 ^ (7 * f + 1) * 128
+bound-suc f = ap (λ (n : ℕ). 2 ^ n) (omega arith) ∙ pow-add 2 (7 * f + 1) 7
+
+dec-good : (f : ℕ) (l : List ℕ) (at hi : ℕ) → at + length l ≤ hi → Good (2 ^ (7 * f + 1)) at hi (dec f l at)
+unfolding dec
+dec-good f [] at hi h = inl refl
+dec-good zero (b ∷ l) at hi h = ⊎-elim (λ (q : b < 2). rw (lt-ltb b 2 q) (q, omega arith, omega arith)) (λ (q : 2 ≤ b). rw (le-ltb b 2 q) (inr refl)) (split b 2)
+dec-good (suc f) (b ∷ l) at hi h = rw (bound-suc f) (by-top (below-good _ at hi b (dec f l (at + 1)) (dec-good f l (at + 1) hi (omega arith))))
+  where
+    by-top : Good (2 ^ (7 * f + 1) * 128) at hi (below b (dec f l (at + 1))) → Good (2 ^ (7 * f + 1) * 128) at hi (dec (suc f) (b ∷ l) at)
+    by-top rest = ⊎-elim (λ (q : b < 128). rw (lt-ltb b 128 q) (omega (arith, pow-mono {i = 0} {j = 7 * f + 1} (omega arith)), omega arith, omega arith))
+        (λ (q : 128 ≤ b). rw (le-ltb b 128 q) rest) (split b 128)
+
+narrow-good : (k bound lo hi : ℕ) (g : Got) → Good bound lo hi g → Good (2 ^ k) lo hi (narrow k g)
+narrow-good k bound lo hi (Value v n) h = ⊎-elim (λ (q : v < 2 ^ k). rw (lt-ltb v (2 ^ k) q) (q, h .1, h .2)) (λ (q : 2 ^ k ≤ v). rw (le-ltb v (2 ^ k) q) (inr refl)) (split v (2 ^ k))
+narrow-good k bound lo hi (Refused r) h = h
+
+module _ (k : ℕ) (s : List ℕ) (at : ℕ) where
+  read-good : Good (2 ^ k) at (at + length (drop at s)) (read-at k s at)
+  unfolding read-at
+  read-good = narrow-good k _ at _ (dec 9 (drop at s) at) (dec-good 9 (drop at s) at _ (omega arith))
+
+  module _ (v n : ℕ) (e : Value v n ≡ read-at k s at) where
+    good : (v < 2 ^ k) × (at < n) × (n ≤ at + length (drop at s))
+    good = subst (Good (2 ^ k) at (at + length (drop at s))) (sym e) read-good
+
+    -- what is read is of the width
+    pub read-fits : v < 2 ^ k
+    read-fits = good .0
+
+    -- the position after a number lies past its first byte and within the list
+    pub read-next : (at < n) × (n ≤ length s)
+    read-next = let g = good in (g .1, omega (arith, length-drop at s))
+
+  -- no other refusals
+  pub read-refusals : (r : ℕ) → Refused r ≡ read-at k s at → (r ≡ 1) ⊎ (r ≡ 2)
+  read-refusals r e = subst (Good (2 ^ k) at (at + length (drop at s))) (sym e) read-good
+
+-- ---- the width
+
+narrow-all : (k lo hi : ℕ) (g : Got) → Good (2 ^ k) lo hi g → narrow k g ≡ g
+narrow-all k lo hi (Value v n) h = rw (lt-ltb v (2 ^ k) (h .0))
+narrow-all k lo hi (Refused r) h = refl
+
+-- ten groups hold 64 bits
+pub read-64 : (s : List ℕ) (at : ℕ) → dec 9 (drop at s) at ≡ read-at 64 s at
+unfolding read-at
+read-64 s at = sym (narrow-all 64 at _ _ (dec-good 9 (drop at s) at (at + length (drop at s)) (omega arith)))
+
+-- at either width, by the answer g of the groups
+module _ (k : ℕ) (s : List ℕ) (at : ℕ) {g : Got} (e : g ≡ dec 9 (drop at s) at) where
+  pub read-in : (v n : ℕ) → g ≡ Value v n → v < 2 ^ k → Value v n ≡ read-at k s at
+  unfolding read-at
+  read-in v n d h = rw (← e, d, lt-ltb v (2 ^ k) h)
+
+  pub read-over : (v n : ℕ) → g ≡ Value v n → 2 ^ k ≤ v → Refused 2 ≡ read-at k s at
+  unfolding read-at
+  read-over v n d h = rw (← e, d, le-ltb v (2 ^ k) h)
+
+  pub read-refused : (r : ℕ) → g ≡ Refused r → Refused r ≡ read-at k s at
+  unfolding read-at
+  read-refused r d = ap (narrow k) (sym d ∙ e)
+
+-- ---- a signed answer, of either width, says what any other answer would be
+module _ {A : Type 0} (number : ℤ → ℕ → A) (refused : ℕ → A) where
+  pub long-number : (g : Got) (z : ℤ) (n : ℕ) → long-of g ≡ long.Number z n → signed-of number refused g ≡ number z n
+  long-number (Value v m) z n e = let p : zag v ≡ z = cc in let q : m ≡ n = cc in ap₂ number p q
+  long-number (Refused r) z n e = let x : _≡_ {A = ℕ} 0 1 = cc in absurd (omega arith)
+
+  pub long-refused : (g : Got) (r : ℕ) → long-of g ≡ long.Refused r → signed-of number refused g ≡ refused r
+  long-refused (Value v m) r e = let x : _≡_ {A = ℕ} 0 1 = cc in absurd (omega arith)
+  long-refused (Refused q) r e = let p : q ≡ r = cc in ap refused p
+
+  pub int-number : (g : Got) (z : ℤ) (n : ℕ) → int-of g ≡ int.Number z n → signed-of number refused g ≡ number z n
+  int-number (Value v m) z n e = let p : zag v ≡ z = cc in let q : m ≡ n = cc in ap₂ number p q
+  int-number (Refused r) z n e = let x : _≡_ {A = ℕ} 0 1 = cc in absurd (omega arith)
+
+  pub int-refused : (g : Got) (r : ℕ) → int-of g ≡ int.Refused r → signed-of number refused g ≡ refused r
+  int-refused (Value v m) r e = let x : _≡_ {A = ℕ} 0 1 = cc in absurd (omega arith)
+  int-refused (Refused q) r e = let p : q ≡ r = cc in ap refused p

@@ -1,0 +1,4 @@
+-- The definitions that the contracts of `vlq_core` cite: coded numbers of document 01, "Coded numbers".
+pub mod Zigzag
+pub mod Groups
+pub mod Reading

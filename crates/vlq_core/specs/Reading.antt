@@ -1,0 +1,49 @@
+-- Reading a coded number (document 01, "Coded numbers" and the table's row "Reader"):
+-- "Reading takes at most ten bytes; padding with zero groups is accepted. A 32-bit number is coded alike and must be below 2^32 before decoding."
+-- Refusal 1: bytes end inside a field. Refusal 2: tenth byte above 1, or 32-bit value not below 2^32.
+use Prim.Native.Nat.{ℕ, zero, suc, _+_, _*_, _%_, _^_}
+use mathlib.Core.Bool.{cond}
+use mathlib.Core.List.{List, [], _∷_}
+use lib.Dec.{ltb}
+use lib.IntN.{ℤ}
+use lib.ListN.{drop}
+use Rattle.vlq_core.specs.Zigzag.{zag}
+use Rattle.vlq_core.specs.declared.Got.{Got}
+use Rattle.vlq_core.specs.declared.Got.the-variants.{Value, Refused}
+use Rattle.vlq_core.specs.declared.Long.{Long}
+use Rattle.vlq_core.specs.declared.Long.the-variants as long
+use Rattle.vlq_core.specs.declared.Int.{Int}
+use Rattle.vlq_core.specs.declared.Int.the-variants as int
+
+-- a group b with the top bit set, below the rest
+abbrev pub below : ℕ → Got → Got
+below b (Value v n) = Value (b % 128 + 128 * v) n
+below b (Refused r) = Refused r
+
+-- the bytes from position `at` on: at most f groups with the top bit set, and then the last. For f = 9 the tenth byte is the last, and holds one bit
+unfoldable pub dec : ℕ → List ℕ → ℕ → Got
+dec f [] at = Refused 1
+dec zero (b ∷ bs) at = cond (ltb b 2) (Value b (at + 1)) (Refused 2)
+dec (suc f) (b ∷ bs) at = cond (ltb b 128) (Value b (at + 1)) (below b (dec f bs (at + 1)))
+
+-- a number of k bits
+abbrev pub narrow : ℕ → Got → Got
+narrow k (Value v n) = cond (ltb v (2 ^ k)) (Value v n) (Refused 2)
+narrow k (Refused r) = Refused r
+
+-- the coded number of k bits at position `at` of s; k is 32 or 64.
+-- Padding is accepted here; a test of it, directly after 2, would stand before `narrow` and nowhere else.
+unfoldable pub read-at : ℕ → List ℕ → ℕ → Got
+read-at k s at = narrow k (dec 9 (drop at s) at)
+
+-- the signed number, of either width, as an answer of any type
+module _ {A : Type 0} where
+  abbrev pub signed-of : (ℤ → ℕ → A) → (ℕ → A) → Got → A
+  signed-of number refused (Value v n) = number (zag v) n
+  signed-of number refused (Refused r) = refused r
+
+abbrev pub long-of : Got → Long
+long-of = signed-of long.Number long.Refused
+
+abbrev pub int-of : Got → Int
+int-of = signed-of int.Number int.Refused
