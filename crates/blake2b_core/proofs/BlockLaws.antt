@@ -74,9 +74,9 @@ absorbed-turn nn s h b r at z eh eb er =
     rw q (er ∙ (λ i. compress (eh i) ((eb ∙ ap (block s) e1) i) (e2 i) false))
 
 -- the last block
-pub final-law : (nn : ℕ) (s h b r : List ℕ) (at : ℕ) → at % 128 ≡ 0 → at ≤ length s - 1 → length s - at ≤ 128 → h ≡ absorbed nn s (at / 128) → b ≡ block s at → r ≡ compress h b (length s) true → r ≡ final nn s
+pub final-block : (nn : ℕ) (s h b r : List ℕ) (at : ℕ) → at % 128 ≡ 0 → at ≤ length s - 1 → length s - at ≤ 128 → h ≡ absorbed nn s (at / 128) → b ≡ block s at → r ≡ compress h b (length s) true → r ≡ final nn s
 unfolding final before-last
-final-law nn s h b r at z low last eh eb er =
+final-block nn s h b r at z low last eh eb er =
     let k : ℕ = (length s - 1) / 128 in
     let e0 : at / 128 ≡ k = omega arith in
     let e1 : at ≡ k * 128 = omega arith in

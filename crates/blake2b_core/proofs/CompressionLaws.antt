@@ -1,4 +1,4 @@
--- Laws of the compression function: what a run of calls leaves, from what each call ensures.
+-- Laws of the compression function: a turn of the rounds, and the work vector.
 use Prim.Native.Nat.{ℕ, _+_, _*_, _/_, _%_, _^_, _<_}
 use mathlib.Core.Path.{_≡_, sym, ap, _∙_}
 use mathlib.Core.Bool.{Bool}
@@ -7,14 +7,9 @@ use native.Mathlib.Nat.{mod-eq-of-lt, div-eq-of-lt}
 use native.Mathlib.Numerals.{add-one}
 use lib.ListN.{getD}
 use lib.Bits.{bitXor, xor-zero-r}
-use Rattle.blake2b_core.specs.Blake2b.{tabulate, iv, add, xor-rotr, mix, columns, diagonals, rounds, flagged, work, fold, compress}
+use Rattle.blake2b_core.specs.Blake2b.{tabulate, iv, columns, diagonals, rounds, flagged, work}
 
-pub mix-law : (v : List ℕ) (a b c d x y : ℕ) {v1 v2 v3 v4 v5 v6 v7 v8 : List ℕ}
-    → v1 ≡ add v a b x → v2 ≡ xor-rotr v1 d a 32 → v3 ≡ add v2 c d 0 → v4 ≡ xor-rotr v3 b c 24
-    → v5 ≡ add v4 a b y → v6 ≡ xor-rotr v5 d a 16 → v7 ≡ add v6 c d 0 → v8 ≡ xor-rotr v7 b c 63 → v8 ≡ mix v a b c d x y
-unfolding mix
-mix-law v a b c d x y e1 e2 e3 e4 e5 e6 e7 e8 = cc
-
+-- a round, and the end of the rounds
 pub rounds-turn : (v₀ m v c d : List ℕ) (i : ℕ) → v ≡ rounds v₀ m i → c ≡ columns v m (i % 10 * 16) → d ≡ diagonals c m (i % 10 * 16) → d ≡ rounds v₀ m (i + 1)
 unfolding rounds
 rounds-turn v₀ m v c d i e ec ed = rw add-one (cc)
@@ -31,7 +26,3 @@ work-law h t last x fits e =
     let low : t ≡ t % 2 ^ 64 = sym (mod-eq-of-lt fits) in
     let high : getD iv 5 0 ≡ bitXor (getD iv 5 0) (t / 2 ^ 64) = sym (ap (bitXor (getD iv 5 0)) (div-eq-of-lt fits) ∙ xor-zero-r (getD iv 5 0)) in
     λ j. tabulate (λ i. getD h i 0) 8 ++ getD iv 0 0 ∷ getD iv 1 0 ∷ getD iv 2 0 ∷ getD iv 3 0 ∷ bitXor (getD iv 4 0) (low j) ∷ high j ∷ e j ∷ getD iv 7 0 ∷ []
-
-pub compress-law : (h m : List ℕ) (t : ℕ) (last : Bool) {v w r : List ℕ} → v ≡ work h t last → w ≡ rounds v m 12 → r ≡ tabulate (fold h w) 8 → r ≡ compress h m t last
-unfolding compress
-compress-law h m t last e1 e2 e3 = cc

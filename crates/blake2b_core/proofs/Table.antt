@@ -44,4 +44,3 @@ once k x hk hx =
 -- what a lookup in a copy of the table needs
 pub below : (s : List ℕ) (i : ℕ) → (i < 160) × (s ≡ sigma) → getD s i 0 < 16
 below s i h = subst (λ (t : List ℕ). getD t i 0 < 16) (sym (h .1)) (below-16 i (h .0))
--- x

@@ -1,7 +1,7 @@
 -- BLAKE2b of RFC 7693, unkeyed (kk = 0), with a digest of nn bytes. Section numbers are those of the RFC.
 -- A word is a number below 2 ^ 64 (w = 64); a vector of words and a string of bytes are lists.
 use Prim.Native.Nat.{ℕ, zero, suc, _+_, _-_, _*_, _/_, _%_, _^_}
-use mathlib.Core.Bool.{Bool, true, false}
+use mathlib.Core.Bool.{Bool, true, false, cond}
 use mathlib.Core.List.{List, [], _∷_, _++_}
 use lib.ListN.{length, getD, set}
 use lib.Bits.{bitXor}
@@ -101,8 +101,7 @@ rounds v m (suc i) = diagonals (columns (rounds v m i) m (i % 10 * 16)) m (i % 1
 
 -- 3.2: word 14 of the work vector: all bits inverted in the last block
 unfoldable pub flagged : Bool → ℕ → ℕ
-flagged true x = bitXor x 0xffff_ffff_ffff_ffff
-flagged false x = x
+flagged last x = cond last (bitXor x 0xffff_ffff_ffff_ffff) x
 
 -- 3.2: the work vector at the start: the state h, then the IV with the low and the high word of the counter t and the last block's flag
 unfoldable pub work : List ℕ → ℕ → Bool → List ℕ

@@ -1,172 +1,23 @@
 // The compression function F of section 3.2, with the mixing function G of 3.1.
 ghost use mathlib.Core.Path.{_≡_};
-ghost use Prim.Native.Nat.{ℕ, _+_, _*_, _%_, _^_, _<_, _≤_};
-ghost use lib.ListN.{getD, length};
+ghost use Prim.Native.Nat.{_+_, _%_, _^_, _<_, _≤_};
+ghost use lib.ListN.{getD};
 ghost use Rattle.blake2b_core.specs.Blake2b as spec;
 
-pub const SIGMA: [u8; 160] = [
-    0,
-    1,
-    2,
-    3,
-    4,
-    5,
-    6,
-    7,
-    8,
-    9,
-    10,
-    11,
-    12,
-    13,
-    14,
-    15,
-    14,
-    10,
-    4,
-    8,
-    9,
-    15,
-    13,
-    6,
-    1,
-    12,
-    0,
-    2,
-    11,
-    7,
-    5,
-    3,
-    11,
-    8,
-    12,
-    0,
-    5,
-    2,
-    15,
-    13,
-    10,
-    14,
-    3,
-    6,
-    7,
-    1,
-    9,
-    4,
-    7,
-    9,
-    3,
-    1,
-    13,
-    12,
-    11,
-    14,
-    2,
-    6,
-    5,
-    10,
-    4,
-    0,
-    15,
-    8,
-    9,
-    0,
-    5,
-    7,
-    2,
-    4,
-    10,
-    15,
-    14,
-    1,
-    11,
-    12,
-    6,
-    8,
-    3,
-    13,
-    2,
-    12,
-    6,
-    10,
-    0,
-    11,
-    8,
-    3,
-    4,
-    13,
-    7,
-    5,
-    15,
-    14,
-    1,
-    9,
-    12,
-    5,
-    1,
-    15,
-    14,
-    13,
-    4,
-    10,
-    0,
-    7,
-    6,
-    3,
-    9,
-    2,
-    8,
-    11,
-    13,
-    11,
-    7,
-    14,
-    12,
-    1,
-    3,
-    9,
-    5,
-    0,
-    15,
-    4,
-    8,
-    6,
-    2,
-    10,
-    6,
-    15,
-    14,
-    9,
-    11,
-    3,
-    0,
-    8,
-    12,
-    2,
-    13,
-    7,
-    1,
-    4,
-    10,
-    5,
-    10,
-    2,
-    8,
-    4,
-    7,
-    6,
-    1,
-    5,
-    15,
-    11,
-    9,
-    14,
-    3,
-    12,
-    13,
-    0,
-];
+// The message schedule of section 2.7, a row of sixteen numbers to a line.
+pub const SIGMA: [u8; 160] = *b"\
+\x00\x01\x02\x03\x04\x05\x06\x07\x08\x09\x0a\x0b\x0c\x0d\x0e\x0f\
+\x0e\x0a\x04\x08\x09\x0f\x0d\x06\x01\x0c\x00\x02\x0b\x07\x05\x03\
+\x0b\x08\x0c\x00\x05\x02\x0f\x0d\x0a\x0e\x03\x06\x07\x01\x09\x04\
+\x07\x09\x03\x01\x0d\x0c\x0b\x0e\x02\x06\x05\x0a\x04\x00\x0f\x08\
+\x09\x00\x05\x07\x02\x04\x0a\x0f\x0e\x01\x0b\x0c\x06\x08\x03\x0d\
+\x02\x0c\x06\x0a\x00\x0b\x08\x03\x04\x0d\x07\x05\x0f\x0e\x01\x09\
+\x0c\x05\x01\x0f\x0e\x0d\x04\x0a\x00\x07\x06\x03\x09\x02\x08\x0b\
+\x0d\x0b\x07\x0e\x0c\x01\x03\x09\x05\x00\x0f\x04\x08\x06\x02\x0a\
+\x06\x0f\x0e\x09\x0b\x03\x00\x08\x0c\x02\x0d\x07\x01\x04\x0a\x05\
+\x0a\x02\x08\x04\x07\x06\x01\x05\x0f\x0b\x09\x0e\x03\x0c\x0d\x00";
 
+// The initialization vector of section 2.6.
 pub const IV: [u64; 8] = [
     0x6a09_e667_f3bc_c908,
     0xbb67_ae85_84ca_a73b,
@@ -178,6 +29,7 @@ pub const IV: [u64; 8] = [
     0x5be0_cd19_137e_2179,
 ];
 
+// x >>> n
 fn rotr(x: u64, n: u64) -> u64
     requires { ⌜ (0 < n) × (n < 64) ⌝ }
     ensures { λ r. ⌜ r ≡ spec.rotr x n ⌝ }
@@ -185,6 +37,7 @@ fn rotr(x: u64, n: u64) -> u64
     (x >> n) ^ (x << (64 - n))
 }
 
+// (a + b + x) mod 2**64
 fn sum3(a: u64, b: u64, x: u64) -> u64
     ensures { λ r. ⌜ r ≡ (a + b + x) % 2 ^ 64 ⌝ }
 {
@@ -247,6 +100,7 @@ fn mix_words(
     mix(v, a, b, c, d, word(m, sigma, i), word(m, sigma, i + 1));
 }
 
+// The four mixings of columns, with the words that the schedule names from base on.
 fn columns(v: &mut [u64; 16], m: &[u64; 16], sigma: &[u8; 160], base: usize)
     requires { ⌜ (base + 16 ≤ 160) × (now sigma ≡ spec.sigma) ⌝ }
     ensures { λ _. ⌜ now (v .exit) ≡ spec.columns (now (v .entry)) (now (m .entry)) base ⌝ }
@@ -257,6 +111,7 @@ fn columns(v: &mut [u64; 16], m: &[u64; 16], sigma: &[u8; 160], base: usize)
     mix_words(v, m, sigma, base + 6, 3, 7, 11, 15);
 }
 
+// The four mixings of diagonals.
 fn diagonals(v: &mut [u64; 16], m: &[u64; 16], sigma: &[u8; 160], base: usize)
     requires { ⌜ (base + 16 ≤ 160) × (now sigma ≡ spec.sigma) ⌝ }
     ensures { λ _. ⌜ now (v .exit) ≡ spec.diagonals (now (v .entry)) (now (m .entry)) base ⌝ }
@@ -315,7 +170,7 @@ fn work(h: &[u64; 8], t: u64, last: bool) -> [u64; 16]
     ]
 }
 
-// The state and the two halves of the work vector.
+// The state folded with the two halves of the work vector.
 fn fold(h: &[u64; 8], v: &[u64; 16]) -> [u64; 8]
     ensures { λ r. ⌜ r ≡ spec.tabulate (spec.fold (now (h .entry)) (now (v .entry))) 8 ⌝ }
 {

@@ -1,6 +1,6 @@
 // BLAKE2b of RFC 7693, unkeyed, for any input and a digest of 1 to 64 bytes.
 ghost use mathlib.Core.Path.{_≡_};
-ghost use Prim.Native.Nat.{ℕ, _/_, _%_, _^_, _<_, _≤_};
+ghost use Prim.Native.Nat.{_/_, _%_, _^_, _<_, _≤_};
 ghost use lib.ListN.{length};
 ghost use Rattle.blake2b_core.specs.Blake2b as spec;
 

@@ -1,22 +1,17 @@
 // Coded numbers, written to and read from borrowed bytes: the calls of `VlqWriter` and `VlqReader`.
 ghost use mathlib.Core.Path.{_≡_};
+ghost use Rattle.vlq_core.specs.Zigzag.{zig};
+ghost use Rattle.vlq_core.specs.Groups.{enc};
 ghost use Rattle.vlq_core.specs.Reading.{read-at, long-of, int-of};
-ghost use Rattle.vlq.specs.Writing.{written, put-of};
+ghost use Rattle.vlq_core.specs.Writing.{written, put-bytes};
 use vlq_core::Int;
 use vlq_core::Long;
-
-// The position after the bytes that were written, or the refusal code.
-pub enum Wrote {
-    Next(usize),
-    Refused(u8),
-}
-
-// The output is too short.
-pub const REFUSED_OUTPUT_SHORT: u8 = 32;
+use vlq_core::REFUSED_OUTPUT_SHORT;
+use vlq_core::Wrote;
 
 // Writes a signed 64-bit number from a position on; where it does not fit, nothing changes.
 pub fn put_i64(n: i64, out: &mut [u8], at: usize) -> Wrote
-    ensures { λ r. ⌜ written r (now (out .exit)) ≡ put-of n (now (out .entry)) at ⌝ }
+    ensures { λ r. ⌜ written r (now (out .exit)) ≡ put-bytes (enc (zig n)) (now (out .entry)) at ⌝ }
 {
     if !vlq_core::has_room(out.len(), at, vlq_core::number_len(n)) {
         return Wrote::Refused(REFUSED_OUTPUT_SHORT);
@@ -26,7 +21,7 @@ pub fn put_i64(n: i64, out: &mut [u8], at: usize) -> Wrote
 
 // Writes a signed 32-bit number from a position on; where it does not fit, nothing changes.
 pub fn put_i32(n: i32, out: &mut [u8], at: usize) -> Wrote
-    ensures { λ r. ⌜ written r (now (out .exit)) ≡ put-of n (now (out .entry)) at ⌝ }
+    ensures { λ r. ⌜ written r (now (out .exit)) ≡ put-bytes (enc (zig n)) (now (out .entry)) at ⌝ }
 {
     if !vlq_core::has_room(out.len(), at, vlq_core::number_len_i32(n)) {
         return Wrote::Refused(REFUSED_OUTPUT_SHORT);

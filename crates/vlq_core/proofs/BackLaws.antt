@@ -11,7 +11,6 @@ use lib.Pow.{pow-mono}
 use borrow.Author.Tests.{lt-ltb, le-ltb}
 use mir.Syntax.{Width}
 use mir.Val.{SFits, bits}
-use Rattle.vlq_core.specs.declared.Got.{Got}
 use Rattle.vlq_core.specs.declared.Got.the-variants.{Value}
 use Rattle.vlq_core.specs.Zigzag.{zig}
 use Rattle.vlq_core.specs.Groups.{groups, enc}

@@ -1,5 +1,5 @@
 -- Laws of reading groups in a loop: `sum` is what the groups passed hold, `scale` what the next one counts, `more` how many may follow.
-use mathlib.Core.Path.{_≡_, refl, sym, ap, ap₂, _∙_}
+use mathlib.Core.Path.{_≡_, refl, sym, ap, _∙_}
 use mathlib.Core.List.{List, _∷_}
 use Prim.Native.Nat.{ℕ, zero, suc, _+_, _-_, _*_, _%_, _^_, _<_, _≤_}
 use native.Mathlib.Nat.{mul-add, mul-assoc, mul-le-mul, mul-le-mul-left}

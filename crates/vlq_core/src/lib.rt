@@ -1,7 +1,7 @@
 // Coded numbers: a signed number as an unsigned one (zigzag), and that one in groups of 7 bits, lowest first.
 // Internal: the writers ask for room. The public calls are those of `vlq`.
 ghost use mathlib.Core.Path.{_≡_};
-ghost use Prim.Native.Nat.{ℕ, _+_, _<_, _≤_, _^_};
+ghost use Prim.Native.Nat.{_+_, _<_, _≤_};
 ghost use lib.Dec.{leb};
 ghost use lib.ListN.{length, drop};
 ghost use Rattle.stores.specs.Stores.{Put};
@@ -27,10 +27,18 @@ pub enum Int {
     Refused(u8),
 }
 
+// What a writer answers: the position after the bytes that it wrote, or the refusal code.
+pub enum Wrote {
+    Next(usize),
+    Refused(u8),
+}
+
 // A number does not end before the bytes do.
 pub const REFUSED_CUT: u8 = 1;
 // A number does not fit its width.
 pub const REFUSED_TOO_LARGE: u8 = 2;
+// The output is too short.
+pub const REFUSED_OUTPUT_SHORT: u8 = 32;
 
 // The coded number of a signed one.
 pub fn zigzag(n: i64) -> u64

@@ -4,7 +4,7 @@ use mathlib.Core.Path.{_≡_, refl}
 use native.Mathlib.Omega.{arith}
 use borrow.Author.Needs.{needs}
 use Rattle.blake2b_core.specs.Blake2b as spec
-use Rattle.blake2b_core.proofs.BlockLaws.{absorbed-turn, final-law}
+use Rattle.blake2b_core.proofs.BlockLaws.{absorbed-turn, final-block}
 use Rattle.blake2b_core.proofs.state.Statement.{statement}
 use Rattle.blake2b_core.proofs.state.Tie as tie
 
@@ -52,7 +52,7 @@ compress-requires-2 c κs = refl
 returns : tie.Need-returns Inv-loop μ-loop
 returns c =
     let l = c .before .before .before .before .before .before .loop in
-    final-law _ _ _ _ _ (l .at) (l .inv .1) (l .inv .0) (omega arith) (l .inv .2) (c .before .before .before .before .last-block .ensures) (c .compress2 .ensures)
+    final-block _ _ _ _ _ (l .at) (l .inv .1) (l .inv .0) (omega arith) (l .inv .2) (c .before .before .before .before .last-block .ensures) (c .compress2 .ensures)
 
 pub state-spec : {M : Type 1} → statement M
 state-spec =

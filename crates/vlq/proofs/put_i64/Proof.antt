@@ -1,9 +1,12 @@
 -- `vlq::put_i64` meets its contract: the length is tested, then written; one law for each way out.
-use mathlib.Core.Path.{_≡_}
+use mathlib.Core.Path.{ap}
+use lib.IntN.{ℤ}
 use mir.Syntax.{w64}
 use mir.Facts.{toZ-ofZ}
 use borrow.Author.Tests.{not-true, not-false}
-use Rattle.vlq.proofs.WritingLaws.{put-short, put-room, put-done}
+use Rattle.vlq_core.specs.Zigzag.{zig}
+use Rattle.vlq_core.specs.Groups.{enc}
+use Rattle.vlq_core.proofs.WriteLaws.{put-short, put-room, put-done}
 use borrow.Author.Needs.{needs}
 use Rattle.vlq.proofs.put_i64.Statement.{statement}
 use Rattle.vlq.proofs.put_i64.Tie as tie
@@ -18,13 +21,13 @@ returns : tie.Need-returns
 returns c =
     let s = c .before .before .before .before in
     let h = c .before .has-room in
-    put-short (s .args .n) _ (toZ-ofZ {w = w64} (s .fits .n)) (s .args .out .now) (s .args .at) _ (c .before .before .number-len .ensures .0) (h .result) (h .ensures) (not-true _ (c .if1 .taken))
+    put-short (ap (λ (z : ℤ). enc (zig z)) (toZ-ofZ {w = w64} (s .fits .n))) (s .args .out .now) (s .args .at) _ (c .before .before .number-len .ensures .0) (h .result) (h .ensures) (not-true _ (c .if1 .taken))
 
 emit-i64-requires : tie.Need-emit-i64-requires
 emit-i64-requires c κs =
     let s = c .before .before .before .before .before in
     let h = c .before .before .has-room in
-    put-room (s .args .n) _ (toZ-ofZ {w = w64} (s .fits .n)) (s .args .out .now) (s .args .at) _ (c .before .before .before .number-len .ensures .0) (h .result) (h .ensures) (not-false _ (c .before .if1 .left))
+    put-room (ap (λ (z : ℤ). enc (zig z)) (toZ-ofZ {w = w64} (s .fits .n))) (s .args .out .now) (s .args .at) _ (c .before .before .before .number-len .ensures .0) (h .result) (h .ensures) (not-false _ (c .before .if1 .left))
 
 same-length : tie.Need-same-length
 same-length c = search needs
@@ -33,7 +36,7 @@ returns-2 : tie.Need-returns-2
 returns-2 c =
     let s = c .before .before .before .before .before .before .before .before in
     let h = c .before .before .before .before .before .has-room in
-    put-done (s .args .n) _ (toZ-ofZ {w = w64} (s .fits .n)) (s .args .out .now) (s .args .at) _ (c .before .before .before .before .before .before .number-len .ensures .0) (h .result) (h .ensures) (not-false _ (c .before .before .before .before .if1 .left)) _ _ (c .before .before .emit-i64 .ensures)
+    put-done (ap (λ (z : ℤ). enc (zig z)) (toZ-ofZ {w = w64} (s .fits .n))) (s .args .out .now) (s .args .at) _ (c .before .before .before .before .before .before .number-len .ensures .0) (h .result) (h .ensures) (not-false _ (c .before .before .before .before .if1 .left)) _ _ (c .before .before .emit-i64 .ensures)
 
 pub put-i64-spec : {M : Type 1} → statement M
 put-i64-spec =

@@ -1,6 +1,6 @@
 -- `vlq_core::emit` meets its contract. The invariant: what is left to write from i on makes of the slice as it is now what all of the groups make of the slice at entry; the measure is what is left of the number.
-use mathlib.Core.Path.{_≡_, refl, sym, ap, _∙_}
-use Prim.Native.Nat.{ℕ, _+_, _^_, _≤_, _<_}
+use mathlib.Core.Path.{_≡_, refl, sym, _∙_}
+use Prim.Native.Nat.{_+_, _^_, _<_}
 use lib.ListN.{length, length-set}
 use lib.Seq.{sets}
 use Rattle.vlq_core.specs.Groups.{enc}

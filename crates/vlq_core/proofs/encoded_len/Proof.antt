@@ -3,8 +3,6 @@ use mathlib.Core.Path.{sym}
 use borrow.Author.Needs.{needs}
 use native.Mathlib.Omega.{arith}
 use native.Mathlib.Nat.{pos-of-ne-zero}
-use lib.ListN.{length}
-use Rattle.vlq_core.specs.Groups.{enc}
 use Rattle.vlq_core.proofs.GroupLaws.{count-zero, count-leading}
 use Rattle.vlq_core.proofs.encoded_len.Statement.{statement}
 use Rattle.vlq_core.proofs.encoded_len.Tie as tie

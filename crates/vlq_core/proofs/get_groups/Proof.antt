@@ -1,7 +1,6 @@
 -- `vlq_core::get_groups` meets its contract. The invariant: what is left, on top of what the groups passed hold, is the whole; the measure is how many groups may follow.
 use mathlib.Core.Path.{_≡_, sym, _∙_}
-use Prim.Native.Nat.{ℕ, _*_, _%_, _<_, _≤_}
-use lib.ListN.{length, drop}
+use lib.ListN.{drop}
 use Rattle.vlq_core.specs.Reading.{dec}
 use Rattle.vlq_core.proofs.LoopLaws.{Scaled, scaled-start, scaled-step, fits-product, fits-sum, fits-scale, fits-last, onto, onto-start, loop-cut, loop-last, loop-more, loop-tenth, loop-over}
 use borrow.Author.Needs.{needs}

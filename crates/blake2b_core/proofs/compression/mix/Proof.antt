@@ -1,6 +1,6 @@
 -- The eight steps are those of G, in order.
 use borrow.Author.Needs.{needs}
-use Rattle.blake2b_core.proofs.CompressionLaws.{mix-law}
+use Rattle.blake2b_core.specs.Blake2b.{mix}
 use Rattle.blake2b_core.proofs.compression.mix.Statement.{statement}
 use Rattle.blake2b_core.proofs.compression.mix.Tie as tie
 
@@ -29,16 +29,18 @@ xor-rotr-requires-4 : tie.Need-xor-rotr-requires-4
 xor-rotr-requires-4 c κs = search needs
 
 returns : tie.Need-returns
+unfolding mix
 returns c =
-    mix-law _ _ _ _ _ _ _
-    (c .before .before .before .before .before .before .before .before .before .before .before .before .before .before .add .ensures)
-    (c .before .before .before .before .before .before .before .before .before .before .before .before .xor-rotr .ensures)
-    (c .before .before .before .before .before .before .before .before .before .before .add2 .ensures)
-    (c .before .before .before .before .before .before .before .before .xor-rotr2 .ensures)
-    (c .before .before .before .before .before .before .add3 .ensures)
-    (c .before .before .before .before .xor-rotr3 .ensures)
-    (c .before .before .add4 .ensures)
-    (c .xor-rotr4 .ensures)
+    rw (
+      c .xor-rotr4 .ensures,
+      c .before .before .add4 .ensures,
+      c .before .before .before .before .xor-rotr3 .ensures,
+      c .before .before .before .before .before .before .add3 .ensures,
+      c .before .before .before .before .before .before .before .before .xor-rotr2 .ensures,
+      c .before .before .before .before .before .before .before .before .before .before .add2 .ensures,
+      c .before .before .before .before .before .before .before .before .before .before .before .before .xor-rotr .ensures,
+      c .before .before .before .before .before .before .before .before .before .before .before .before .before .before .add .ensures,
+    )
 
 pub mix-spec : {M : Type 1} → statement M
 mix-spec =

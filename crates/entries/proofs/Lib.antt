@@ -1,0 +1,5 @@
+-- The laws of `entries`.
+pub mod TurnLaws
+pub mod Counts
+pub mod PositionLaws
+pub mod FlipLaws

@@ -1,0 +1,82 @@
+// The signed entries of a head or a row: their order, the entry that a spend or an unspend takes, and how many are spent.
+ghost use mathlib.Core.Path.{_≡_};
+ghost use mathlib.Core.Bool.{false};
+ghost use lib.IntN.{ℤ, pos, natAbs};
+ghost use lib.ListN.{length, take, getD};
+ghost use Prim.Native.Nat.{_+_, _<_, _≤_};
+ghost use Rattle.entries.specs.Order.{order-ok};
+ghost use Rattle.entries.specs.Flip.{position, flipped-at};
+ghost use Rattle.entries.specs.Tally.{spent};
+
+// Where the entry stands that is to be flipped; or that only entries of the other sign were seen; or none.
+pub enum Position {
+    At(usize),
+    Seen,
+    Absent,
+}
+
+// Whether none of the first n numbers is -2^63 and their absolute values never fall.
+pub fn order_ok(xs: &[i64], n: usize) -> bool
+    requires { ⌜ n ≤ length (now xs) ⌝ }
+    ensures { λ r. ⌜ r ≡ order-ok (take n (now (xs .entry))) ⌝ }
+{
+    let mut prev: u64 = 0;
+    let mut i = 0;
+    while i < n {
+        let a = signed::magnitude(xs[i]);
+        if a < prev {
+            return false;
+        }
+        if 9223372036854775808 <= a {
+            return false;
+        }
+        prev = a;
+        i += 1;
+    }
+    true
+}
+
+// The first entry of the target's absolute value and the wanted sign among the first n.
+pub fn flip_position(xs: &[i64], n: usize, target: u64, spend: bool) -> Position
+    requires { ⌜ n ≤ length (now xs) ⌝ }
+    ensures { λ r. ⌜ r ≡ position spend target (take n (now (xs .entry))) 0 false ⌝ }
+{
+    let mut seen = false;
+    let mut i = 0;
+    while i < n {
+        let x = xs[i];
+        if signed::magnitude(x) == target {
+            if signed::is_wanted(spend, x) {
+                return Position::At(i);
+            }
+            seen = true;
+        }
+        i += 1;
+    }
+    if seen { Position::Seen } else { Position::Absent }
+}
+
+// Negates the number at a place.
+pub fn flip_at(xs: &mut [i64], i: usize)
+    requires { ⌜ (i < length (now xs)) × (natAbs (getD (now xs) i (pos 0)) < 9223372036854775808) ⌝ }
+    ensures { λ r. ⌜ now (xs .exit) ≡ flipped-at (Position.At i) (now (xs .entry)) ⌝ }
+{
+    let x = xs[i];
+    xs[i] = signed::negate(x);
+}
+
+// How many of the first n numbers are negative.
+pub fn count_spent(xs: &[i64], n: usize) -> usize
+    requires { ⌜ n ≤ length (now xs) ⌝ }
+    ensures { λ r. ⌜ (r ≡ spent (take n (now (xs .entry)))) × (r ≤ n) ⌝ }
+{
+    let mut count = 0;
+    let mut i = 0;
+    while i < n {
+        if signed::is_negative(xs[i]) {
+            count += 1;
+        }
+        i += 1;
+    }
+    count
+}

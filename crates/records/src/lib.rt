@@ -1,0 +1,404 @@
+// Record lists and key lists in borrowed bytes: search, put, remove, clear, and what refusal 25 asks of a list.
+// A record has its key in bytes 0 to 31, the length of its row in bytes 32 and 33, and its row from byte 34 on.
+ghost use mathlib.Core.Path.{_≡_};
+ghost use Prim.Native.Nat.{ℕ, _+_, _*_, _/_, _%_, _≤_, _<_};
+ghost use mathlib.Core.List.{[], _∷_};
+ghost use lib.ListN.{length, getD, take, drop, set};
+ghost use Rattle.stores.specs.Equal.{same-bytes};
+ghost use Rattle.stores.specs.Stores.{write};
+ghost use Rattle.records.specs.Records.{records, keys, stored-row, record-of};
+ghost use Rattle.records.specs.Find.{find-key, is-found, distinct, locate-key};
+ghost use Rattle.records.specs.Changes.{slot, count-after, put-record, remove-record, clear-records, full-for};
+ghost use Rattle.records.specs.Chains.{bucket-of, Chained};
+ghost use Rattle.records.specs.Checks.{in-bounds, lengths-ok, records-ok, keys-ok};
+
+// How many records a list holds, and how many it has room for.
+pub struct ListCounts {
+    pub count: usize,
+    pub capacity: usize,
+}
+
+// Where a search found a key.
+pub enum Found {
+    At(usize),
+    Nothing,
+}
+
+// Where the row under a key stands.
+pub enum Place {
+    Staged(usize),
+    Table(usize),
+    Missing,
+}
+
+// Whether the 32 bytes at a position are the key.
+fn key_is(list: &[u8], at: usize, key: &[u8]) -> bool
+    requires { ⌜ at + 32 ≤ length (now list) ⌝ }
+    ensures { λ r. ⌜ r ≡ same-bytes (take 32 (drop at (now (list .entry)))) (now (key .entry)) ⌝ }
+{
+    let end = at + 32;
+    stores::same_bytes(&list[at..end], key)
+}
+
+// The index of the first record with the key.
+pub fn find(list: &[u8], size: usize, count: usize, key: &[u8]) -> Found
+    requires { ⌜ (32 ≤ size) × (count * size ≤ length (now list)) ⌝ }
+    ensures { λ r. ⌜ r ≡ find-key (now (key .entry)) (keys size count (now (list .entry))) ⌝ }
+{
+    let mut i = 0;
+    let mut at = 0;
+    while i < count {
+        if key_is(list, at, key) {
+            return Found::At(i);
+        }
+        i += 1;
+        at += size;
+    }
+    Found::Nothing
+}
+
+// Whether the key of the record at a position stands in one of the `left` records behind it.
+fn stands_later(list: &[u8], at: usize, size: usize, left: usize) -> bool
+    requires { ⌜ (32 ≤ size) × (at + size + left * size ≤ length (now list)) ⌝ }
+    ensures { λ r. ⌜ r ≡ is-found (find-key (take 32 (drop at (now (list .entry)))) (keys size left (drop (at + size) (now (list .entry))))) ⌝ }
+{
+    let next = at + size;
+    let end = at + 32;
+    let found = find(&list[next..], size, left, &list[at..end]);
+    match found {
+        Found::At(_) => true,
+        Found::Nothing => false,
+    }
+}
+
+// Whether no key stands twice, by comparing each key with all those behind it.
+fn keys_differ_pairwise(list: &[u8], size: usize, count: usize) -> bool
+    requires { ⌜ (32 ≤ size) × (count * size ≤ length (now list)) ⌝ }
+    ensures { λ r. ⌜ r ≡ distinct (keys size count (now (list .entry))) ⌝ }
+{
+    let mut i = 0;
+    let mut at = 0;
+    while i < count {
+        i += 1;
+        if stands_later(list, at, size, count - i) {
+            return false;
+        }
+        at += size;
+    }
+    true
+}
+
+// Writes a length at a position, in two bytes, the high one first.
+fn put_length(dst: &mut [u8], at: usize, n: usize)
+    requires { ⌜ at + 2 ≤ length (now dst) ⌝ }
+    ensures { λ _. ⌜ now (dst .exit) ≡ write at (n / 256 % 256 ∷ n % 256 ∷ []) (now (dst .entry)) ⌝ }
+{
+    let low = at + 1;
+    dst[at] = (n / 256 % 256) as u8;
+    dst[low] = (n % 256) as u8;
+}
+
+// Writes the record of a key and a row at a position.
+fn store(list: &mut [u8], at: usize, size: usize, key: &[u8], row: &[u8])
+    requires { ⌜ (at + size ≤ length (now list)) × (length (now key) ≡ 32) × (34 + length (now row) ≤ size) ⌝ }
+    ensures { λ _. ⌜ now (list .exit) ≡ write at (record-of size (now (key .entry)) (now (row .entry))) (now (list .entry)) ⌝ }
+{
+    let n = row.len();
+    let used = 34 + n;
+    stores::copy_bytes(list, at, key);
+    put_length(list, at + 32, n);
+    stores::copy_bytes(list, at + 34, row);
+    stores::clear_bytes(list, at + used, size - used);
+}
+
+// The index that a record goes to.
+fn slot_of(found: Found, count: usize) -> usize
+    ensures { λ r. ⌜ r ≡ slot found count ⌝ }
+{
+    match found {
+        Found::At(i) => i,
+        Found::Nothing => count,
+    }
+}
+
+// The number of records once a record is there.
+fn count_with(found: Found, count: usize) -> usize
+    requires { ⌜ count < 18446744073709551615 ⌝ }
+    ensures { λ r. ⌜ r ≡ count-after found count ⌝ }
+{
+    match found {
+        Found::At(_) => count,
+        Found::Nothing => count + 1,
+    }
+}
+
+// Puts a row under a key, in the place of the row that it had, or last. Returns the number of records.
+pub fn put(list: &mut [u8], size: usize, count: usize, key: &[u8], row: &[u8]) -> usize
+    requires { ⌜ (count * size ≤ length (now list)) × (length (now key) ≡ 32) × (34 + length (now row) ≤ size)
+        × (slot (find-key (now key) (keys size count (now list))) count * size + size ≤ length (now list)) ⌝ }
+    ensures { λ r. ⌜ (r ≡ count-after (find-key (now (key .entry)) (keys size count (now (list .entry)))) count)
+        × (now (list .exit) ≡ put-record size count (now (key .entry)) (record-of size (now (key .entry)) (now (row .entry))) (now (list .entry))) ⌝ }
+{
+    let found = find(list, size, count, key);
+    let index = slot_of(found, count);
+    store(list, index * size, size, key, row);
+    count_with(found, count)
+}
+
+// Puts a key into a list of keys. Returns the number of keys.
+pub fn put_key(list: &mut [u8], count: usize, key: &[u8]) -> usize
+    requires { ⌜ (count * 32 ≤ length (now list)) × (length (now key) ≡ 32)
+        × (slot (find-key (now key) (keys 32 count (now list))) count * 32 + 32 ≤ length (now list)) ⌝ }
+    ensures { λ r. ⌜ (r ≡ count-after (find-key (now (key .entry)) (keys 32 count (now (list .entry)))) count)
+        × (now (list .exit) ≡ put-record 32 count (now (key .entry)) (now (key .entry)) (now (list .entry))) ⌝ }
+{
+    let found = find(list, 32, count, key);
+    let index = slot_of(found, count);
+    stores::copy_bytes(list, index * 32, key);
+    count_with(found, count)
+}
+
+// Removes the record with an index: the last one takes its place.
+pub fn remove(list: &mut [u8], size: usize, count: usize, index: usize)
+    requires { ⌜ (count * size ≤ length (now list)) × (index < count) ⌝ }
+    ensures { λ _. ⌜ now (list .exit) ≡ remove-record size count index (now (list .entry)) ⌝ }
+{
+    let last = (count - 1) * size;
+    stores::move_bytes(list, last, index * size, size);
+    stores::clear_bytes(list, last, size);
+}
+
+// Empties a list: zeros to its capacity.
+pub fn clear_list(list: &mut [u8], size: usize, capacity: usize)
+    requires { ⌜ capacity * size ≤ length (now list) ⌝ }
+    ensures { λ _. ⌜ now (list .exit) ≡ clear-records size capacity (now (list .entry)) ⌝ }
+{
+    stores::clear_bytes(list, 0, capacity * size);
+}
+
+// The length that the record at a position states.
+fn length_at(list: &[u8], at: usize) -> usize
+    requires { ⌜ at + 34 ≤ length (now list) ⌝ }
+    ensures { λ r. ⌜ (r ≡ getD (now (list .entry)) (at + 32) 0 * 256 + getD (now (list .entry)) (at + 33) 0) × (r < 65536) ⌝ }
+{
+    let high = at + 32;
+    let low = at + 33;
+    (list[high] as usize) * 256 + (list[low] as usize)
+}
+
+// The row of the record at a position.
+pub fn row_part(list: &[u8], at: usize, size: usize) -> &[u8]
+    requires { ⌜ (34 ≤ size) × (at + size ≤ length (now list)) ⌝ }
+    ensures { λ r. ⌜ now r ≡ stored-row (take size (drop at (now (list .entry)))) ⌝ }
+{
+    let start = at + 34;
+    let n = length_at(list, at);
+    if n <= size - 34 {
+        &list[start..start + n]
+    } else {
+        &list[start..at + size]
+    }
+}
+
+// Where the row under a key stands: a staged spill, else a record of the table.
+pub fn locate(
+    staged: &[u8],
+    staged_count: usize,
+    table: &[u8],
+    table_count: usize,
+    size: usize,
+    key: &[u8],
+) -> Place
+    requires { ⌜ (32 ≤ size) × («staged_count» * size ≤ length (now staged)) × («table_count» * size ≤ length (now table)) ⌝ }
+    ensures { λ r. ⌜ r ≡ locate-key size (now (key .entry)) «staged_count» (now (staged .entry)) «table_count» (now (table .entry)) ⌝ }
+{
+    let among_staged = find(staged, size, staged_count, key);
+    match among_staged {
+        Found::At(i) => Place::Staged(i),
+        Found::Nothing => {
+            let in_table = find(table, size, table_count, key);
+            match in_table {
+                Found::At(i) => Place::Table(i),
+                Found::Nothing => Place::Missing,
+            }
+        }
+    }
+}
+
+// Whether a list has no room for a record under a key.
+pub fn full_for(list: &[u8], size: usize, counts: ListCounts, key: &[u8]) -> bool
+    requires { ⌜ (32 ≤ size) × (counts .count * size ≤ length (now list)) ⌝ }
+    ensures { λ r. ⌜ r ≡ full-for size counts (now (key .entry)) (now (list .entry)) ⌝ }
+{
+    let found = find(list, size, counts.count, key);
+    match found {
+        Found::At(_) => false,
+        Found::Nothing => counts.capacity <= counts.count,
+    }
+}
+
+// Whether the count is at most the capacity, and the capacity's records lie within the list.
+fn bounds_hold(size: usize, counts: ListCounts, list: &[u8]) -> bool
+    requires { ⌜ 0 < size ⌝ }
+    ensures { λ r. ⌜ r ≡ in-bounds size counts (now (list .entry)) ⌝ }
+{
+    if counts.count <= counts.capacity {
+        return counts.capacity <= list.len() / size;
+    }
+    false
+}
+
+// Whether every record states a length of at most the limit.
+fn lengths_fit(list: &[u8], size: usize, limit: usize, count: usize) -> bool
+    requires { ⌜ (34 ≤ size) × (count * size ≤ length (now list)) ⌝ }
+    ensures { λ r. ⌜ r ≡ lengths-ok limit (records size count (now (list .entry))) ⌝ }
+{
+    let mut i = 0;
+    let mut at = 0;
+    while i < count {
+        if limit < length_at(list, at) {
+            return false;
+        }
+        i += 1;
+        at += size;
+    }
+    true
+}
+
+// Whether the keys at two positions are equal.
+fn same_keys(list: &[u8], at: usize, other: usize) -> bool
+    requires { ⌜ (at + 32 ≤ length (now list)) × (other + 32 ≤ length (now list)) ⌝ }
+    ensures { λ r. ⌜ r ≡ same-bytes (take 32 (drop at (now (list .entry)))) (take 32 (drop other (now (list .entry)))) ⌝ }
+{
+    let end = other + 32;
+    key_is(list, at, &list[other..end])
+}
+
+// The bucket of the key at a position: its first two bytes, modulo the number of buckets.
+fn bucket(list: &[u8], at: usize, buckets: usize) -> usize
+    requires { ⌜ (at + 32 ≤ length (now list)) × (0 < buckets) ⌝ }
+    ensures { λ r. ⌜ (r ≡ bucket-of buckets (take 32 (drop at (now (list .entry))))) × (r < buckets) ⌝ }
+{
+    let next = at + 1;
+    ((list[at] as usize) * 256 + (list[next] as usize)) % buckets
+}
+
+// Whether the key at a position, of bucket b, is one of the first i keys, which are chained.
+fn stands_before(
+    list: &[u8],
+    size: usize,
+    at: usize,
+    i: usize,
+    b: usize,
+    first: &[u16],
+    link: &[u16],
+) -> bool
+    requires { ⌜ (32 ≤ size) × (at + 32 ≤ length (now list)) × (i * size ≤ length (now list)) × (i ≤ length (now link))
+        × (b ≡ bucket-of (length (now first)) (take 32 (drop at (now list)))) × (b < length (now first))
+        × Chained size (now list) (length (now first)) i (now first) (now link) ⌝ }
+    ensures { λ r. ⌜ r ≡ is-found (find-key (take 32 (drop at (now (list .entry)))) (keys size i (now (list .entry)))) ⌝ }
+{
+    let mut cur = first[b] as usize;
+    while 0 < cur {
+        let k = cur - 1;
+        if same_keys(list, k * size, at) {
+            return true;
+        }
+        cur = link[k] as usize;
+    }
+    false
+}
+
+// Puts the key with index i in front of the chain of bucket b.
+fn chain(first: &mut [u16], link: &mut [u16], b: usize, i: usize)
+    requires { ⌜ (b < length (now first)) × (i < length (now link)) × (i < 65535) ⌝ }
+    ensures { λ _. ⌜ (now (first .exit) ≡ set (now (first .entry)) b (i + 1)) × (now (link .exit) ≡ set (now (link .entry)) i (getD (now (first .entry)) b 0)) ⌝ }
+{
+    let newest = first[b];
+    link[i] = newest;
+    first[b] = (i + 1) as u16;
+}
+
+// Whether no key stands twice: each key is compared with those before it in its bucket.
+fn keys_differ_chained(
+    list: &[u8],
+    size: usize,
+    count: usize,
+    first: &mut [u16],
+    link: &mut [u16],
+) -> bool
+    requires { ⌜ (32 ≤ size) × (count * size ≤ length (now list)) × (count ≤ length (now link)) × (count ≤ 65535) × (0 < length (now first))
+        × ((b : ℕ) → b < length (now first) → getD (now first) b 0 ≡ 0) ⌝ }
+    ensures { λ r. ⌜ r ≡ distinct (keys size count (now (list .entry))) ⌝ }
+{
+    let buckets = first.len();
+    let mut i = 0;
+    let mut at = 0;
+    while i < count {
+        let b = bucket(list, at, buckets);
+        if stands_before(list, size, at, i, b, first, link) {
+            return false;
+        }
+        chain(first, link, b, i);
+        i += 1;
+        at += size;
+    }
+    true
+}
+
+// keys_differ for few records.
+fn keys_differ_few(list: &[u8], size: usize, count: usize) -> bool
+    requires { ⌜ (32 ≤ size) × (count * size ≤ length (now list)) × (count ≤ 128) ⌝ }
+    ensures { λ r. ⌜ r ≡ distinct (keys size count (now (list .entry))) ⌝ }
+{
+    let mut first = [0u16; 256];
+    let mut link = [0u16; 128];
+    keys_differ_chained(list, size, count, &mut first, &mut link)
+}
+
+// keys_differ for many records.
+fn keys_differ_many(list: &[u8], size: usize, count: usize) -> bool
+    requires { ⌜ (32 ≤ size) × (count * size ≤ length (now list)) × (count ≤ 8192) ⌝ }
+    ensures { λ r. ⌜ r ≡ distinct (keys size count (now (list .entry))) ⌝ }
+{
+    let mut first = [0u16; 16384];
+    let mut link = [0u16; 8192];
+    keys_differ_chained(list, size, count, &mut first, &mut link)
+}
+
+// Whether no key stands twice. The time is about linear in the count up to 8,192 records, as long as keys are spread evenly.
+pub fn keys_differ(list: &[u8], size: usize, count: usize) -> bool
+    requires { ⌜ (32 ≤ size) × (count * size ≤ length (now list)) ⌝ }
+    ensures { λ r. ⌜ r ≡ distinct (keys size count (now (list .entry))) ⌝ }
+{
+    if count <= 128 {
+        return keys_differ_few(list, size, count);
+    }
+    if count <= 8192 {
+        return keys_differ_many(list, size, count);
+    }
+    keys_differ_pairwise(list, size, count)
+}
+
+// Whether a record list passes refusal 25: bounds, stored lengths, and no key twice.
+pub fn records_ok(list: &[u8], size: usize, limit: usize, counts: ListCounts) -> bool
+    requires { ⌜ 34 ≤ size ⌝ }
+    ensures { λ r. ⌜ r ≡ records-ok size limit counts (now (list .entry)) ⌝ }
+{
+    if bounds_hold(size, counts, list) {
+        if lengths_fit(list, size, limit, counts.count) {
+            return keys_differ(list, size, counts.count);
+        }
+    }
+    false
+}
+
+// Whether a key list passes refusal 25: bounds, and no key twice.
+pub fn keys_ok(list: &[u8], counts: ListCounts) -> bool
+    ensures { λ r. ⌜ r ≡ keys-ok counts (now (list .entry)) ⌝ }
+{
+    if bounds_hold(32, counts, list) {
+        return keys_differ(list, 32, counts.count);
+    }
+    false
+}

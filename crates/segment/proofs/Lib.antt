@@ -1,0 +1,2 @@
+-- The laws of `segment`.
+pub mod CallLaws

@@ -1,0 +1,2 @@
+-- The definitions that the contracts of `segment` cite, beside those of `segment_core`.
+pub mod Calls

@@ -1,0 +1,2 @@
+-- The laws of `spills`.
+pub mod LocateLaws

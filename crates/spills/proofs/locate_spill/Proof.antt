@@ -1,0 +1,56 @@
+-- `spills::locate_spill` meets its contract: refusal 25 first, then the place of the key.
+use borrow.Author.Needs.{needs}
+use mathlib.Core.Path.{sym, ap, _∙_}
+use denote.Ref.{now}
+use Rattle.spills.specs.Inspection.{locate-row, located}
+use Rattle.spills.proofs.LocateLaws.{spills-ok-facts}
+use Rattle.spills.proofs.locate_spill.Statement.{statement}
+use Rattle.spills.proofs.locate_spill.Tie as tie
+
+spills-ok-requires : tie.Need-spills-ok-requires
+spills-ok-requires c κs = search needs
+
+locate-requires : tie.Need-locate-requires
+locate-requires c κs =
+    let a = c .before .before .before .before .before .args in
+    let ok = spills-ok-facts 10288 10254 (a .staged-counts) (now (a .staged)) (a .table-counts) (now (a .table)) (sym (c .before .before .spills-ok .ensures) ∙ c .before .if1 .taken) in
+    (search needs, ok .in-staged .bounds .within, ok .in-table .bounds .within)
+
+enum-known-place : tie.Need-enum-known-place
+enum-known-place c = search needs
+
+enum-known-place-2 : tie.Need-enum-known-place-2
+enum-known-place-2 c = search needs
+
+enum-told : tie.Need-enum-told
+enum-told c = search needs
+
+returns : tie.Need-returns
+unfolding locate-row
+returns c = rw (sym (c .before .before .before .before .before .before .spills-ok .ensures) ∙ c .before .before .before .before .before .if1 .taken) (ap located (sym (c .before .place .given .1) ∙ c .before .before .before .locate .ensures))
+
+returns-2 : tie.Need-returns-2
+unfolding locate-row
+returns-2 c = rw (sym (c .before .before .before .before .before .before .spills-ok .ensures) ∙ c .before .before .before .before .before .if1 .taken) (ap located (sym (c .before .place2 .given .1) ∙ c .before .before .before .locate .ensures))
+
+returns-3 : tie.Need-returns-3
+unfolding locate-row
+returns-3 c = rw (sym (c .before .before .before .before .before .spills-ok .ensures) ∙ c .before .before .before .before .if1 .taken) (ap located (sym (c .enum-told .given .1) ∙ c .before .before .locate .ensures))
+
+returns-4 : tie.Need-returns-4
+unfolding locate-row
+returns-4 c = rw (sym (c .before .spills-ok .ensures) ∙ c .if1 .left)
+
+pub locate-spill-spec : {M : Type 1} → statement M
+locate-spill-spec =
+    tie.close
+    (tie.spec
+    spills-ok-requires
+    locate-requires
+    enum-known-place
+    enum-known-place-2
+    enum-told
+    returns
+    returns-2
+    returns-3
+    returns-4)

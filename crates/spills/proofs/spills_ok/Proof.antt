@@ -1,0 +1,23 @@
+-- `spills::spills_ok` meets its contract: the staged spills are tested first.
+use borrow.Author.Needs.{needs}
+use mathlib.Core.Path.{sym, _∙_}
+use Rattle.spills.specs.Inspection.{spills-ok}
+use Rattle.spills.proofs.spills_ok.Statement.{statement}
+use Rattle.spills.proofs.spills_ok.Tie as tie
+
+records-ok-requires : tie.Need-records-ok-requires
+records-ok-requires c κs = search needs
+
+records-ok-requires-2 : tie.Need-records-ok-requires-2
+records-ok-requires-2 c κs = search needs
+
+returns : tie.Need-returns
+unfolding spills-ok
+returns c = rw (sym (c .before .before .records-ok .ensures) ∙ c .before .if1 .taken) (c .records-ok2 .ensures)
+
+returns-2 : tie.Need-returns-2
+unfolding spills-ok
+returns-2 c = rw (sym (c .before .records-ok .ensures) ∙ c .if1 .left)
+
+pub spills-ok-spec : {M : Type 1} → statement M
+spills-ok-spec = tie.close (tie.spec records-ok-requires records-ok-requires-2 returns returns-2)

@@ -1,0 +1,2 @@
+-- The definitions that the contracts of `spills` cite.
+pub mod Inspection

@@ -1,0 +1,81 @@
+// Inspection of spill rows among the staged spills and in the segments table.
+ghost use mathlib.Core.Path.{_≡_};
+ghost use Rattle.spills.specs.Inspection.{spills-ok, locate-row, inspect-row};
+use records::ListCounts;
+use records::Place;
+
+// The bytes of a record: 32 of the key, 2 of the length, and the longest row.
+pub const RECORD_SIZE: usize = 10288;
+
+// The bytes of the longest row.
+pub const ROW_LIMIT: usize = 10254;
+
+// Where the row under a key stands, as the index of its record, or the refusal code.
+pub enum Located {
+    Staged(usize),
+    Table(usize),
+    Missing,
+    Refused(u8),
+}
+
+// Whether both lists pass refusal 25.
+fn spills_ok(
+    staged: &[u8],
+    staged_counts: ListCounts,
+    table: &[u8],
+    table_counts: ListCounts,
+) -> bool
+    ensures { λ r. ⌜ r ≡ spills-ok 10288 10254 «staged_counts» (now (staged .entry)) «table_counts» (now (table .entry)) ⌝ }
+{
+    if records::records_ok(staged, RECORD_SIZE, ROW_LIMIT, staged_counts) {
+        return records::records_ok(table, RECORD_SIZE, ROW_LIMIT, table_counts);
+    }
+    false
+}
+
+// The index of the record with the key, among the staged spills or else in the table; 25 is tested first.
+pub fn locate_spill(
+    staged: &[u8],
+    staged_counts: ListCounts,
+    table: &[u8],
+    table_counts: ListCounts,
+    key: &[u8; 32],
+) -> Located
+    ensures { λ r. ⌜ r ≡ locate-row 10288 10254 «staged_counts» (now (staged .entry)) «table_counts» (now (table .entry)) (now (key .entry)) ⌝ }
+{
+    if spills_ok(staged, staged_counts, table, table_counts) {
+        let place = records::locate(
+            staged,
+            staged_counts.count,
+            table,
+            table_counts.count,
+            RECORD_SIZE,
+            key,
+        );
+        return match place {
+            Place::Staged(i) => Located::Staged(i),
+            Place::Table(i) => Located::Table(i),
+            Place::Missing => Located::Missing,
+        };
+    }
+    Located::Refused(refusal::BUFFERS)
+}
+
+// The row under the key, as a part of the slice that holds it; empty where it is missing, and where `locate_spill` refuses.
+pub fn inspect_spill<'a>(
+    staged: &'a [u8],
+    staged_counts: ListCounts,
+    table: &'a [u8],
+    table_counts: ListCounts,
+    key: &[u8; 32],
+) -> &'a [u8]
+    ensures { λ r. ⌜ now r ≡ inspect-row 10288 10254 «staged_counts» (now (staged .entry)) «table_counts» (now (table .entry)) (now (key .entry)) ⌝ }
+{
+    let located = locate_spill(staged, staged_counts, table, table_counts, key);
+    match located {
+        Located::Staged(i) => records::row_part(staged, i * RECORD_SIZE, RECORD_SIZE),
+        Located::Table(i) => records::row_part(table, i * RECORD_SIZE, RECORD_SIZE),
+        Located::Missing => &table[0..0],
+        Located::Refused(_) => &table[0..0],
+    }
+}

@@ -1,2 +1,0 @@
--- The laws of `vlq`.
-pub mod WritingLaws
