@@ -1,0 +1,3 @@
+-- The laws of an append.
+pub mod AppendLaws
+pub mod KeepLaws

@@ -1,0 +1,133 @@
+// Append for boxes and transactions alike, once refusal 25 is tested.
+ghost use mathlib.Core.Path.{_≡_};
+ghost use Prim.Native.Nat.{_+_, _*_, _≤_, _<_};
+ghost use lib.ListN.{length, take, set};
+ghost use Rattle.records.specs.Records.{keys, record-of};
+ghost use Rattle.records.specs.Find.{find-key};
+ghost use Rattle.records.specs.Changes.{slot, count-after, put-record};
+ghost use Rattle.buffer_core.specs.Edition.{edition-1, spill-bytes};
+ghost use Rattle.buffer_core.specs.Append.{appending, one-number, spill-of, append-core};
+ghost use Rattle.append_core.specs.Ready.{AppendReady, SpillReady};
+use buffer_core::Appended;
+use buffer_core::HeadCounts;
+use records::ListCounts;
+use segment_id::Kind;
+
+// Stores a number at a place of the head.
+fn put_number(head: &mut [i64], at: usize, number: i64)
+    requires { ⌜ at < length (now head) ⌝ }
+    ensures { λ _. ⌜ now (head .exit) ≡ set (now (head .entry)) at number ⌝ }
+{
+    head[at] = number;
+}
+
+// The number becomes the whole head.
+fn put_first(head: &mut [i64], number: i64)
+    requires { ⌜ 512 ≤ length (now head) ⌝ }
+    ensures { λ _. ⌜ now (head .exit) ≡ one-number number (now (head .entry)) ⌝ }
+{
+    put_number(head, 0, number);
+    stores::clear_numbers(head, 1, 511);
+}
+
+// Writes the row of the head's first 512 numbers, and gives its length.
+fn emit_row(kind: Kind, head: &[i64], row: &mut [u8]) -> usize
+    requires { ⌜ (512 ≤ length (now head)) × (length (now row) ≡ 10254) ⌝ }
+    ensures { λ r. ⌜ (r ≤ 10254) × (take r (now (row .exit)) ≡ spill-bytes kind (take 512 (now (head .entry)))) ⌝ }
+{
+    match kind {
+        Kind::Box => segment_core::emit_segment(head, 0, head, 512, 0, 0, row, 0),
+        Kind::Tx => segment_core::emit_segment(head, 512, head, 0, 0, 0, row, 0),
+    }
+}
+
+// Puts the row of the head's first 512 numbers among the staged spills, and gives their number.
+fn stage_row(kind: Kind, head: &[i64], staged: &mut [u8], count: usize, key: &[u8]) -> usize
+    requires { ⌜ (512 ≤ length (now head)) × (length (now key) ≡ 32) × (count * 10288 ≤ length (now staged))
+        × (slot (find-key (now key) (keys 10288 count (now staged))) count * 10288 + 10288 ≤ length (now staged)) ⌝ }
+    ensures { λ r. ⌜ (r ≡ count-after (find-key (now (key .entry)) (keys 10288 count (now (staged .entry)))) count)
+        × (now (staged .exit) ≡ put-record 10288 count (now (key .entry)) (record-of 10288 (now (key .entry)) (spill-bytes kind (take 512 (now (head .entry))))) (now (staged .entry))) ⌝ }
+{
+    let mut row = [0u8; 10254];
+    let n = emit_row(kind, head, &mut row);
+    records::put(staged, buffer_core::RECORD, count, key, &row[..n])
+}
+
+// An append to a head of 512: its numbers become the next row.
+fn spill(
+    kind: Kind,
+    parent: &[u8; 32],
+    spills: usize,
+    number: i64,
+    staged_counts: ListCounts,
+    head: &mut [i64],
+    staged: &mut [u8],
+) -> Appended
+    requires { ⌜ SpillReady spills «staged_counts» (now head) (now staged) ⌝ }
+    ensures { λ r. ⌜ appending r (now (head .exit)) (now (staged .exit))
+        ≡ spill-of edition-1 kind (now (parent .entry)) spills number «staged_counts» (now (head .entry)) (now (staged .entry)) ⌝ }
+{
+    if 2147483647 <= spills {
+        return Appended::Refused(refusal::SPILL_COUNT_AT_LIMIT);
+    }
+    let key = buffer_core::spill_key(kind, parent, spills);
+    if records::full_for(staged, buffer_core::RECORD, staged_counts, &key) {
+        return Appended::Refused(refusal::STAGING_FULL);
+    }
+    let count = stage_row(kind, head, staged, staged_counts.count, &key);
+    put_first(head, number);
+    let next = signed::i32_from_usize(spills + 1);
+    Appended::Done(
+        HeadCounts {
+            len: 1,
+            spills: next,
+        },
+        ListCounts {
+            count,
+            capacity: staged_counts.capacity,
+        },
+    )
+}
+
+// A number goes to the end of the head.
+pub fn append(
+    kind: Kind,
+    parent: &[u8; 32],
+    counts: HeadCounts,
+    number: i64,
+    staged_counts: ListCounts,
+    head: &mut [i64],
+    staged: &mut [u8],
+) -> Appended
+    requires { ⌜ AppendReady counts «staged_counts» (now head) (now staged) ⌝ }
+    ensures { λ r. ⌜ appending r (now (head .exit)) (now (staged .exit))
+        ≡ append-core edition-1 kind (now (parent .entry)) counts number «staged_counts» (now (head .entry)) (now (staged .entry)) ⌝ }
+{
+    let len = counts.len;
+    let spills = counts.spills;
+    if signed::is_negative_i32(spills) {
+        return Appended::Refused(refusal::NEGATIVE_SPILL_COUNT);
+    }
+    if signed::is_negative(number) {
+        return Appended::Refused(refusal::NEGATIVE_NUMBER);
+    }
+    if len < 512 {
+        put_number(head, len, number);
+        return Appended::Done(
+            HeadCounts {
+                len: len + 1,
+                spills,
+            },
+            staged_counts,
+        );
+    }
+    spill(
+        kind,
+        parent,
+        signed::usize_from_i32(spills),
+        number,
+        staged_counts,
+        head,
+        staged,
+    )
+}

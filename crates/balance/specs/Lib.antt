@@ -1,0 +1,3 @@
+-- The definitions that the contracts of `balance` cite.
+pub mod Tokens
+pub mod Boxes

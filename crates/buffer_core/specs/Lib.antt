@@ -1,0 +1,9 @@
+-- The definitions that the contracts of the segment buffer's calls cite, in reading order.
+pub mod Edition
+pub mod Spills
+pub mod Steps
+pub mod Append
+pub mod Pop
+pub mod Flip
+pub mod Tally
+pub mod Flush

@@ -1,0 +1,3 @@
+-- The definitions that the contracts of `flip_core` cite beside those of `buffer_core`.
+pub mod Ready
+pub mod Steps

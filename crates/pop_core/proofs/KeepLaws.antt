@@ -1,0 +1,173 @@
+-- An accepted pop keeps what refusal 25 tests: a pop that was accepted never makes the next call refuse 25.
+use Prim.Native.Nat.{ℕ, _-_, _≤_}
+use mathlib.Core.Path.{_≡_, refl, sym, _∙_}
+use mathlib.Core.Bool.{Bool, true, false, cond, _&&_}
+use mathlib.Core.List.{List}
+use native.Mathlib.Omega.{arith}
+use lib.Dec.{ltb, eqb}
+use lib.IntN.{ℤ, pos, natAbs}
+use lib.ListN.{length, length-set}
+use Rattle.stores.proofs.StoreLaws.{length-write}
+use Rattle.signed.specs.Sign.{is-negative}
+use Rattle.records.specs.declared.Found.{Found}
+use Rattle.records.specs.declared.Found.the-variants.{At, Nothing}
+use Rattle.records.specs.declared.ListCounts.{ListCounts}
+use Rattle.records.specs.Records.{keys}
+use Rattle.records.specs.Find.{find-key}
+use Rattle.records.specs.Changes.{count-after, with-count, put-record, full-for}
+use Rattle.records.specs.Checks.{records-ok, keys-ok, RecordsOk, KeysOk}
+use Rattle.records.proofs.TurnLaws.{found-in}
+use Rattle.records.proofs.CheckLaws.{and-left, and-right, records-ok-facts, records-ok-test, records-ok-after-remove, keys-ok-facts, keys-ok-test, keys-ok-after-put}
+use Rattle.segment_id.specs.Key.{row-key}
+use Rattle.segment_id.specs.declared.Kind.{Kind}
+use Rattle.segment_id.proofs.KeyLaws.{row-key-length}
+use Rattle.segment_core.specs.Loading.{padded}
+use Rattle.buffer_core.specs.declared.HeadCounts.{HeadCounts}
+use Rattle.buffer_core.specs.declared.Popped.the-variants.{Number, Refused}
+use Rattle.buffer_core.specs.Edition.{edition-1, RowRead, bad, good}
+use Rattle.buffer_core.specs.Spills.{sources, spill-read, head-ok}
+use Rattle.buffer_core.specs.Append.{counts-of}
+use Rattle.buffer_core.specs.Pop.{Popping, popping, Lists, lists, count-without, bytes-without, last-of, without-last, row-head, staged-at, deleted-at, merged, merge-of, unspill-of, pop-core, lists-ok, pop-ok}
+use Rattle.buffer_core.proofs.HeadLaws.{HeadOk, head-facts, head-test}
+use Rattle.buffer_core.proofs.SpillLaws.{padded-length, spill-under, under-few}
+use Rattle.pop_core.specs.Ready.{PopReady}
+
+-- ---- the test as facts, and back
+
+module _ (h : HeadCounts) (b : Lists) (head : List ℤ) where
+  pub record PopOk : Type 0 where
+    pub headed : HeadOk h head
+    pub staged : RecordsOk 10288 10254 (b .staged-counts) (b .staged)
+    pub table : RecordsOk 10288 10254 (b .table-counts) (b .table)
+    pub deleted : KeysOk (b .deleted-counts) (b .deleted)
+
+  pub pop-facts : pop-ok edition-1 h b head ≡ true → PopOk
+  unfolding pop-ok lists-ok
+  pop-facts t =
+      let s : Bool = records-ok 10288 10254 (b .staged-counts) (b .staged) in
+      let r : Bool = records-ok 10288 10254 (b .table-counts) (b .table) in
+      let k : Bool = keys-ok (b .deleted-counts) (b .deleted) in
+      let x = and-left (head-ok h head) (s && (r && k)) t in
+      let y = and-right (head-ok h head) (s && (r && k)) t in
+      let z = and-right s (r && k) y in
+      record {
+        headed = head-facts h head x;
+        staged = records-ok-facts 10288 10254 (b .staged-counts) (b .staged) (and-left s (r && k) y);
+        table = records-ok-facts 10288 10254 (b .table-counts) (b .table) (and-left r k z);
+        deleted = keys-ok-facts (b .deleted-counts) (b .deleted) (and-right r k z);
+      }
+
+  pub pop-test : PopOk → pop-ok edition-1 h b head ≡ true
+  unfolding pop-ok lists-ok
+  pop-test f =
+      rw (
+        head-test h head (f .headed),
+        records-ok-test 10288 10254 (b .staged-counts) (b .staged) (f .staged),
+        records-ok-test 10288 10254 (b .table-counts) (b .table) (f .table),
+      ) (keys-ok-test (b .deleted-counts) (b .deleted) (f .deleted))
+
+  -- what the core asks for
+  pub pop-ready : pop-ok edition-1 h b head ≡ true → (h .len ≤ 512) × PopReady b head
+  pop-ready t =
+      let f = pop-facts t in
+      (f .headed .few, record { long = f .headed .long; in-staged = f .staged .bounds; in-table = f .table .bounds; in-deleted = f .deleted .bounds })
+
+-- ---- an accepted pop
+
+-- where the answer gives counts, they pass with the lists at exit and the table, which stays
+abbrev pub PopKept : Lists → Popping → Type 0
+PopKept b o =
+    (v : ℤ) (h : HeadCounts) (c e : ListCounts) → o .answer ≡ Number v h c e
+    → pop-ok edition-1 h (lists c (o .staged) (b .table-counts) (b .table) e (o .deleted)) (o .head) ≡ true
+
+kept-refused : (b : Lists) (code : ℕ) (head : List ℤ) (staged deleted : List ℕ) → PopKept b (popping (Refused code) head staged deleted)
+kept-refused b code head staged deleted v h c e q = let z : _≡_ {A = ℕ} 0 1 = cc in absurd (omega arith)
+
+kept-number : (b : Lists) (v : ℤ) (h : HeadCounts) (c e : ListCounts) (head : List ℤ) (staged deleted : List ℕ)
+    → PopOk h (lists c staged (b .table-counts) (b .table) e deleted) head → PopKept b (popping (Number v h c e) head staged deleted)
+kept-number b v h c e head staged deleted ok v′ h′ c′ e′ q =
+    let p : h ≡ h′ = cc in let r : c ≡ c′ = cc in let s : e ≡ e′ = cc in
+    rw (← p, ← r, ← s) (pop-test h (lists c staged (b .table-counts) (b .table) e deleted) head ok)
+
+-- a key's record leaves a list that passes
+without-ok : (key : List ℕ) (c : ListCounts) (l : List ℕ) → RecordsOk 10288 10254 c l
+    → RecordsOk 10288 10254 (count-without (find-key key (keys 10288 (c .count) l)) c) (bytes-without 10288 (find-key key (keys 10288 (c .count) l)) c l)
+without-ok key c l ok = by-found (find-key key (keys 10288 (c .count) l)) refl
+  where
+    by-found : (f : Found) → f ≡ find-key key (keys 10288 (c .count) l) → RecordsOk 10288 10254 (count-without f c) (bytes-without 10288 f c l)
+    by-found (At i) e = records-ok-after-remove 10288 10254 i c l (found-in key 10288 (c .count) l i (At i) e refl) ok
+    by-found Nothing e = ok
+
+module _ (kind : Kind) (parent : List ℕ) (h : HeadCounts) (b : Lists) (head : List ℤ) (ok : PopOk h b head) where
+  merged-kept : (key : List ℕ) → length key ≡ 32 → (spills : ℕ) (zs : List ℤ) → length zs ≤ 512 → full-for 32 (b .deleted-counts) key (b .deleted) ≡ false
+      → PopKept b (merged edition-1 key spills zs b head)
+  unfolding merged
+  merged-kept key k spills zs few free =
+      kept-number b (last-of (length zs) (row-head zs head)) (counts-of (length zs - 1) (pos spills)) (count-without (staged-at edition-1 key b) (b .staged-counts))
+      (with-count (count-after (deleted-at edition-1 key b) (b .deleted-counts .count)) (b .deleted-counts))
+      (without-last (length zs) (row-head zs head)) (bytes-without 10288 (staged-at edition-1 key b) (b .staged-counts) (b .staged))
+      (put-record 32 (b .deleted-counts .count) key key (b .deleted))
+      (record {
+        headed =
+            record {
+              few = omega arith;
+              long =
+                  omega (
+                    arith,
+                    length-set (row-head zs head) (length zs - 1) (pos 0),
+                    length-write 0 (padded zs) head (omega (arith, padded-length zs few, ok .headed .long)),
+                    ok .headed .long,
+                  );
+            };
+        staged = without-ok key (b .staged-counts) (b .staged) (ok .staged);
+        table = ok .table;
+        deleted = keys-ok-after-put (b .deleted-counts) key (b .deleted) k free (ok .deleted);
+      })
+
+  merge-kept : (x : RowRead) → ((zs : List ℤ) → x ≡ good zs → length zs ≤ 512) → (key : List ℕ) → length key ≡ 32 → (spills : ℕ)
+      → PopKept b (merge-of edition-1 x key spills b head)
+  unfolding merge-of
+  merge-kept (bad code) few key k spills = kept-refused b code head (b .staged) (b .deleted)
+  merge-kept (good zs) few key k spills = by-tests (eqb (length zs) 0) (full-for 32 (b .deleted-counts) key (b .deleted)) refl
+    where
+      by-tests : (a f : Bool) → full-for 32 (b .deleted-counts) key (b .deleted) ≡ f
+          → PopKept b (cond a (popping (Refused 20) head (b .staged) (b .deleted)) (cond f (popping (Refused 21) head (b .staged) (b .deleted))
+          (merged edition-1 key spills zs b head)))
+      by-tests true f e = kept-refused b 20 head (b .staged) (b .deleted)
+      by-tests false true e = kept-refused b 21 head (b .staged) (b .deleted)
+      by-tests false false e = merged-kept key k spills zs (few zs refl) e
+
+  unspill-kept : (spills : ℕ) → PopKept b (unspill-of edition-1 kind parent spills b head)
+  unfolding unspill-of
+  unspill-kept spills =
+      merge-kept (spill-read edition-1 kind (sources parent (b .staged) (b .staged-counts .count) (b .table) (b .table-counts .count)) spills)
+      (λ zs e. under-few kind (row-key parent kind (pos spills)) (b .staged) (b .staged-counts .count) (b .table) (b .table-counts .count) zs
+      (sym (spill-under kind parent (b .staged) (b .staged-counts .count) (b .table) (b .table-counts .count) spills) ∙ e))
+      (row-key parent kind (pos spills)) (row-key-length parent kind (pos spills)) spills
+
+  core-kept : PopKept b (pop-core edition-1 kind parent h b head)
+  unfolding pop-core
+  core-kept = by-tests (is-negative (h .spills)) (ltb 0 (h .len)) (eqb (natAbs (h .spills)) 0)
+    where
+      by-tests : (a d u : Bool)
+          → PopKept b (cond a (popping (Refused 11) head (b .staged) (b .deleted)) (cond d
+          (popping (Number (last-of (h .len) head) (counts-of (h .len - 1) (h .spills)) (b .staged-counts) (b .deleted-counts)) (without-last (h .len) head)
+          (b .staged) (b .deleted))
+          (cond u (popping (Refused 19) head (b .staged) (b .deleted)) (unspill-of edition-1 kind parent (natAbs (h .spills) - 1) b head))))
+      by-tests true d u = kept-refused b 11 head (b .staged) (b .deleted)
+      by-tests false true u =
+          kept-number b (last-of (h .len) head) (counts-of (h .len - 1) (h .spills)) (b .staged-counts) (b .deleted-counts) (without-last (h .len) head)
+          (b .staged) (b .deleted)
+          (record {
+            headed = record { few = omega (arith, ok .headed .few); long = omega (arith, length-set head (h .len - 1) (pos 0), ok .headed .long) };
+            staged = ok .staged;
+            table = ok .table;
+            deleted = ok .deleted;
+          })
+      by-tests false false true = kept-refused b 19 head (b .staged) (b .deleted)
+      by-tests false false false = unspill-kept (natAbs (h .spills) - 1)
+
+-- an accepted pop keeps what 25 tests
+pub pop-keeps : (kind : Kind) (parent : List ℕ) (h : HeadCounts) (b : Lists) (head : List ℤ) → pop-ok edition-1 h b head ≡ true
+    → PopKept b (pop-core edition-1 kind parent h b head)
+pop-keeps kind parent h b head t = core-kept kind parent h b head (pop-facts h b head t)

@@ -1,0 +1,3 @@
+-- The laws of a pop.
+pub mod PopLaws
+pub mod KeepLaws

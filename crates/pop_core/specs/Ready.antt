@@ -1,0 +1,41 @@
+-- What a pop and its steps ask of their callers: the facts that the test of refusal 25 establishes, and those tested on the way.
+use Prim.Native.Nat.{ℕ, _+_, _*_, _≤_, _<_}
+use mathlib.Core.Path.{_≡_}
+use mathlib.Core.List.{List}
+use lib.IntN.{ℤ}
+use lib.ListN.{length}
+use Rattle.records.specs.declared.ListCounts.{ListCounts}
+use Rattle.records.specs.Records.{keys}
+use Rattle.records.specs.Find.{find-key}
+use Rattle.records.specs.Changes.{slot}
+use Rattle.records.specs.Checks.{InBounds}
+use Rattle.segment_core.specs.Loading.{padded}
+use Rattle.buffer_core.specs.Edition.{edition-1}
+use Rattle.buffer_core.specs.Pop.{Popping, Lists, lists, merged}
+
+-- the bounds of the head's places and of the three lists
+pub record PopReady (b : Lists) (head : List ℤ) : Type 0 where
+  pub long : 512 ≤ length head
+  pub in-staged : InBounds 10288 (b .staged-counts) (b .staged)
+  pub in-table : InBounds 10288 (b .table-counts) (b .table)
+  pub in-deleted : InBounds 32 (b .deleted-counts) (b .deleted)
+
+-- n numbers at the front of a list of 512 can become the head, and the key can leave the staged spills and join the deleted ones
+pub record MergeReady (list : List ℤ) (n spills : ℕ) (key : List ℕ) (c : ListCounts) (staged : List ℕ) (e : ListCounts) (deleted : List ℕ) (head : List ℤ)
+    : Type 0 where
+  pub long : 512 ≤ length head
+  pub listed : length list ≡ 512
+  pub some : 0 < n
+  pub few : n ≤ 512
+  pub below : spills < 2147483648
+  pub keyed : length key ≡ 32
+  pub within-staged : c .count * 10288 ≤ length staged
+  pub within-deleted : e .count * 32 ≤ length deleted
+  pub room : slot (find-key key (keys 32 (e .count) deleted)) (e .count) * 32 + 32 ≤ length deleted
+
+-- what merging them back leaves, whatever numbers they are and whatever the table is
+abbrev pub Merges : (list : List ℤ) (n spills : ℕ) (key : List ℕ) (c : ListCounts) (staged : List ℕ) (e : ListCounts) (deleted : List ℕ) (head : List ℤ)
+    → Popping → Type 0
+Merges list n spills key c staged e deleted head o =
+    (zs : List ℤ) (d : ListCounts) (table : List ℕ) → list ≡ padded zs → n ≡ length zs
+    → o ≡ merged edition-1 key spills zs (lists c staged d table e deleted) head
