@@ -53,7 +53,11 @@ pub fn flip_position(xs: &[i64], n: usize, target: u64, spend: bool) -> Position
         }
         i += 1;
     }
-    if seen { Position::Seen } else { Position::Absent }
+    if seen {
+        Position::Seen
+    } else {
+        Position::Absent
+    }
 }
 
 // Negates the number at a place.

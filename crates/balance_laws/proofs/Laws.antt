@@ -1,0 +1,175 @@
+-- A balance in its 128 places does what the ledger's balance does, and so keeps the laws that the fork-undo theorem asks of balances.
+use Prim.Native.Nat.{ℕ, suc, _+_, _*_, _≤_, _<_}
+use mathlib.Core.Path.{_≡_, refl, sym, ap, subst, _∙_}
+use mathlib.Core.Bool.{Bool, true, false, cond, _&&_}
+use mathlib.Core.List.{List, [], _∷_, _++_}
+use native.Mathlib.Omega.{arith}
+use native.Mathlib.Decide.{decLt}
+use lib.IntN.{ℤ, pos, negsuc, _+ℤ_, _-ℤ_}
+use lib.Signed.{mag, ltZ}
+use lib.ListN.{length, length-append}
+use lib.Dec.{ltb, leb}
+use borrow.Author.Tests.{le-leb, le-ltb}
+use Rattle.signed.specs.declared.Checked.{Checked}
+use Rattle.signed.specs.declared.Checked.the-variants.{Is, Out}
+use Rattle.signed.specs.Checked.{checked}
+use Rattle.balance.specs.declared.Balance.{Balance}
+use Rattle.balance.specs.declared.Outcome.{Outcome}
+use Rattle.balance.specs.Tokens.{Held, Changed, held, turned, change-token, change-tokens}
+use Rattle.balance.specs.Boxes.{buffers-ok, stopped, nanos-after, held-by, settled, box-by, change-box}
+use Rattle.ledger.specs.Ledger.{TokenId, Tokens, Typed}
+use Rattle.ledger.specs.Run.{Res, done, refused}
+use Rattle.fork_model.proofs.Balances as Ba
+use Rattle.fork_model.proofs.Results.{mapRes, map-done}
+use Rattle.fork_model.proofs.Search.{done≢refused}
+use Rattle.fork_model.proofs.Store as St
+use Rattle.fork_model.proofs.Store.{andThen}
+use Rattle.fork_model.proofs.Whole as Wh
+use Rattle.balance_laws.specs.Calls.{ids-of, amounts-of, outcome-of, credited, debited, tokens-from, tokens-in}
+use Rattle.balance_laws.proofs.Turns.{limit, tokens-of, Fits, Does, ite-lt, add-does, subtract-does, run-does}
+
+-- the ledger's view of a balance
+abbrev pub bal : ℤ → Tokens → Ba.Bal
+bal v l = record { nanos = v; toks = l }
+
+abbrev pub bal-of : Balance → Ba.Bal
+bal-of b = bal (b .nanos) (tokens-in b)
+
+pub record DoesB (X : Res Balance) (Y : Res Ba.Bal) : Type 0 where
+  pub same : mapRes bal-of X ≡ Y
+  pub keeps : (c : Balance) → X ≡ done c → Fits (held-by c)
+
+settle : (b : Balance) (v : ℤ) (x : Changed) (Y : Res Tokens) → Does x Y → DoesB (outcome-of (settled b v x)) (andThen Y (λ l. done (bal v l)))
+settle b v (held h) Y d = record {
+  same = ap (λ (y : Res Tokens). andThen y (λ l. done (bal v l))) (d .0);
+  keeps = λ c e.
+      let f : Fits h = d .1 in
+      let z : record { ids = h .ids; amounts = h .amounts; count = h .count; nanos = v } ≡ c = cc in
+      subst (λ (c : Balance). Fits (held-by c)) z (record { few = f .few; ids-in = f .ids-in; amounts-in = f .amounts-in });
+}
+settle b v (turned code) Y d = record { same = ap (λ (y : Res Tokens). andThen y (λ l. done (bal v l))) d; keeps = λ c e. absurd (done≢refused (sym e)) }
+
+no-bal : (k : ℕ) → DoesB (refused k) (refused k)
+no-bal k = record { same = refl; keeps = λ c e. absurd (done≢refused (sym e)) }
+
+to-bal : {X : Res Balance} {Y Z : Res Ba.Bal} → DoesB X Y → Y ≡ Z → DoesB X Z
+to-bal D z = record { same = D .same ∙ z; keeps = D .keeps }
+
+length-ids : (ts : Tokens) → Typed ts → length (ids-of ts) ≡ length ts * 32
+length-ids [] t = refl
+length-ids (x ∷ ts) t = omega (arith, length-append (x .0) (ids-of ts), length-ids ts (t .2), t .0)
+
+length-amounts : (ts : Tokens) → length (amounts-of ts) ≡ length ts
+length-amounts [] = refl
+length-amounts (x ∷ ts) = ap suc (length-amounts ts)
+
+adds-none : (l : Tokens) → Ba.addToks limit 128 l [] ≡ done l
+unfolding Ba.addToks
+adds-none l = refl
+
+adds-more : (l : Tokens) (x : TokenId × ℤ) (ts : Tokens) → Ba.addToks limit 128 l (x ∷ ts) ≡ andThen (Ba.addTok limit 128 l (x .0) (x .1)) (λ k. Ba.addToks limit 128 k ts)
+unfolding Ba.addToks
+adds-more l x ts = refl
+
+subs-none : (l : Tokens) → Ba.subToks limit 128 l [] ≡ done l
+unfolding Ba.subToks
+subs-none l = refl
+
+subs-more : (l : Tokens) (x : TokenId × ℤ) (ts : Tokens) → Ba.subToks limit 128 l (x ∷ ts) ≡ andThen (Ba.subTok limit 128 l (x .0) (x .1)) (λ k. Ba.subToks limit 128 k ts)
+unfolding Ba.subToks
+subs-more l x ts = refl
+
+module _ (b : Balance) (I : Fits (held-by b)) (n : ℤ) (ts : Tokens) (t : Typed ts) where
+  passes : buffers-ok (b .count) (ids-of ts) (amounts-of ts) (length ts) ≡ true
+  unfolding buffers-ok
+  passes = rw (le-leb (b .count) 128 (I .few), le-leb (length ts) (length (amounts-of ts)) (omega (arith, length-amounts ts)), le-leb (length ts * 32) (length (ids-of ts)) (omega (arith, length-ids ts t)))
+
+  on : (adds : Bool) → change-box adds b n (ids-of ts) (amounts-of ts) (length ts) ≡ box-by adds b (ids-of ts) (amounts-of ts) (length ts) (nanos-after adds (b .nanos) n)
+  unfolding change-box
+  on adds = rw passes
+
+  by-add : (x : ℤ) (u : Bool) → DoesB (outcome-of (box-by true b (ids-of ts) (amounts-of ts) (length ts) (cond u (Is x) Out)))
+      (cond u (andThen (Ba.addToks limit 128 (tokens-in b) ts) (λ l. done (bal x l))) (refused 23))
+  by-add x true =
+      settle b x (change-tokens true (ids-of ts) (amounts-of ts) 0 (length ts) (held-by b)) (Ba.addToks limit 128 (tokens-in b) ts)
+      (run-does true (Ba.addToks limit 128) (Ba.addTok limit 128) adds-none adds-more (λ h k v J g f. add-does h J k g v f) ts [] [] 0 refl refl t (held-by b) I)
+  by-add x false = no-bal 23
+
+  pub add-same : DoesB (credited b n ts) (Ba.add limit 128 (bal-of b) n ts)
+  unfolding checked
+  add-same =
+      rw (on true)
+      (to-bal (by-add (b .nanos +ℤ n) (ltb (mag (b .nanos +ℤ n)) limit))
+      (sym (ite-lt (mag (b .nanos +ℤ n)) limit (decLt (mag (b .nanos +ℤ n)) limit) _ (refused 23))))
+
+  stop-same : (v : ℤ) → cond (ltZ v (pos 0)) (pos 0) v ≡ Ba.stop0 v
+  stop-same (pos m) = rw (le-ltb m 0 (omega arith))
+  stop-same (negsuc m) = refl
+
+  by-sub : (x : ℤ) (u : Bool) → DoesB (outcome-of (box-by false b (ids-of ts) (amounts-of ts) (length ts) (stopped (cond u (Is x) Out))))
+      (cond u (andThen (Ba.subToks limit 128 (tokens-in b) ts) (λ l. done (bal (Ba.stop0 x) l))) (refused 23))
+  by-sub x true =
+      to-bal
+      (settle b (cond (ltZ x (pos 0)) (pos 0) x) (change-tokens false (ids-of ts) (amounts-of ts) 0 (length ts) (held-by b)) (Ba.subToks limit 128 (tokens-in b) ts)
+      (run-does false (Ba.subToks limit 128) (Ba.subTok limit 128) subs-none subs-more (λ h k v J g f. subtract-does h J k g v) ts [] [] 0 refl refl t (held-by b) I))
+      (ap (λ (z : ℤ). andThen (Ba.subToks limit 128 (tokens-in b) ts) (λ l. done (bal z l))) (stop-same x))
+  by-sub x false = no-bal 23
+
+  pub sub-same : DoesB (debited b n ts) (Ba.sub limit 128 (bal-of b) n ts)
+  unfolding checked
+  sub-same =
+      rw (on false)
+      (to-bal (by-sub (b .nanos -ℤ n) (ltb (mag (b .nanos -ℤ n)) limit))
+      (sym (ite-lt (mag (b .nanos -ℤ n)) limit (decLt (mag (b .nanos -ℤ n)) limit) _ (refused 23))))
+
+-- ---- the laws
+
+done-same : (X : Res Balance) (c : Balance) (Y : Res Ba.Bal) → mapRes bal-of X ≡ Y → X ≡ done c → Y ≡ done (bal-of c)
+done-same X c Y e f = sym e ∙ ap (mapRes bal-of) f
+
+module _ (ids : List ℕ) (amounts : List ℤ) (ids-in : length ids ≡ 4096) (amounts-in : length amounts ≡ 128) where
+  -- an empty balance, whatever its places hold
+  abbrev pub none : Balance
+  none = record { ids = ids; amounts = amounts; count = 0; nanos = pos 0 }
+
+  abbrev pub balances : Wh.Balances
+  balances = record { Bal = Balance; noBal = none; add = credited; sub = debited; nanoOf = λ b. b .nanos; amountOf = λ b t. Ba.amt (tokens-in b) t }
+
+  abbrev G : Ba.Bal → Type 0
+  G b = Ba.GoodB limit 128 b
+
+  abbrev pub Good : Balance → Type 0
+  Good b = Fits (held-by b) × G (bal-of b)
+
+  pub laws : (E : St.Env) → Wh.BalanceLaws E balances Good
+  laws E = record {
+    no-good = (record { few = omega arith; ids-in = ids-in; amounts-in = amounts-in }, Ba.no-good limit 128 (omega arith));
+    no-nano = refl;
+    no-amount = λ t. refl;
+    add-ok = λ b n ts c g R e.
+        let D = add-same b (g .0) n ts (R .typed) in
+        let a = Ba.add-ok limit 128 (bal-of b) n ts (bal-of c) (g .1) R (done-same (credited b n ts) c (Ba.add limit 128 (bal-of b) n ts) (D .same) e) in
+        ((D .keeps c e, a .0), record { nanoErgs = a .1 .nanoErgs; amounts = a .1 .amounts });
+    sub-ok = λ b n ts c g R h k e.
+        let D = sub-same b (g .0) n ts (R .typed) in
+        let a = Ba.sub-ok limit 128 (bal-of b) n ts (bal-of c) (g .1) R h k (done-same (debited b n ts) c (Ba.sub limit 128 (bal-of b) n ts) (D .same) e) in
+        ((D .keeps c e, a .0), record { nanoErgs = a .1 .nanoErgs; amounts = a .1 .amounts });
+    add-back = λ x n ts b g h R s.
+        let D = add-same b (h .0) n ts (R .typed) in
+        let a = Ba.add-back limit 128 (bal-of x) n ts (bal-of b) (g .1) (h .1) R (record { nanoErgs = s .nanoErgs; amounts = s .amounts }) in
+        let m = map-done bal-of (credited b n ts) (a .0) (D .same ∙ a .1) in (
+          m .0,
+          m .1,
+          (D .keeps (m .0) (m .1), subst G (sym (m .2)) (a .2)),
+          record { nanoErgs = ap Ba.nanoOf (m .2) ∙ a .3 .nanoErgs; amounts = λ t. ap (λ (y : Ba.Bal). Ba.amountOf y t) (m .2) ∙ a .3 .amounts t },
+        );
+    sub-back = λ x n ts b g h R s.
+        let D = sub-same b (h .0) n ts (R .typed) in
+        let a = Ba.sub-back limit 128 (bal-of x) n ts (bal-of b) (g .1) (h .1) R (record { nanoErgs = s .nanoErgs; amounts = s .amounts }) in
+        let m = map-done bal-of (debited b n ts) (a .0) (D .same ∙ a .1) in (
+          m .0,
+          m .1,
+          (D .keeps (m .0) (m .1), subst G (sym (m .2)) (a .2)),
+          record { nanoErgs = ap Ba.nanoOf (m .2) ∙ a .3 .nanoErgs; amounts = λ t. ap (λ (y : Ba.Bal). Ba.amountOf y t) (m .2) ∙ a .3 .amounts t },
+        );
+  }

@@ -1,0 +1,4 @@
+-- Laws of balances.
+pub mod View
+pub mod Turns
+pub mod Laws

@@ -1,0 +1,2 @@
+-- The balances of the fork-undo theorem.
+pub mod Calls

@@ -1,0 +1,1 @@
+// The laws of balances that the fork-undo theorem uses; no function.

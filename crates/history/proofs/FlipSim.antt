@@ -1,0 +1,396 @@
+-- A spend or an unspend of the bytes is one of the tables, and keeps what holds between calls.
+use mathlib.Core.Path.{_≡_, refl, sym, _∙_, ap}
+use mathlib.Core.List.{List, [], _∷_, _++_, map}
+use mathlib.Core.Bool.{Bool, true, false, not, _&&_, cond}
+use Prim.Native.Nat.{ℕ, zero, suc, _+_, _*_, _-_, _≤_, _<_}
+use native.Mathlib.Omega.{arith}
+use native.Mathlib.Decide.{ℕ-discrete, decLe}
+use lib.IntN.{ℤ, pos, negℤ, natAbs}
+use lib.ListN.{length, getD, take, drop, set, length-set}
+use lib.Seq.{take-set-lt, getD-take, length-take-le}
+use lib.Dec.{leb, ltb, eqb}
+use borrow.Author.Tests.{le-leb, lt-leb, ltb-true, ltb-false, eq-eqb}
+use Rattle.stores.specs.Stores.{write}
+use Rattle.signed.specs.Sign.{is-negative}
+use Rattle.entries.specs.Order.{order-ok}
+use Rattle.entries.specs.Flip.{position, flipped-at}
+use Rattle.entries.specs.declared.Position.{Position}
+use Rattle.entries.specs.declared.Position.the-variants.{At, Seen, Absent}
+use Rattle.records.specs.declared.Found.{Found}
+use Rattle.records.specs.declared.Found.the-variants as found
+use Rattle.records.specs.declared.Place.the-variants.{Staged, Table, Missing}
+use Rattle.records.specs.declared.ListCounts.{ListCounts}
+use Rattle.records.specs.Records.{records, keys, stored-row, record-of}
+use Rattle.records.specs.Find.{find-key, is-found, row-at, place-of, locate-key}
+use Rattle.records.specs.Changes.{slot, count-after, with-count, put-record, full-for}
+use Rattle.records.specs.Checks.{RecordsOk, records-ok}
+use Rattle.records.proofs.TurnLaws.{found-in}
+use Rattle.records.proofs.RecordLaws.{record-at}
+use Rattle.records.proofs.CheckLaws.{and-true, records-ok-after-put, records-ok-test}
+use Rattle.segment_id.specs.declared.Kind.the-variants.{Box}
+use Rattle.buffer_core.specs.declared.HeadCounts.{HeadCounts}
+use Rattle.buffer_core.specs.declared.Direction.{Direction}
+use Rattle.buffer_core.specs.declared.Direction.the-variants.{Spend, Unspend}
+use Rattle.buffer_core.specs.declared.Lead.{Lead}
+use Rattle.buffer_core.specs.declared.Look.{Look}
+use Rattle.buffer_core.specs.declared.Walk.{Walk}
+use Rattle.buffer_core.specs.declared.Walk.the-variants.{Hit, Ended, Failed}
+use Rattle.buffer_core.specs.Edition.{Edition, RowRead, bad, good}
+use Rattle.buffer_core.specs.Spills.{Sources, key-at, place-at, read-placed, spill-read, head-ok}
+use Rattle.buffer_core.specs.Flip.{check-row, lead-of, look-of, search-by, search-in, walk-from, Effect, refuse, flip-head, stage, head-first, spends, done-by, row-checked, lead-at, look-at, boxes-in, row-flipped, stage-from, stage-at, after-walk, after-search, in-rows, in-order, flip-effect, flip-core, flip-ok, flip-of}
+use Rattle.buffer_core.specs.Pop.{Lists}
+use Rattle.ledger.specs.Ledger.{Parent, Series, boxes, ite, ite-yes}
+use Rattle.ledger.specs.Run.{Res, done, refused}
+use Rattle.fork_model.proofs.Store as St
+use Rattle.fork_model.proofs.Store.{andThen, flipFirst, seenIn, whenB, rowOr, notFound}
+use Rattle.fork_model.proofs.StoreLaws as Sl
+use Rattle.fork_model.proofs.Search as Se
+use Rattle.fork_model.proofs.Search.{done≢refused}
+use Rattle.fork_model.proofs.Table.{orElse}
+use Rattle.fork_model.proofs.Results.{mapRes}
+use Rattle.history.specs.Index.{Part, part, Index, index, set-part, with-staged, after-flip, to-res, sources-of, do-flip}
+use Rattle.history.proofs.Tables.{tab, put, lookup-is, row-opt}
+use Rattle.history.proofs.Tables as Tab
+use Rattle.history.proofs.State as S
+use Rattle.history.proofs.State.{EditionLaws, ListsFit, lists-fit, fit-lists, HeadFits, head-fits, fit-head, push-to, all-set, same-set}
+use Rattle.history.proofs.Lists.{ite-le, full-is, put-table}
+use Rattle.history.proofs.PopSim.{read-same}
+use Rattle.history.proofs.FlipLists.{copyOf, copy-abs, newOf, first-new, isSeen, first-seen, first-in, order-same, leadRes, lowOf, search-same, lookRes, hitOf, walk-same}
+
+pub good-of : (r : RowRead) (l : List ℤ) → to-res r ≡ done l → r ≡ good l
+good-of (bad k) l e = absurd (done≢refused (sym e))
+good-of (good x) l e = let q : x ≡ l = cc in ap good q
+
+lead-case : (u : Bool) (l : List ℤ) → lead-of (cond u (good l) (bad 13)) ≡ leadRes (whenB u (done l) (refused 13))
+lead-case true l = refl
+lead-case false l = refl
+
+look-case : (u : Bool) (l : List ℤ) (t : ℕ) (d : Bool) → look-of (cond u (good l) (bad 13)) t d ≡ lookRes t d (whenB u (done l) (refused 13))
+look-case true l t d = refl
+look-case false l t d = refl
+
+when-same : (u : Bool) (l k : List ℤ) → whenB u (done l) (refused 13) ≡ done k → l ≡ k
+when-same true l k e = cc
+when-same false l k e = absurd (done≢refused (sym e))
+
+check-eq : (l : List ℤ) → length l ≡ 512 → check-row (good l) ≡ cond (order-ok l) (good l) (bad 13)
+check-eq l e = rw (eq-eqb (length l) 512 e)
+
+turn-take : (l : List ℤ) (n i : ℕ) → i < n → take n (flipped-at (At i) l) ≡ flipped-at (At i) (take n l)
+turn-take l n i h = take-set-lt n l i (negℤ (getD l i (pos 0))) h ∙ ap (λ (x : ℤ). set (take n l) i (negℤ x)) (sym (getD-take n l i (pos 0) h))
+
+module _ (E : Edition) (L : EditionLaws E) (ids : Parent → List ℕ) (table-cap staged-cap deleted-cap : ℕ) where
+  abbrev W : St.Env
+  W = S.env E ids table-cap staged-cap deleted-cap
+
+  abbrev abs : Index → St.Store W
+  abs b = S.abs E ids table-cap staged-cap deleted-cap b
+
+  abbrev Inv : Index → Type 0
+  Inv b = S.Inv E ids table-cap staged-cap deleted-cap b
+
+  abbrev head-of : Part → List ℤ
+  head-of p = S.head-of E ids table-cap staged-cap deleted-cap p
+
+  abbrev spills-of : Part → ℕ
+  spills-of p = S.spills-of E ids table-cap staged-cap deleted-cap p
+
+  module _ (b : Index) (p : Parent) (I : Inv b) (small : Sl.Small 9223372036854775808 (abs b .heads (boxes p)))
+      (full : (s : ℕ) → s < abs b .counts (boxes p) → Sl.FullRow 9223372036854775808 511 (St.rowAt W (abs b) (boxes p) s)) where
+    abbrev x : Lists
+    x = b .lists
+
+    abbrev c : ListCounts
+    c = x .staged-counts
+
+    abbrev q : Part
+    q = b .parts (boxes p)
+
+    abbrev heads : List ℤ
+    heads = abs b .heads (boxes p)
+
+    abbrev spills : ℕ
+    spills = natAbs (q .head .spills)
+
+    abbrev w : Sources
+    w = sources-of E ids b (boxes p)
+
+    abbrev cap : ℕ
+    cap = c .capacity
+
+    abbrev end : Effect → Res Index
+    end e = let o = done-by E e c (q .places) (x .staged) in after-flip b (boxes p) (o .answer) (o .head) (o .staged)
+
+    abbrev rd : ℕ → Res (List ℤ)
+    rd n = St.readRow W (abs b) (boxes p) n
+
+    abbrev read-spill : ℕ → RowRead
+    read-spill n = spill-read E Box w n
+
+    hf : HeadFits q
+    hf = head-fits q (I .heads-in (boxes p))
+
+    lf : ListsFit E x
+    lf = lists-fit E x (I .lists-in)
+
+    -- an effect does what the tables' operation does, and keeps what holds
+    pub record Does (e : Effect) (Y : Res (St.Store W)) : Type 0 where
+      pub same : mapRes abs (end e) ≡ Y
+      pub keeps : (d : Index) → end e ≡ done d → Inv d
+
+    no : (k : ℕ) → Does (refuse k) (refused k)
+    no k = record { same = refl; keeps = λ d e. absurd (done≢refused (sym e)) }
+
+    to : {e : Effect} {Y Z : Res (St.Store W)} → Does e Y → Y ≡ Z → Does e Z
+    to D z = record { same = D .same ∙ z; keeps = D .keeps }
+
+    from : {e f : Effect} {Y : Res (St.Store W)} → e ≡ f → Does f Y → Does e Y
+    from {e} {f} {Y} z D = rw z D
+
+    inv-part : (v : Part) (d : ListCounts) (l : List ℕ) → head-ok (v .head) (v .places) ≡ true → v .head ≡ q .head → RecordsOk (E .size) (E .limit) d l → d .capacity ≡ cap
+        → Inv (index (set-part (b .parts) (boxes p) v) (with-staged d l x))
+    inv-part v d l y h t e = record {
+      heads-in = all-set (λ z. head-ok (z .head) (z .places) ≡ true) (b .parts) (boxes p) v y (I .heads-in);
+      not-below = all-set (λ z. is-negative (z .head .spills) ≡ false) (b .parts) (boxes p) v (rw h (I .not-below (boxes p))) (I .not-below);
+      spills-in = all-set (λ z. natAbs (z .head .spills) ≤ 2147483647) (b .parts) (boxes p) v (rw h (I .spills-in (boxes p))) (I .spills-in);
+      lists-in = fit-lists E (with-staged d l x) (record { in-staged = t; in-table = lf .in-table; in-deleted = lf .in-deleted });
+      table-at = I .table-at;
+      staged-at = e ∙ I .staged-at;
+      deleted-at = I .deleted-at;
+    }
+
+    -- ---- the head
+    head-does : (i : ℕ) → i < length heads → Does (flip-head i) (done (St.withHead W (abs b) (boxes p) (flipped-at (At i) heads)))
+    head-does i h =
+        let long = length-take-le (q .head .len) (q .places) (omega (arith, hf .len-in, hf .places-in)) in
+        let v : Part = part (q .head) (flipped-at (At i) (q .places)) in
+        let hs = push-to head-of (b .parts) (boxes p) v (flipped-at (At i) heads) (turn-take (q .places) (q .head .len) i (omega arith)) in
+        let cs = same-set spills-of (b .parts) (boxes p) v refl in
+        record {
+          same = λ j. done (record { heads = hs j; counts = cs j; staging = abs b .staging; shelf = abs b .shelf; deletion = abs b .deletion });
+          keeps = λ d e.
+              let y : Index = index (set-part (b .parts) (boxes p) v) (with-staged c (x .staged) x) in
+              let z : y ≡ d = cc in
+              rw (← z) (inv-part v c (x .staged) (fit-head v (hf .len-in) (rw length-set (hf .places-in))) refl (lf .in-staged) refl);
+        }
+
+    -- ---- a row
+    module _ (n : ℕ) where
+      abbrev key : List ℕ
+      key = key-at E Box w n
+
+      abbrev f₁ : Found
+      f₁ = find-key key (keys (E .size) (c .count) (x .staged))
+
+      abbrev f₂ : Found
+      f₂ = find-key key (keys (E .size) (x .table-counts .count) (x .table))
+
+      put-does : (f : Found) → f ≡ f₁ → (row : List ℕ) → length row ≤ E .limit → full-for (E .size) c key (x .staged) ≡ false
+          → Does (stage (slot f (c .count)) (count-after f (c .count)) key row) (done (St.withStaging W (abs b) (put (abs b .staging) key row)))
+      unfolding put-record
+      put-does f e row m g =
+          let v : Part = part (q .head) (q .places) in
+          let hs = same-set head-of (b .parts) (boxes p) v refl in
+          let cs = same-set spills-of (b .parts) (boxes p) v refl in
+          let k = L .key-length Box (w .parent) (pos n) in
+          let l : List ℕ = write (slot f (c .count) * E .size) (record-of (E .size) key row) (x .staged) in
+          let rs : tab (records (E .size) (count-after f (c .count)) l) ≡ put (abs b .staging) key row
+          = rw e (put-table (E .size) (E .limit) c key row (x .staged) k (omega (arith, L .wide)) (omega (arith, L .wide, L .short)) g (lf .in-staged)) in
+          let ok : RecordsOk (E .size) (E .limit) (with-count (count-after f (c .count)) c) l
+          = rw e (records-ok-after-put (E .size) (E .limit) c key row (x .staged) k (omega (arith, L .wide)) m (omega (arith, L .wide, L .short)) g (lf .in-staged)) in
+          record {
+            same = λ j. done (record { heads = hs j; counts = cs j; staging = rs j; shelf = abs b .shelf; deletion = abs b .deletion });
+            keeps = λ d u.
+                let y : Index = index (set-part (b .parts) (boxes p) v) (with-staged (with-count (count-after f (c .count)) c) l x) in
+                let z : y ≡ d = cc in
+                rw (← z) (inv-part v (with-count (count-after f (c .count)) c) l (I .heads-in (boxes p)) refl ok refl);
+          }
+
+      full-val : (f : Found) → f ≡ f₁ → full-for (E .size) c key (x .staged) ≡ not (is-found f) && leb cap (c .count)
+      unfolding full-for
+      full-val f e = rw e
+
+      stage-is : (r : List ℕ) → St.stage W (abs b) key r ≡ cond (full-for (E .size) c key (x .staged)) (refused 16) (done (put (abs b .staging) key r))
+      stage-is r = full-is (E .size) c staged-cap key (x .staged) (refused 16) (done (put (abs b .staging) key r)) (I .staged-at)
+
+      -- the row's bytes, by where its key was found
+      abbrev row-by : Found → Found → List ℕ
+      row-by (found.At i) g = row-at (E .size) i (x .staged)
+      row-by found.Nothing (found.At j) = row-at (E .size) j (x .table)
+      row-by found.Nothing found.Nothing = []
+
+      read-by : (f g : Found) (l : List ℤ) → read-placed E Box w (place-of f g) ≡ good l → E .decode Box (row-by f g) ≡ good l
+      read-by (found.At i) g l h = h
+      read-by found.Nothing (found.At j) l h = h
+      read-by found.Nothing found.Nothing l h = let z : _≡_ {A = ℕ} 0 1 = cc in absurd (omega arith)
+
+      redo-found : (f g : Found) → f ≡ f₁ → g ≡ f₂ → (l new : List ℤ) → read-placed E Box w (place-of f g) ≡ good l
+          → St.redoFound W (boxes p) (orElse (row-opt f (records (E .size) (c .count) (x .staged))) (row-opt g (records (E .size) (x .table-counts .count) (x .table)))) new ≡ E .with-boxes (row-by f g) new
+      redo-found (found.At i) g e d l new h = ap (λ (r : List ℕ). E .with-boxes (stored-row r) new) (record-at (E .size) (c .count) i (x .staged) (found-in key (E .size) (c .count) (x .staged) i (found.At i) e refl))
+      redo-found found.Nothing (found.At j) e d l new h =
+          ap (λ (r : List ℕ). E .with-boxes (stored-row r) new) (record-at (E .size) (x .table-counts .count) j (x .table) (found-in key (E .size) (x .table-counts .count) (x .table) j (found.At j) d refl))
+      redo-found found.Nothing found.Nothing e d l new h = let z : _≡_ {A = ℕ} 0 1 = cc in absurd (omega arith)
+
+      redo-same : (l new : List ℤ) → read-spill n ≡ good l → St.redone W (abs b) (boxes p) n new ≡ E .with-boxes (row-by f₁ f₂) new
+      unfolding spill-read place-at
+      redo-same l new h =
+          (λ i. St.redoFound W (boxes p) (orElse (lookup-is (records (E .size) (c .count) (x .staged)) key i) (lookup-is (records (E .size) (x .table-counts .count) (x .table)) key i)) new)
+          ∙ redo-found f₁ f₂ refl refl l new h
+
+      abbrev finish : Tab.Table → Res (St.Store W)
+      finish t = done (St.withStaging W (abs b) t)
+
+      module _ (i : ℕ) (l : List ℤ) (few : length (flipped-at (At i) l) ≤ 512) (little : Sl.Small 9223372036854775808 (flipped-at (At i) l)) where
+        abbrev new : List ℤ
+        new = flipped-at (At i) l
+
+        by-room : found.Nothing ≡ f₁ → (row : List ℕ) → length row ≤ E .limit → (u : Bool) → ltb (c .count) cap ≡ u
+            → Does (cond u (stage (c .count) (c .count + 1) key row) (refuse 16)) (andThen (cond (leb cap (c .count)) (refused 16) (done (put (abs b .staging) key row))) finish)
+        by-room e row m true h =
+            let y = lt-leb cap (c .count) (ltb-true (c .count) cap h) in
+            rw y (put-does found.Nothing e row m (full-val found.Nothing e ∙ y))
+        by-room e row m false h = rw (le-leb cap (c .count) (ltb-false (c .count) cap h)) (no 16)
+
+        flipped-row : (row : List ℕ) → E .decode Box row ≡ good l → row-flipped E row i ≡ E .with-boxes row new
+        unfolding row-flipped
+        flipped-row row h = ap (λ (r : RowRead). E .with-boxes row (flipped-at (At i) (boxes-in E r))) h
+
+        by-find : (f g : Found) → f ≡ f₁ → g ≡ f₂ → read-placed E Box w (place-of f g) ≡ good l
+            → Does (stage-from E w cap n i (place-of f g))
+            (andThen (cond (not (is-found f) && leb cap (c .count)) (refused 16) (done (put (abs b .staging) key (E .with-boxes (row-by f g) new)))) finish)
+        by-find (found.At j) g e d h =
+            let row : List ℕ = row-at (E .size) j (x .staged) in
+            from (ap (λ (y : List ℕ). stage j (c .count) key y) (flipped-row row h)) (put-does (found.At j) e (E .with-boxes row new) (L .redo-length row l new h few little) (full-val (found.At j) e))
+        by-find found.Nothing (found.At k) e d h =
+            let row : List ℕ = row-at (E .size) k (x .table) in
+            from (ap (λ (y : List ℕ). cond (ltb (c .count) cap) (stage (c .count) (c .count + 1) key y) (refuse 16)) (flipped-row row h))
+            (by-room e (E .with-boxes row new) (L .redo-length row l new h few little) (ltb (c .count) cap) refl)
+        by-find found.Nothing found.Nothing e d h = let z : _≡_ {A = ℕ} 0 1 = cc in absurd (omega arith)
+
+        stage-does : read-spill n ≡ good l → Does (stage-at E w cap n i) (andThen (St.stage W (abs b) key (St.redone W (abs b) (boxes p) n new)) finish)
+        unfolding stage-at spill-read place-at
+        stage-does h =
+            to (by-find f₁ f₂ refl refl h)
+            (ap (λ (u : Bool). andThen (cond u (refused 16) (done (put (abs b .staging) key (E .with-boxes (row-by f₁ f₂) new)))) finish) (sym (full-val f₁ refl))
+            ∙ ap (λ (y : Res Tab.Table). andThen y finish) (sym (stage-is (E .with-boxes (row-by f₁ f₂) new)))
+            ∙ ap (λ (r : List ℕ). andThen (St.stage W (abs b) key r) finish) (sym (redo-same l new h)))
+
+    -- ---- rows below the spill count are read alike
+    reads : (n : ℕ) → n < spills → (l : List ℤ) × (read-spill n ≡ good l) × (length l ≡ 512) × Sl.Small 9223372036854775808 l
+    reads n h = let g = full n h in (g .0, good-of (read-spill n) (g .0) (read-same E ids table-cap staged-cap deleted-cap b (boxes p) n ∙ g .1), g .2, g .3)
+
+    rd-is : (n : ℕ) (h : n < spills) → rd n ≡ whenB (order-ok (reads n h .0)) (done (reads n h .0)) (refused 13)
+    unfolding reads
+    rd-is n h =
+        let g = full n h in
+        ap (St.checkRow W) (g .1)
+        ∙ ite-yes (ℕ-discrete (length (g .0)) 512) (whenB (St.ordered 0 (g .0)) (done (g .0)) (refused 13)) (refused 13) (g .2)
+        ∙ ap (λ (u : Bool). whenB u (done (g .0)) (refused 13)) (sym (order-same 0 (g .0) (g .3)))
+
+    lead-same : (n : ℕ) → n < spills → lead-at E w n ≡ leadRes (rd n)
+    lead-same n h =
+        let g = reads n h in
+        ap (λ (r : RowRead). lead-of (check-row r)) (g .1) ∙ ap lead-of (check-eq (g .0) (g .2)) ∙ lead-case (order-ok (g .0)) (g .0) ∙ ap leadRes (sym (rd-is n h))
+
+    look-same : (t : ℕ) (d : Bool) (n : ℕ) → n < spills → look-at E w t d n ≡ lookRes t d (rd n)
+    look-same t d n h =
+        let g = reads n h in
+        ap (λ (r : RowRead). look-of (check-row r) t d) (g .1) ∙ ap (λ (y : RowRead). look-of y t d) (check-eq (g .0) (g .2)) ∙ look-case (order-ok (g .0)) (g .0) t d ∙ ap (lookRes t d) (sym (rd-is n h))
+
+    module _ (t : ℕ) (d : Bool) where
+      abbrev e : ℤ
+      e = copyOf d t
+
+      abbrev on-hit : St.Hit → Res (St.Store W)
+      on-hit h = andThen (St.stage W (abs b) (key-at E Box w (h .at)) (St.redone W (abs b) (boxes p) (h .at) (h .new))) (λ (y : Tab.Table). done (St.withStaging W (abs b) y))
+
+      abbrev hits : Walk → Res St.Hit
+      hits v = hitOf (look-at E w t d) rd t d spills (look-same t d) v
+
+      by-walk : (lo : ℕ) (seen : Bool) → lo ≤ spills → (v : Walk) → walk-from (look-at E w t d) lo seen ≡ v → Does (after-walk E w cap v) (andThen (hits v) on-hit)
+      by-walk lo seen m (Ended s) y = by-seen s
+        where
+          by-seen : (s : Bool) → Does (refuse (cond s 14 15)) (refused (notFound s))
+          by-seen true = no 14
+          by-seen false = no 15
+      by-walk lo seen m (Failed k) y = no k
+      by-walk lo seen m (Hit n i) y =
+          let h : St.Hit = record { at = n; new = flipped-at (At i) (rowOr (rd n)) } in
+          let u : St.walk 511 rd e lo seen ≡ done h = sym (walk-same (look-at E w t d) rd t d spills (look-same t d) lo seen m) ∙ ap hits y in
+          let s = Se.walk-stopped 511 rd e lo seen h u in
+          let k : n < spills = omega (arith, s .below) in
+          let g = reads n k in
+          let z : g .0 ≡ s .row = when-same (order-ok (g .0)) (g .0) (s .row) (sym (rd-is n k) ∙ s .read) in
+          let r : rowOr (rd n) ≡ g .0 = ap rowOr (s .read) ∙ sym z in
+          let o : flipFirst e (g .0) ≡ _ = ap (flipFirst e) z ∙ s .hit in
+          let sp = Se.first-split e (g .0) (flipped-at (At i) (rowOr (rd n))) o in
+          let a : flipped-at (At i) (rowOr (rd n)) ≡ flipped-at (At i) (g .0) = ap (flipped-at (At i)) r in
+          let few : length (flipped-at (At i) (g .0)) ≤ 512 = omega (arith, sym (ap length a) ∙ Se.split-length sp, g .2) in
+          let little : Sl.Small 9223372036854775808 (flipped-at (At i) (g .0)) = rw a at (Sl.small-split sp (g .3)) in
+          to (stage-does n i (g .0) few little (g .1)) (ap (λ (l : List ℤ). on-hit (record { at = n; new = l })) (sym a))
+
+      by-low : (seen : Bool) (X : Res ℕ) → St.halve rd t spills 0 spills ≡ X
+          → Does (after-search E w cap t d seen (lowOf X)) (andThen X (λ lo. andThen (St.walk 511 rd e lo seen) on-hit))
+      by-low seen (refused k) y = no k
+      by-low seen (done lo) y =
+          let m = Se.halve-le rd t spills 0 spills lo (omega arith) y in
+          to (by-walk lo seen m (walk-from (look-at E w t d) lo seen) refl)
+          (ap (λ (u : Res St.Hit). andThen u on-hit) (walk-same (look-at E w t d) rd t d spills (look-same t d) lo seen m))
+
+      rows-does : (seen : Bool) → seen ≡ seenIn t heads → Does (in-rows E w cap t d spills seen) (St.flipRows W (abs b) (boxes p) e)
+      unfolding in-rows
+      rows-does seen u =
+          let z : spills - 0 ≡ spills = omega arith in
+          let a : search-in (lead-at E w) t 0 spills ≡ lowOf (St.halve rd t spills 0 spills)
+          = ap (λ (k : ℕ). search-by (lead-at E w) t k 0 spills) z ∙ search-same (lead-at E w) rd t spills lead-same spills 0 spills (omega arith) in
+          to (from (ap (after-search E w cap t d seen) a) (by-low seen (St.halve rd t spills 0 spills) refl))
+          (ap (λ (s : Bool). andThen (St.halve rd t spills 0 spills) (λ lo. andThen (St.walk 511 rd e lo s) on-hit)) u
+          ∙ sym (λ i. andThen (St.halve rd (copy-abs d t i) spills 0 spills) (λ lo. andThen (St.walk 511 rd e lo (seenIn (copy-abs d t i) heads)) on-hit)))
+
+      by-place : (P : Position) → position d t heads 0 false ≡ P → Does (head-first P (λ seen. in-rows E w cap t d spills seen)) (St.flipHead W (abs b) (boxes p) e (newOf P heads))
+      by-place (At i) y = head-does i (rw y at (first-in d t heads))
+      by-place Seen y = rows-does true (sym (first-seen d t heads ∙ ap isSeen y))
+      by-place Absent y = rows-does false (sym (first-seen d t heads ∙ ap isSeen y))
+
+      order-does : Does (in-order E w cap t d spills heads) (St.flipHead W (abs b) (boxes p) e (flipFirst e heads))
+      unfolding in-order
+      order-does = to (by-place (position d t heads 0 false) refl) (ap (St.flipHead W (abs b) (boxes p) e) (sym (first-new d t heads)))
+
+    module _ (z : ℤ) (d : Direction) where
+      abbrev e₁ : ℤ
+      e₁ = copyOf (spends d) (natAbs z)
+
+      by-order : (u : Bool) → Does (cond u (in-order E w cap (natAbs z) (spends d) spills heads) (refuse 10)) (whenB u (St.flipHead W (abs b) (boxes p) e₁ (flipFirst e₁ heads)) (refused 10))
+      by-order true = order-does (natAbs z) (spends d)
+      by-order false = no 10
+
+      by-large : (u : Bool) (y : Effect) (Y : Res (St.Store W)) → Does y Y → Does (cond u (refuse 9) y) (cond u (refused 9) Y)
+      by-large true y Y D = no 9
+      by-large false y Y D = D
+
+      effect-does : Does (flip-effect E w cap d z (q .head .spills) heads) (ite (decLe 9223372036854775808 (natAbs z)) (refused 9) (St.doFlip W (abs b) (boxes p) e₁))
+      unfolding flip-effect
+      effect-does =
+          rw (I .not-below (boxes p))
+          (to (by-large (leb 9223372036854775808 (natAbs z)) (cond (order-ok heads) (in-order E w cap (natAbs z) (spends d) spills heads) (refuse 10)) (St.doFlip W (abs b) (boxes p) e₁)
+          (to (by-order (order-ok heads)) (ap (λ (u : Bool). whenB u (St.flipHead W (abs b) (boxes p) e₁ (flipFirst e₁ heads)) (refused 10)) (order-same 0 heads small))))
+          (sym (ite-le 9223372036854775808 (natAbs z) (decLe 9223372036854775808 (natAbs z)) (refused 9) (St.doFlip W (abs b) (boxes p) e₁))))
+
+    ok : flip-ok E (q .head) c (x .staged) (x .table-counts) (x .table) (q .places) ≡ true
+    unfolding flip-ok
+    ok = and-true (head-ok (q .head) (q .places)) _ (I .heads-in (boxes p))
+        (and-true (records-ok (E .size) (E .limit) c (x .staged)) (records-ok (E .size) (E .limit) (x .table-counts) (x .table)) (records-ok-test _ _ _ _ (lf .in-staged)) (records-ok-test _ _ _ _ (lf .in-table)))
+
+    pub record FlipDoes (X : Res Index) (Y : Res (St.Store W)) : Type 0 where
+      pub same : mapRes abs X ≡ Y
+      pub keeps : (d : Index) → X ≡ done d → Inv d
+
+    flip-does : (d : Direction) (z : ℤ) → FlipDoes (do-flip E ids d b p z) (ite (decLe 9223372036854775808 (natAbs z)) (refused 9) (St.doFlip W (abs b) (boxes p) (copyOf (spends d) (natAbs z))))
+    unfolding flip-of flip-core
+    flip-does d z = rw ok (record { same = effect-does z d .same; keeps = effect-does z d .keeps })
+
+    pub spend-does : (z : ℤ) → FlipDoes (do-flip E ids Spend b p z) (St.doSpend W (abs b) p z)
+    spend-does z = flip-does Spend z
+
+    pub unspend-does : (z : ℤ) → FlipDoes (do-flip E ids Unspend b p z) (St.doUnspend W (abs b) p z)
+    unspend-does z = flip-does Unspend z

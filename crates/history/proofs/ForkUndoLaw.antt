@@ -1,0 +1,12 @@
+-- The fork-undo theorem.
+use Rattle.buffer_core.specs.Edition.{edition-1}
+use Rattle.balance_laws.proofs.Laws as Bl
+use Rattle.history.specs.ForkUndo.{Theorem}
+use Rattle.history.proofs.EditionOne.{edition-1-laws}
+use Rattle.history.proofs.IndexTheorem as Ix
+
+pub fork-undo : Theorem
+fork-undo ids B s =
+    let Q = Bl.balances (s .ids) (s .amounts) (s .ids-in) (s .amounts-in) in
+    Ix.index-theorem edition-1 edition-1-laws ids B Q (Bl.Good (s .ids) (s .amounts) (s .ids-in) (s .amounts-in))
+    (Bl.laws (s .ids) (s .amounts) (s .ids-in) (s .amounts-in) (Ix.W edition-1 edition-1-laws ids B Q))

@@ -1,0 +1,12 @@
+pub mod Tables
+pub mod State
+pub mod Lists
+pub mod AppendSim
+pub mod PopSim
+pub mod FlushSim
+pub mod FlipLists
+pub mod FlipSim
+pub mod Sim
+pub mod IndexTheorem
+pub mod EditionOne
+pub mod ForkUndoLaw

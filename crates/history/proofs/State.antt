@@ -1,0 +1,162 @@
+-- What the index in bytes stands for: heads, spill counts and tables; and what holds of it between calls.
+use mathlib.Core.Path.{_≡_, refl, sym, _∙_, ap, fun-ext}
+use mathlib.Core.List.{List, [], _∷_, _++_, map, List·Memᴰ}
+use mathlib.Core.Bool.{Bool, true, false, cond, _&&_}
+use Prim.Native.Nat.{ℕ, zero, suc, _+_, _*_, _-_, _≤_, _<_}
+use native.Mathlib.Omega.{arith}
+use lib.Dec.{leb}
+use lib.IntN.{ℤ, pos, natAbs}
+use lib.ListN.{length, take}
+use borrow.Author.Tests.{leb-true, le-leb}
+use Rattle.signed.specs.Sign.{is-negative}
+use Rattle.records.specs.declared.ListCounts.{ListCounts}
+use Rattle.records.specs.Records.{records, keys}
+use Rattle.records.specs.Checks.{records-ok, keys-ok, RecordsOk, KeysOk}
+use Rattle.records.proofs.CheckLaws.{and-left, and-right, and-true, records-ok-facts, keys-ok-facts, records-ok-test, keys-ok-test}
+use Rattle.segment_id.specs.declared.Kind.{Kind}
+use Rattle.segment_id.specs.declared.Kind.the-variants.{Box, Tx}
+use Rattle.buffer_core.specs.declared.HeadCounts.{HeadCounts}
+use Rattle.buffer_core.specs.Edition.{Edition, RowRead, bad, good}
+use Rattle.buffer_core.specs.Spills.{head-ok}
+use Rattle.buffer_core.specs.Pop.{Lists, lists-ok}
+use Rattle.ledger.specs.Ledger.{Parent, Series, boxes, txs, parentOf, series-dec, ite, id-dec}
+use Rattle.fork_model.proofs.Store as St
+use Rattle.history.specs.Index.{Part, part, Index, kind-of, set-part, to-res, id-of}
+use Rattle.history.proofs.Tables.{Bytes, Table, tab}
+
+abbrev pub Small : List ℤ → Type 0
+Small l = (x : ℤ) → List·Memᴰ x l → natAbs x < 9223372036854775808
+
+-- what is asked of an edition
+pub record EditionLaws (E : Edition) : Type 0 where
+  pub wide : 34 + E .limit ≤ E .size
+  pub short : E .size < 65536
+  pub key-length : (k : Kind) (p : List ℕ) (n : ℤ) → length (E .key k p n) ≡ 32
+  pub encode-length : (k : Kind) (l : List ℤ) → length l ≤ 512 → Small l → length (E .encode k l) ≤ E .limit
+  pub decode-encode : (k : Kind) (l : List ℤ) → length l ≤ 512 → Small l → E .decode k (E .encode k l) ≡ good l
+  pub redo-length : (row : List ℕ) (l new : List ℤ) → E .decode Box row ≡ good l → length new ≤ 512 → Small new → length (E .with-boxes row new) ≤ E .limit
+  pub redo-decode : (row : List ℕ) (l new : List ℤ) → E .decode Box row ≡ good l → length new ≤ 512 → Small new → E .decode Box (E .with-boxes row new) ≡ good new
+  pub decode-few : (k : Kind) (row : List ℕ) (l : List ℤ) → E .decode k row ≡ good l → length l ≤ 512
+
+-- ---- the three lists that pass 25
+pub record ListsFit (E : Edition) (b : Lists) : Type 0 where
+  pub in-staged : RecordsOk (E .size) (E .limit) (b .staged-counts) (b .staged)
+  pub in-table : RecordsOk (E .size) (E .limit) (b .table-counts) (b .table)
+  pub in-deleted : KeysOk (b .deleted-counts) (b .deleted)
+
+module _ (E : Edition) (b : Lists) where
+  abbrev A : Bool
+  A = records-ok (E .size) (E .limit) (b .staged-counts) (b .staged)
+
+  abbrev B : Bool
+  B = records-ok (E .size) (E .limit) (b .table-counts) (b .table)
+
+  abbrev D : Bool
+  D = keys-ok (b .deleted-counts) (b .deleted)
+
+  pub lists-fit : lists-ok E b ≡ true → ListsFit E b
+  unfolding lists-ok
+  lists-fit h = record {
+    in-staged = records-ok-facts _ _ _ _ (and-left A (B && D) h);
+    in-table = records-ok-facts _ _ _ _ (and-left B D (and-right A (B && D) h));
+    in-deleted = keys-ok-facts _ _ (and-right B D (and-right A (B && D) h));
+  }
+
+  pub fit-lists : ListsFit E b → lists-ok E b ≡ true
+  unfolding lists-ok
+  fit-lists f = and-true A (B && D) (records-ok-test _ _ _ _ (f .in-staged)) (and-true B D (records-ok-test _ _ _ _ (f .in-table)) (keys-ok-test _ _ (f .in-deleted)))
+
+-- ---- a head that passes 25
+pub record HeadFits (p : Part) : Type 0 where
+  pub len-in : p .head .len ≤ 512
+  pub places-in : 512 ≤ length (p .places)
+
+pub head-fits : (p : Part) → head-ok (p .head) (p .places) ≡ true → HeadFits p
+head-fits p h =
+    let a = leb (p .head .len) 512 in
+    let b = leb 512 (length (p .places)) in
+    record { len-in = leb-true _ _ (and-left a b h); places-in = leb-true _ _ (and-right a b h) }
+
+pub fit-head : (p : Part) → p .head .len ≤ 512 → 512 ≤ length (p .places) → head-ok (p .head) (p .places) ≡ true
+fit-head p h k = and-true (leb (p .head .len) 512) (leb 512 (length (p .places))) (le-leb _ _ h) (le-leb _ _ k)
+
+-- ---- the tables
+module _ (E : Edition) (ids : Parent → List ℕ) (table-cap staged-cap deleted-cap : ℕ) where
+  abbrev pub key-of-spill : Series → ℕ → List ℕ
+  key-of-spill ch s = E .key (kind-of ch) (id-of E ids ch) (pos s)
+
+  -- a row with other numbers of its kind
+  abbrev pub redone : Series → List ℕ → List ℤ → List ℕ
+  redone (boxes p) row l = E .with-boxes row l
+  redone (txs p) row l = E .encode Tx l
+
+  abbrev pub env : St.Env
+  env = record {
+    r = 511;
+    lim = 9223372036854775808;
+    Key = Bytes;
+    key-dec = id-dec;
+    key = key-of-spill;
+    Row = Bytes;
+    enc = λ ch l. E .encode (kind-of ch) l;
+    dec = λ ch row. to-res (E .decode (kind-of ch) row);
+    redo = redone;
+    shelfCap = table-cap;
+    stagCap = staged-cap;
+    delCap = deleted-cap;
+    maxCount = 2147483647;
+  }
+
+  abbrev pub head-of : Part → List ℤ
+  head-of p = take (p .head .len) (p .places)
+
+  abbrev pub spills-of : Part → ℕ
+  spills-of p = natAbs (p .head .spills)
+
+  abbrev pub abs : Index → St.Store env
+  abs b = record {
+    heads = λ ch. head-of (b .parts ch);
+    counts = λ ch. spills-of (b .parts ch);
+    staging = tab (records (E .size) (b .lists .staged-counts .count) (b .lists .staged));
+    shelf = tab (records (E .size) (b .lists .table-counts .count) (b .lists .table));
+    deletion = keys 32 (b .lists .deleted-counts .count) (b .lists .deleted);
+  }
+
+  -- between calls: 25 does not arise, and no spill count is negative or above the greatest
+  pub record Inv (b : Index) : Type 0 where
+    pub heads-in : (ch : Series) → head-ok (b .parts ch .head) (b .parts ch .places) ≡ true
+    pub not-below : (ch : Series) → is-negative (b .parts ch .head .spills) ≡ false
+    pub spills-in : (ch : Series) → spills-of (b .parts ch) ≤ 2147483647
+    pub lists-in : lists-ok E (b .lists) ≡ true
+    pub table-at : b .lists .table-counts .capacity ≡ table-cap
+    pub staged-at : b .lists .staged-counts .capacity ≡ staged-cap
+    pub deleted-at : b .lists .deleted-counts .capacity ≡ deleted-cap
+
+-- ---- a function of the part that is set
+push-at : {A : Type 0} (f : Part → A) (g : Series → Part) (ch d : Series) (v : Part) (w : Dec (ch ≡ d)) → f (ite w v (g d)) ≡ ite w (f v) (f (g d))
+unfolding ite
+push-at f g ch d v (yes e) = refl
+push-at f g ch d v (no n) = refl
+
+push-set : {A : Type 0} (f : Part → A) (g : Series → Part) (ch : Series) (v : Part) → _≡_ {A = Series → A} (λ d. f (set-part g ch v d)) (λ d. ite (series-dec ch d) (f v) (f (g d)))
+push-set f g ch v = fun-ext (λ d. push-at f g ch d v (series-dec ch d))
+
+pub push-to : {A : Type 0} (f : Part → A) (g : Series → Part) (ch : Series) (v : Part) (a : A) → f v ≡ a → _≡_ {A = Series → A} (λ d. f (set-part g ch v d)) (λ d. ite (series-dec ch d) a (f (g d)))
+push-to {A} f g ch v a e = push-set f g ch v ∙ ap {B = Series → A} (λ x d. ite (series-dec ch d) x (f (g d))) e
+
+pub all-set : (Q : Part → Type 0) (g : Series → Part) (ch : Series) (v : Part) → Q v → ((d : Series) → Q (g d)) → (d : Series) → Q (set-part g ch v d)
+unfolding ite
+all-set Q g ch v q h d = by-dec (series-dec ch d)
+  where
+    by-dec : (w : Dec (ch ≡ d)) → Q (ite w v (g d))
+    by-dec (yes e) = q
+    by-dec (no n) = h d
+
+-- a function that the new part does not change
+same-at : {A : Type 0} (f : Part → A) (g : Series → Part) (ch d : Series) (v : Part) → f v ≡ f (g ch) → (w : Dec (ch ≡ d)) → f (ite w v (g d)) ≡ f (g d)
+unfolding ite
+same-at f g ch d v q (yes e) = q ∙ ap (λ (x : Series). f (g x)) e
+same-at f g ch d v q (no n) = refl
+
+pub same-set : {A : Type 0} (f : Part → A) (g : Series → Part) (ch : Series) (v : Part) → f v ≡ f (g ch) → _≡_ {A = Series → A} (λ d. f (set-part g ch v d)) (λ d. f (g d))
+same-set f g ch v q = fun-ext (λ d. same-at f g ch d v q (series-dec ch d))

@@ -1,0 +1,184 @@
+-- The plain record of document 01: calls, standing list (newest first), its content, and the history rules.
+use mathlib.Core.Path.{_≡_, refl, sym, _∙_, ap}
+use mathlib.Core.Logic.{_⊎_, inl, inr, _≢_}
+use mathlib.Core.HLevel.{Discrete}
+use mathlib.Core.List.{List, [], _∷_, _++_, map, List·Memᴰ, append-assoc, nil≢cons, head-eq-of-cons-eq, tail-eq-of-cons-eq}
+use Prim.Native.Nat.{ℕ, zero, suc, _+_, _*_, _≤_, _<_}
+use native.Mathlib.Omega.{arith}
+use native.Mathlib.Decide.{ℕ-discrete}
+use lib.IntN.{ℤ, pos, negsuc, negℤ, natAbs, _+ℤ_, _-ℤ_}
+use lib.Signed.{_≤ℤ_, mag}
+use lib.ListN.{length}
+
+-- ids of parents and of tokens: 32 bytes
+abbrev pub TokenId : Type 0
+TokenId = List ℕ
+
+name-step : {x y : ℕ} {xs ys : TokenId} → Dec (x ≡ y) → Dec (xs ≡ ys) → Dec (_≡_ {A = TokenId} (x ∷ xs) (y ∷ ys))
+name-step (yes p) (yes q) = yes (λ i. p i ∷ q i)
+name-step (yes p) (no n) = no (λ e. n (tail-eq-of-cons-eq e))
+name-step (no n) q = no (λ e. n (head-eq-of-cons-eq e))
+
+-- (List-discrete of mathlib does not unfold: definitions that are to compute have their own)
+unfoldable pub id-dec : Discrete TokenId
+unfolding name-step ℕ-discrete
+id-dec [] [] = yes refl
+id-dec [] (y ∷ ys) = no (λ e. nil≢cons e)
+id-dec (x ∷ xs) [] = no (λ e. nil≢cons (sym e))
+id-dec (x ∷ xs) (y ∷ ys) = name-step (ℕ-discrete x y) (id-dec xs ys)
+
+pos-step : {m n : ℕ} → Dec (m ≡ n) → Dec (pos m ≡ pos n)
+pos-step (yes p) = yes (ap pos p)
+pos-step (no f) = no (λ q. f (ap natAbs q))
+
+neg-step : {m n : ℕ} → Dec (m ≡ n) → Dec (negsuc m ≡ negsuc n)
+neg-step (yes p) = yes (ap negsuc p)
+neg-step {m} {n} (no f) = no (λ q. let z : suc m ≡ suc n = ap natAbs q in f (omega arith))
+
+unfoldable pub int-dec : Discrete ℤ
+unfolding pos-step neg-step ℕ-discrete
+int-dec (pos m) (pos n) = pos-step (ℕ-discrete m n)
+int-dec (pos m) (negsuc n) = no (λ e. let z : _≡_ {A = ℕ} 0 1 = cc in omega arith)
+int-dec (negsuc m) (pos n) = no (λ e. let z : _≡_ {A = ℕ} 0 1 = cc in omega arith)
+int-dec (negsuc m) (negsuc n) = neg-step (ℕ-discrete m n)
+
+-- a parent, by its place among the parents: two of them may carry the same id
+abbrev pub Parent : Type 0
+Parent = ℕ
+
+abbrev pub parent-dec : Discrete Parent
+parent-dec = ℕ-discrete
+
+-- a parent's list of one kind
+pub data Series : Type 0 where
+  boxes : Parent → Series
+  txs : Parent → Series
+
+abbrev pub parentOf : Series → Parent
+parentOf (boxes p) = p
+parentOf (txs p) = p
+
+isBoxes : Series → ℕ
+isBoxes (boxes p) = 1
+isBoxes (txs p) = 0
+
+unfoldable pub ite {ℓ} : {P : Type 0} {A : Type ℓ} → Dec P → A → A → A
+ite (yes p) a b = a
+ite (no n) a b = b
+
+pub ite-yes {ℓ} : {P : Type 0} {A : Type ℓ} (d : Dec P) (a b : A) → P → ite d a b ≡ a
+unfolding ite
+ite-yes (yes p) a b h = refl
+ite-yes (no n) a b h = absurd (n h)
+
+pub ite-no {ℓ} : {P : Type 0} {A : Type ℓ} (d : Dec P) (a b : A) → (P → ⊥) → ite d a b ≡ b
+unfolding ite
+ite-no (yes p) a b h = absurd (h p)
+ite-no (no n) a b h = refl
+
+pub boxes-inj : {p q : Parent} → boxes p ≡ boxes q → p ≡ q
+boxes-inj e = ap parentOf e
+
+pub txs-inj : {p q : Parent} → txs p ≡ txs q → p ≡ q
+txs-inj e = ap parentOf e
+
+onBoxes : {p q : Parent} → Dec (p ≡ q) → Dec (boxes p ≡ boxes q)
+onBoxes (yes e) = yes (ap boxes e)
+onBoxes (no n) = no (λ e. n (boxes-inj e))
+
+onTxs : {p q : Parent} → Dec (p ≡ q) → Dec (txs p ≡ txs q)
+onTxs (yes e) = yes (ap txs e)
+onTxs (no n) = no (λ e. n (txs-inj e))
+
+pub boxes≢txs : {p q : Parent} → boxes p ≡ txs q → ⊥
+boxes≢txs e = let z : _≡_ {A = ℕ} 0 1 = cc in omega arith
+
+unfoldable pub series-dec : Discrete Series
+unfolding onBoxes onTxs ℕ-discrete
+series-dec (boxes p) (boxes q) = onBoxes (ℕ-discrete p q)
+series-dec (boxes p) (txs q) = no (λ e. boxes≢txs e)
+series-dec (txs p) (boxes q) = no (λ e. boxes≢txs (sym e))
+series-dec (txs p) (txs q) = onTxs (ℕ-discrete p q)
+
+-- tokens of a box: ids with amounts
+abbrev pub Tokens : Type 0
+Tokens = List (TokenId × ℤ)
+
+pub data Call : Type 0 where
+  append : Series → ℤ → Call
+  spend : Parent → ℤ → Call
+  credit : Parent → ℤ → Tokens → Call
+  debit : Parent → ℤ → Tokens → Call
+
+-- the number without its sign, as a signed number
+abbrev pub absℤ : ℤ → ℤ
+absℤ z = pos (natAbs z)
+
+-- the sum of the amounts of one id
+abbrev pub sumOf : TokenId → Tokens → ℤ
+sumOf t [] = pos 0
+sumOf t (x ∷ xs) = ite (id-dec (x .0) t) (x .1 +ℤ sumOf t xs) (sumOf t xs)
+
+-- CONTENT of the plain record: what the standing calls (newest first) give
+abbrev pub ledger-numbers : List Call → Series → List ℤ
+ledger-numbers [] ch = []
+ledger-numbers (append d n ∷ cs) ch = ite (series-dec d ch) (ledger-numbers cs ch ++ (n ∷ [])) (ledger-numbers cs ch)
+ledger-numbers (spend p t ∷ cs) ch = ledger-numbers cs ch
+ledger-numbers (credit p n ts ∷ cs) ch = ledger-numbers cs ch
+ledger-numbers (debit p n ts ∷ cs) ch = ledger-numbers cs ch
+
+abbrev pub ledger-spent : List Call → Parent → ℕ → ℕ
+ledger-spent [] p n = 0
+ledger-spent (append d m ∷ cs) p n = ledger-spent cs p n
+ledger-spent (spend q t ∷ cs) p n = ite (parent-dec q p) (ite (ℕ-discrete (natAbs t) n) (suc (ledger-spent cs p n)) (ledger-spent cs p n)) (ledger-spent cs p n)
+ledger-spent (credit q m ts ∷ cs) p n = ledger-spent cs p n
+ledger-spent (debit q m ts ∷ cs) p n = ledger-spent cs p n
+
+abbrev pub ledger-nanos : List Call → Parent → ℤ
+ledger-nanos [] p = pos 0
+ledger-nanos (append d m ∷ cs) p = ledger-nanos cs p
+ledger-nanos (spend q t ∷ cs) p = ledger-nanos cs p
+ledger-nanos (credit q m ts ∷ cs) p = ite (parent-dec q p) (ledger-nanos cs p +ℤ m) (ledger-nanos cs p)
+ledger-nanos (debit q m ts ∷ cs) p = ite (parent-dec q p) (ledger-nanos cs p -ℤ m) (ledger-nanos cs p)
+
+abbrev pub ledger-amount : List Call → Parent → TokenId → ℤ
+ledger-amount [] p t = pos 0
+ledger-amount (append d m ∷ cs) p t = ledger-amount cs p t
+ledger-amount (spend q s ∷ cs) p t = ledger-amount cs p t
+ledger-amount (credit q m ts ∷ cs) p t = ite (parent-dec q p) (ledger-amount cs p t +ℤ sumOf t ts) (ledger-amount cs p t)
+ledger-amount (debit q m ts ∷ cs) p t = ite (parent-dec q p) (ledger-amount cs p t -ℤ sumOf t ts) (ledger-amount cs p t)
+
+-- HISTORY RULES
+abbrev pub AllPos : Tokens → Type 0
+AllPos [] = Unit {0}
+AllPos (x ∷ xs) = (pos 1 ≤ℤ x .1) × AllPos xs
+
+pub record BoxRule (cs : List Call) (p : Parent) (n : ℤ) : Type 0 where
+  pub rises : (m : ℤ) → List·Memᴰ m (ledger-numbers cs (boxes p)) → natAbs m ≤ natAbs n
+  pub unspent : ledger-spent cs p (natAbs n) ≡ 0
+
+-- arguments as the calls take them: ids of 32 bytes, amounts of 64 signed bits
+abbrev pub Typed : Tokens → Type 0
+Typed [] = Unit {0}
+Typed (x ∷ xs) = (length (x .0) ≡ 32) × (mag (x .1) < 9223372036854775808) × Typed xs
+
+pub record CreditRule (n : ℤ) (ts : Tokens) : Type 0 where
+  pub nonneg : pos 0 ≤ℤ n
+  pub allpos : AllPos ts
+
+pub record DebitRule (cs : List Call) (p : Parent) (n : ℤ) (ts : Tokens) : Type 0 where
+  pub nonneg : pos 0 ≤ℤ n
+  pub allpos : AllPos ts
+  pub within : n ≤ℤ ledger-nanos cs p
+  pub held : (t : TokenId) → sumOf t ts ≤ℤ ledger-amount cs p t
+
+abbrev pub Rule : Call → List Call → Type 0
+Rule (append (boxes p) n) cs = BoxRule cs p n
+Rule (append (txs p) n) cs = Unit {0}
+Rule (spend p t) cs = Unit {0}
+Rule (credit p n ts) cs = CreditRule n ts
+Rule (debit p n ts) cs = DebitRule cs p n ts
+
+abbrev pub Rules : List Call → Type 0
+Rules [] = Unit {0}
+Rules (c ∷ cs) = Rule c cs × Rules cs

@@ -1,0 +1,145 @@
+-- One law for each way out of a public call, and what a passed test of refusal 25 gives its core.
+use Prim.Native.Nat.{ℕ, _≤_}
+use mathlib.Core.Path.{_≡_, refl, sym, ap, _∙_}
+use mathlib.Core.Bool.{Bool, true, false, _&&_, cond}
+use mathlib.Core.List.{List}
+use lib.Dec.{leb}
+use lib.IntN.{ℤ}
+use lib.ListN.{length}
+use borrow.Author.Tests.{leb-true}
+use Rattle.records.specs.declared.ListCounts.{ListCounts}
+use Rattle.records.specs.Checks.{InBounds, records-ok, keys-ok}
+use Rattle.records.proofs.CheckLaws.{and-left, and-right, records-ok-facts, keys-ok-facts}
+use Rattle.segment_id.specs.declared.Kind.{Kind}
+use Rattle.buffer_core.specs.declared.HeadCounts.{HeadCounts}
+use Rattle.buffer_core.specs.declared.Appended.the-variants as appended
+use Rattle.buffer_core.specs.declared.Popped.{Popped}
+use Rattle.buffer_core.specs.declared.Popped.the-variants as popped
+use Rattle.buffer_core.specs.Edition.{edition-1}
+use Rattle.buffer_core.specs.Spills.{head-ok}
+use Rattle.buffer_core.specs.Append.{Appending, appending, append-ok, append-core, append-of}
+use Rattle.buffer_core.specs.Pop.{Popping, popping, Lists, lists-ok, pop-ok, pop-core, pop-of}
+use Rattle.buffer_core.specs.declared.Direction.{Direction}
+use Rattle.buffer_core.specs.declared.Flipped.the-variants as flipped
+use Rattle.buffer_core.specs.declared.Flushed.the-variants as flushed
+use Rattle.buffer_core.specs.Flip.{Flipping, flipping, flip-ok, flip-core, flip-of}
+use Rattle.buffer_core.specs.Flush.{Flushing, flushing, flush-core, flush-of}
+use Rattle.append_core.specs.Ready.{AppendReady}
+use Rattle.pop_core.specs.Ready.{PopReady}
+use Rattle.flip_core.specs.Ready.{FlipReady}
+use Rattle.flush_core.specs.Steps.{FlushReady}
+
+-- ---- heads
+
+module _ (h : HeadCounts) (head : List ℤ) (ok : head-ok h head ≡ true) where
+  pub head-few : h .len ≤ 512
+  head-few = leb-true (h .len) 512 (and-left (leb (h .len) 512) (leb 512 (length head)) ok)
+
+  pub head-long : 512 ≤ length head
+  head-long = leb-true 512 (length head) (and-right (leb (h .len) 512) (leb 512 (length head)) ok)
+
+-- ---- append
+
+module _ (kind : Kind) (parent : List ℕ) (h : HeadCounts) (number : ℤ) (c : ListCounts) (head : List ℤ) (staged : List ℕ) where
+  pub append-25 : append-ok edition-1 h c head staged ≡ false → appending (appended.Refused 25) head staged ≡ append-of edition-1 kind parent h number c head staged
+  unfolding append-of
+  append-25 e = rw e
+
+  pub append-goes : append-ok edition-1 h c head staged ≡ true → (o : Appending) → o ≡ append-core edition-1 kind parent h number c head staged
+      → o ≡ append-of edition-1 kind parent h number c head staged
+  unfolding append-of
+  append-goes e o d = rw e d
+
+pub append-ready : (h : HeadCounts) (c : ListCounts) (head : List ℤ) (staged : List ℕ) → append-ok edition-1 h c head staged ≡ true → AppendReady h c head staged
+unfolding append-ok
+append-ready h c head staged e =
+    let a : Bool = head-ok h head in
+    let b : Bool = records-ok 10288 10254 c staged in
+    let k = and-left a b e in
+    record { few = head-few h head k; long = head-long h head k; bounds = records-ok-facts 10288 10254 c staged (and-right a b e) .bounds }
+
+-- ---- the three lists
+
+pub record ListsIn (b : Lists) : Type 0 where
+  pub in-staged : InBounds 10288 (b .staged-counts) (b .staged)
+  pub in-table : InBounds 10288 (b .table-counts) (b .table)
+  pub in-deleted : InBounds 32 (b .deleted-counts) (b .deleted)
+
+pub lists-in : (b : Lists) → lists-ok edition-1 b ≡ true → ListsIn b
+unfolding lists-ok
+lists-in b e =
+    let x : Bool = records-ok 10288 10254 (b .staged-counts) (b .staged) in
+    let y : Bool = records-ok 10288 10254 (b .table-counts) (b .table) in
+    let z : Bool = keys-ok (b .deleted-counts) (b .deleted) in
+    let r = and-right x (y && z) e in
+    record {
+      in-staged = records-ok-facts 10288 10254 (b .staged-counts) (b .staged) (and-left x (y && z) e) .bounds;
+      in-table = records-ok-facts 10288 10254 (b .table-counts) (b .table) (and-left y z r) .bounds;
+      in-deleted = keys-ok-facts (b .deleted-counts) (b .deleted) (and-right y z r) .bounds;
+    }
+
+-- ---- pop
+
+module _ (kind : Kind) (parent : List ℕ) (h : HeadCounts) (b : Lists) (head : List ℤ) where
+  pub pop-25 : pop-ok edition-1 h b head ≡ false → popping (popped.Refused 25) head (b .staged) (b .deleted) ≡ pop-of edition-1 kind parent h b head
+  unfolding pop-of
+  pop-25 e = rw e
+
+  pub pop-goes : pop-ok edition-1 h b head ≡ true → (o : Popping) → o ≡ pop-core edition-1 kind parent h b head → o ≡ pop-of edition-1 kind parent h b head
+  unfolding pop-of
+  pop-goes e o d = rw e d
+
+pub pop-ready : (h : HeadCounts) (b : Lists) (head : List ℤ) → pop-ok edition-1 h b head ≡ true → (h .len ≤ 512) × PopReady b head
+unfolding pop-ok
+pop-ready h b head e =
+    let k = and-left (head-ok h head) (lists-ok edition-1 b) e in
+    let l = lists-in b (and-right (head-ok h head) (lists-ok edition-1 b) e) in
+    (head-few h head k, record { long = head-long h head k; in-staged = l .in-staged; in-table = l .in-table; in-deleted = l .in-deleted })
+
+-- ---- spend and unspend
+
+module _ (d : Direction) (parent : List ℕ) (h : HeadCounts) (target : ℤ) (c : ListCounts) (staged : List ℕ) (e : ListCounts) (table : List ℕ) (head : List ℤ) where
+  pub flip-25 : flip-ok edition-1 h c staged e table head ≡ false → flipping (flipped.Refused 25) head staged ≡ flip-of edition-1 d parent h target c staged e table head
+  unfolding flip-of
+  flip-25 q = rw q
+
+  pub flip-goes : flip-ok edition-1 h c staged e table head ≡ true → (o : Flipping) → o ≡ flip-core edition-1 d parent h target c staged e table head
+      → o ≡ flip-of edition-1 d parent h target c staged e table head
+  unfolding flip-of
+  flip-goes q o f = rw q f
+
+pub flip-ready : (h : HeadCounts) (c : ListCounts) (staged : List ℕ) (e : ListCounts) (table : List ℕ) (head : List ℤ) → flip-ok edition-1 h c staged e table head ≡ true
+    → FlipReady h c staged e table head
+unfolding flip-ok
+flip-ready h c staged e table head q =
+    let x : Bool = head-ok h head in
+    let y : Bool = records-ok 10288 10254 c staged in
+    let z : Bool = records-ok 10288 10254 e table in
+    let k = and-left x (y && z) q in
+    let r = and-right x (y && z) q in
+    record {
+      few = head-few h head k;
+      long = head-long h head k;
+      bounds = records-ok-facts 10288 10254 c staged (and-left y z r) .bounds;
+      table-bounds = records-ok-facts 10288 10254 e table (and-right y z r) .bounds;
+    }
+
+-- ---- flush
+
+module _ (b : Lists) where
+  pub flush-25 : lists-ok edition-1 b ≡ false → flushing (flushed.Refused 25) (b .table) (b .staged) (b .deleted) ≡ flush-of edition-1 b
+  unfolding flush-of
+  flush-25 e = rw e
+
+  pub flush-goes : lists-ok edition-1 b ≡ true → (o : Flushing) → o ≡ flush-core edition-1 b → o ≡ flush-of edition-1 b
+  unfolding flush-of
+  flush-goes e o d = rw e d
+
+  pub flush-ready : lists-ok edition-1 b ≡ true → FlushReady b
+  flush-ready e = let l = lists-in b e in record { in-table = l .in-table; in-staged = l .in-staged; in-deleted = l .in-deleted }
+
+-- ---- the popped number, as the number of a box or of a transaction
+
+pub same-number : (r : Popped) (n : ℤ) (h : HeadCounts) (c d : ListCounts) (head : List ℤ) (staged deleted : List ℕ) (o : Popping) → popping r head staged deleted ≡ o
+    → r ≡ popped.Number n h c d → (m : ℤ) → m ≡ n → popping (popped.Number m h c d) head staged deleted ≡ o
+same-number r n h c d head staged deleted o e f m g = rw (g, ← f) e

@@ -1,0 +1,2 @@
+-- The definitions that the contracts of `segment_buffer` cite beside those of `buffer_core`.
+pub mod Answers
