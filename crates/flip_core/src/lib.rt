@@ -29,7 +29,7 @@ use segment_id::Kind;
 // ---- one row
 
 // Reads the row of a spill number: 512 numbers in order.
-fn read_checked<'a>(
+pub fn read_checked<'a>(
     parent: &[u8; 32],
     number: usize,
     staged: &'a [u8],

@@ -5,7 +5,7 @@ use mathlib.Core.Bool.{Bool, true, false, _&&_, cond}
 use mathlib.Core.List.{List}
 use lib.Dec.{leb}
 use lib.IntN.{ℤ}
-use lib.ListN.{length}
+use lib.ListN.{length, take}
 use borrow.Author.Tests.{leb-true}
 use Rattle.records.specs.declared.ListCounts.{ListCounts}
 use Rattle.records.specs.Checks.{InBounds, records-ok, keys-ok}
@@ -24,6 +24,10 @@ use Rattle.buffer_core.specs.declared.Flipped.the-variants as flipped
 use Rattle.buffer_core.specs.declared.Flushed.the-variants as flushed
 use Rattle.buffer_core.specs.Flip.{Flipping, flipping, flip-ok, flip-core, flip-of}
 use Rattle.buffer_core.specs.Flush.{Flushing, flushing, flush-core, flush-of}
+use Rattle.buffer_core.specs.declared.Tallied.{Tallied}
+use Rattle.buffer_core.specs.declared.Tallied.the-variants as tallied
+use Rattle.buffer_core.specs.Spills.{sources}
+use Rattle.buffer_core.specs.Tally.{tally-core, tally-of}
 use Rattle.append_core.specs.Ready.{AppendReady}
 use Rattle.pop_core.specs.Ready.{PopReady}
 use Rattle.flip_core.specs.Ready.{FlipReady}
@@ -143,3 +147,15 @@ module _ (b : Lists) where
 pub same-number : (r : Popped) (n : ℤ) (h : HeadCounts) (c d : ListCounts) (head : List ℤ) (staged deleted : List ℕ) (o : Popping) → popping r head staged deleted ≡ o
     → r ≡ popped.Number n h c d → (m : ℤ) → m ≡ n → popping (popped.Number m h c d) head staged deleted ≡ o
 same-number r n h c d head staged deleted o e f m g = rw (g, ← f) e
+
+-- ---- tally
+
+module _ (parent : List ℕ) (h : HeadCounts) (c : ListCounts) (staged : List ℕ) (e : ListCounts) (table : List ℕ) (head : List ℤ) where
+  pub tally-25 : flip-ok edition-1 h c staged e table head ≡ false → tallied.Refused 25 ≡ tally-of edition-1 parent h c staged e table head
+  unfolding tally-of
+  tally-25 q = rw q
+
+  pub tally-goes : flip-ok edition-1 h c staged e table head ≡ true → (r : Tallied)
+      → r ≡ tally-core edition-1 (sources parent staged (c .count) table (e .count)) (h .spills) (take (h .len) head) → r ≡ tally-of edition-1 parent h c staged e table head
+  unfolding tally-of
+  tally-goes q r f = rw q f

@@ -9,6 +9,7 @@ ghost use Rattle.buffer_core.specs.Append.{appending, append-ok, append-of};
 ghost use Rattle.buffer_core.specs.Pop.{popping, lists, lists-ok, pop-ok, pop-of};
 ghost use Rattle.buffer_core.specs.Flip.{flipping, flip-ok, flip-of};
 ghost use Rattle.buffer_core.specs.Flush.{flushing, flush-of};
+ghost use Rattle.buffer_core.specs.Tally.{tally-of};
 ghost use Rattle.segment_buffer.specs.Answers.{as-popped-box, as-popped-tx};
 use buffer_core::Appended;
 use buffer_core::Direction;
@@ -16,6 +17,7 @@ use buffer_core::Flipped;
 use buffer_core::Flushed;
 use buffer_core::HeadCounts;
 use buffer_core::Popped;
+use buffer_core::Tallied;
 use records::ListCounts;
 use segment_id::Kind;
 
@@ -385,6 +387,34 @@ pub fn unflip_box_segment_entry(
         table,
         head,
     )
+}
+
+// ---- tally
+
+// How many entries of the boxes are unspent and how many spent, over all rows and the head.
+pub fn tally<'a>(
+    parent: &[u8; 32],
+    counts: HeadCounts,
+    staged_counts: ListCounts,
+    staged: &'a [u8],
+    table_counts: ListCounts,
+    table: &'a [u8],
+    head: &[i64],
+) -> Tallied
+    ensures { λ r. ⌜ r ≡ tally-of edition-1 (now (parent .entry)) counts «staged_counts» (now (staged .entry)) «table_counts» (now (table .entry)) (now (head .entry)) ⌝ }
+{
+    if flip_ok(counts, staged_counts, staged, table_counts, table, head) {
+        return tally_core::tally(
+            parent,
+            counts,
+            staged_counts,
+            staged,
+            table_counts,
+            table,
+            head,
+        );
+    }
+    Tallied::Refused(refusal::BUFFERS)
 }
 
 // ---- flush

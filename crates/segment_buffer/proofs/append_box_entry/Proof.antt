@@ -4,9 +4,6 @@ use Rattle.signed.proofs.SignedLaws.{back}
 use borrow.Author.Needs.{needs}
 use Rattle.segment_buffer.proofs.append_box_entry.Statement.{statement}
 use Rattle.segment_buffer.proofs.append_box_entry.Tie as tie
-use Rattle.segment_buffer.proofs.append_box_entry.Reads as reads
-use Rattle.segment_buffer.proofs.append_box_entry.Lts as lts
-use Rattle.segment_buffer.proofs.append_entry.Reads as append-entry-reads
 
 append-entry-requires : tie.Need-append-entry-requires
 append-entry-requires c κs = search needs

@@ -7,10 +7,6 @@ use Rattle.segment_buffer.proofs.CallLaws.{append-25, append-goes, appe
 use borrow.Author.Needs.{needs}
 use Rattle.segment_buffer.proofs.append_entry.Statement.{statement}
 use Rattle.segment_buffer.proofs.append_entry.Tie as tie
-use Rattle.segment_buffer.proofs.append_entry.Reads as reads
-use Rattle.segment_buffer.proofs.append_entry.Lts as lts
-use Rattle.append_core.proofs.append.Reads as append-reads
-use Rattle.segment_buffer.proofs.append_ok.Reads as append-ok-reads
 
 append-ok-requires : tie.Need-append-ok-requires
 append-ok-requires c κs = search needs

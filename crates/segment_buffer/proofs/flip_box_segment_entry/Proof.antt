@@ -4,9 +4,6 @@ use Rattle.signed.proofs.SignedLaws.{back}
 use borrow.Author.Needs.{needs}
 use Rattle.segment_buffer.proofs.flip_box_segment_entry.Statement.{statement}
 use Rattle.segment_buffer.proofs.flip_box_segment_entry.Tie as tie
-use Rattle.segment_buffer.proofs.flip_box_segment_entry.Reads as reads
-use Rattle.segment_buffer.proofs.flip_box_segment_entry.Lts as lts
-use Rattle.segment_buffer.proofs.flip_entry.Reads as flip-entry-reads
 
 flip-entry-requires : tie.Need-flip-entry-requires
 flip-entry-requires c κs = search needs

@@ -7,10 +7,6 @@ use Rattle.segment_buffer.proofs.CallLaws.{flip-25, flip-goes, flip-rea
 use borrow.Author.Needs.{needs}
 use Rattle.segment_buffer.proofs.flip_entry.Statement.{statement}
 use Rattle.segment_buffer.proofs.flip_entry.Tie as tie
-use Rattle.segment_buffer.proofs.flip_entry.Reads as reads
-use Rattle.segment_buffer.proofs.flip_entry.Lts as lts
-use Rattle.flip_core.proofs.flip.Reads as flip-reads
-use Rattle.segment_buffer.proofs.flip_ok.Reads as flip-ok-reads
 
 flip-ok-requires : tie.Need-flip-ok-requires
 flip-ok-requires c κs = search needs

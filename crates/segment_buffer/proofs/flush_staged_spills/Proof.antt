@@ -6,10 +6,6 @@ use Rattle.segment_buffer.proofs.CallLaws.{flush-25, flush-goes, flush-
 use borrow.Author.Needs.{needs}
 use Rattle.segment_buffer.proofs.flush_staged_spills.Statement.{statement}
 use Rattle.segment_buffer.proofs.flush_staged_spills.Tie as tie
-use Rattle.segment_buffer.proofs.flush_staged_spills.Reads as reads
-use Rattle.segment_buffer.proofs.flush_staged_spills.Lts as lts
-use Rattle.flush_core.proofs.flush.Reads as flush-reads
-use Rattle.segment_buffer.proofs.lists_ok.Reads as lists-ok-reads
 
 lists-ok-requires : tie.Need-lists-ok-requires
 lists-ok-requires c κs = search needs

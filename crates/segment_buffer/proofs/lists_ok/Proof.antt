@@ -4,10 +4,6 @@ use Rattle.buffer_core.specs.Pop.{lists-ok}
 use borrow.Author.Needs.{needs}
 use Rattle.segment_buffer.proofs.lists_ok.Statement.{statement}
 use Rattle.segment_buffer.proofs.lists_ok.Tie as tie
-use Rattle.segment_buffer.proofs.lists_ok.Reads as reads
-use Rattle.segment_buffer.proofs.lists_ok.Lts as lts
-use Rattle.records.proofs.keys_ok.Reads as keys-ok-reads
-use Rattle.segment_buffer.proofs.spills_ok.Reads as spills-ok-reads
 
 spills-ok-requires : tie.Need-spills-ok-requires
 spills-ok-requires c κs = search needs

@@ -5,9 +5,6 @@ use Rattle.segment_buffer.proofs.CallLaws.{same-number}
 use borrow.Author.Needs.{needs}
 use Rattle.segment_buffer.proofs.pop_box_entry.Statement.{statement}
 use Rattle.segment_buffer.proofs.pop_box_entry.Tie as tie
-use Rattle.segment_buffer.proofs.pop_box_entry.Reads as reads
-use Rattle.segment_buffer.proofs.pop_box_entry.Lts as lts
-use Rattle.segment_buffer.proofs.pop_entry.Reads as pop-entry-reads
 
 pop-entry-requires : tie.Need-pop-entry-requires
 pop-entry-requires c κs = search needs

@@ -6,10 +6,6 @@ use Rattle.segment_buffer.proofs.CallLaws.{pop-25, pop-goes, pop-ready}
 use borrow.Author.Needs.{needs}
 use Rattle.segment_buffer.proofs.pop_entry.Statement.{statement}
 use Rattle.segment_buffer.proofs.pop_entry.Tie as tie
-use Rattle.segment_buffer.proofs.pop_entry.Reads as reads
-use Rattle.segment_buffer.proofs.pop_entry.Lts as lts
-use Rattle.pop_core.proofs.pop.Reads as pop-reads
-use Rattle.segment_buffer.proofs.pop_ok.Reads as pop-ok-reads
 
 pop-ok-requires : tie.Need-pop-ok-requires
 pop-ok-requires c κs = search needs

@@ -4,10 +4,6 @@ use Rattle.buffer_core.specs.Pop.{pop-ok}
 use borrow.Author.Needs.{needs}
 use Rattle.segment_buffer.proofs.pop_ok.Statement.{statement}
 use Rattle.segment_buffer.proofs.pop_ok.Tie as tie
-use Rattle.segment_buffer.proofs.pop_ok.Reads as reads
-use Rattle.segment_buffer.proofs.pop_ok.Lts as lts
-use Rattle.buffer_core.proofs.head_ok.Reads as head-ok-reads
-use Rattle.segment_buffer.proofs.lists_ok.Reads as lists-ok-reads
 
 head-ok-requires : tie.Need-head-ok-requires
 head-ok-requires c κs = search needs

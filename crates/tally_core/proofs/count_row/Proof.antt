@@ -1,0 +1,46 @@
+-- A row that passes the checks has its 512 numbers in `row`.
+use mathlib.Core.Path.{_≡_}
+use native.Mathlib.Omega.{arith}
+use lib.Seq.{take-all}
+use Rattle.tally_core.proofs.TallyLaws.{counted-good, counted-bad}
+use borrow.Author.Needs.{needs}
+use Rattle.tally_core.proofs.count_row.Statement.{statement}
+use Rattle.tally_core.proofs.count_row.Tie as tie
+
+slice-aggregate-read-checked : tie.Need-slice-aggregate-read-checked
+slice-aggregate-read-checked c = search needs
+
+read-checked-requires : tie.Need-read-checked-requires
+read-checked-requires c κs = search needs
+
+enum-told : tie.Need-enum-told
+enum-told c = search needs
+
+slice-aggregate-count-spent : tie.Need-slice-aggregate-count-spent
+slice-aggregate-count-spent c = search needs
+
+count-spent-requires : tie.Need-count-spent-requires
+count-spent-requires c κs = search needs
+
+enum-known-read : tie.Need-enum-known-read
+enum-known-read c = search needs
+
+returns : tie.Need-returns
+returns c =
+    counted-good _ _ _ (c .before .before .before .before .before .read-checked .ensures) (c .before .before .enum-told .given .1) _ (c .count-spent .ensures .0) (take-all 512 _ (search needs))
+
+returns-2 : tie.Need-returns-2
+returns-2 c = counted-bad _ _ _ (c .before .before .before .before .read-checked .ensures) _ (c .before .read .given .1)
+
+pub count-row-spec : {M : Type 1} → statement M
+count-row-spec =
+    tie.close
+    (tie.spec
+    slice-aggregate-read-checked
+    read-checked-requires
+    enum-told
+    slice-aggregate-count-spent
+    count-spent-requires
+    enum-known-read
+    returns
+    returns-2)

@@ -1,0 +1,117 @@
+// Tally, once refusal 25 has passed: how many entries of a parent's boxes are unspent, and how many spent.
+ghost use mathlib.Core.Path.{_≡_};
+ghost use Prim.Native.Nat.{_*_, _≤_, _<_};
+ghost use lib.ListN.{length, take};
+ghost use Rattle.buffer_core.specs.Edition.{edition-1};
+ghost use Rattle.buffer_core.specs.Spills.{sources};
+ghost use Rattle.buffer_core.specs.Flip.{row-checked};
+ghost use Rattle.buffer_core.specs.Tally.{tally-rows, tally-core};
+ghost use Rattle.flip_core.specs.Ready.{FlipReady};
+ghost use Rattle.tally_core.specs.Steps.{counted};
+use buffer_core::HeadCounts;
+use buffer_core::Read;
+use buffer_core::Tallied;
+use records::ListCounts;
+
+// How many entries of a row are spent, or the row's refusal code.
+pub enum RowCount {
+    Spent(usize),
+    Faulty(u8),
+}
+
+// Counts the entries of the row of a spill number.
+fn count_row<'a>(
+    parent: &[u8; 32],
+    number: usize,
+    staged: &'a [u8],
+    staged_count: usize,
+    table: &'a [u8],
+    table_count: usize,
+) -> RowCount
+    requires { ⌜ («staged_count» * 10288 ≤ length (now staged)) × («table_count» * 10288 ≤ length (now table)) × (number < 2147483648) ⌝ }
+    ensures { λ r. ⌜ r ≡ counted (row-checked edition-1 (sources (now (parent .entry)) (now (staged .entry)) «staged_count» (now (table .entry)) «table_count») number) ⌝ }
+{
+    let mut row = [0i64; 512];
+    let read = flip_core::read_checked(
+        parent,
+        number,
+        staged,
+        staged_count,
+        table,
+        table_count,
+        &mut row,
+    );
+    match read {
+        Read::Good => RowCount::Spent(entries::count_spent(&row, 512)),
+        Read::Faulty(code) => RowCount::Faulty(code),
+    }
+}
+
+// Counts the entries of all rows from spill 0 up, on top of those of the head.
+fn count_rows<'a>(
+    parent: &[u8; 32],
+    spills: usize,
+    unspent: usize,
+    spent: usize,
+    staged: &'a [u8],
+    staged_count: usize,
+    table: &'a [u8],
+    table_count: usize,
+) -> Tallied
+    requires { ⌜ («staged_count» * 10288 ≤ length (now staged)) × («table_count» * 10288 ≤ length (now table)) × (spills < 2147483648)
+        × (unspent ≤ 512) × (spent ≤ 512) ⌝ }
+    ensures { λ r. ⌜ r ≡ tally-rows (row-checked edition-1 (sources (now (parent .entry)) (now (staged .entry)) «staged_count» (now (table .entry)) «table_count»)) 0 spills unspent spent ⌝ }
+{
+    let mut u = unspent;
+    let mut s = spent;
+    let mut n = 0;
+    while n < spills {
+        let count = count_row(parent, n, staged, staged_count, table, table_count);
+        match count {
+            RowCount::Spent(k) => {
+                u += 512 - k;
+                s += k;
+            }
+            RowCount::Faulty(code) => {
+                return Tallied::Refused(code);
+            }
+        }
+        n += 1;
+    }
+    Tallied::Counts(u, s)
+}
+
+// 10, 11, then the head's entries and the rows.
+pub fn tally<'a>(
+    parent: &[u8; 32],
+    counts: HeadCounts,
+    staged_counts: ListCounts,
+    staged: &'a [u8],
+    table_counts: ListCounts,
+    table: &'a [u8],
+    head: &[i64],
+) -> Tallied
+    requires { ⌜ FlipReady counts «staged_counts» (now staged) «table_counts» (now table) (now head) ⌝ }
+    ensures { λ r. ⌜ r ≡ tally-core edition-1 (sources (now (parent .entry)) (now (staged .entry)) («staged_counts» .count) (now (table .entry)) («table_counts» .count))
+        (counts .spills) (take (counts .len) (now (head .entry))) ⌝ }
+{
+    let len = counts.len;
+    let spills = counts.spills;
+    if !entries::order_ok(head, len) {
+        return Tallied::Refused(refusal::HEAD_OUT_OF_ORDER);
+    }
+    if signed::is_negative_i32(spills) {
+        return Tallied::Refused(refusal::NEGATIVE_SPILL_COUNT);
+    }
+    let spent = entries::count_spent(head, len);
+    count_rows(
+        parent,
+        signed::usize_from_i32(spills),
+        len - spent,
+        spent,
+        staged,
+        staged_counts.count,
+        table,
+        table_counts.count,
+    )
+}
