@@ -1,4 +1,5 @@
--- The plain record of document 01: calls, standing list (newest first), its content, and the history rules.
+-- The ledger that the fork-undo theorem compares the index with (document 01, "The plain record"): calls, what the standing calls give, and the rules of
+-- a history. "An accepted call becomes the newest standing call, an accepted undo removes that one; flushes and refusals change nothing."
 use mathlib.Core.Path.{_≡_, refl, sym, _∙_, ap}
 use mathlib.Core.Logic.{_⊎_, inl, inr, _≢_}
 use mathlib.Core.HLevel.{Discrete}
@@ -119,7 +120,9 @@ abbrev pub sumOf : TokenId → Tokens → ℤ
 sumOf t [] = pos 0
 sumOf t (x ∷ xs) = ite (id-dec (x .0) t) (x .1 +ℤ sumOf t xs) (sumOf t xs)
 
--- CONTENT of the plain record: what the standing calls (newest first) give
+-- ---- "Its content is what the standing calls give, applied oldest first"; the newest call stands first in the list
+
+-- "Append adds at the end"
 abbrev pub ledger-numbers : List Call → Series → List ℤ
 ledger-numbers [] ch = []
 ledger-numbers (append d n ∷ cs) ch = ite (series-dec d ch) (ledger-numbers cs ch ++ (n ∷ [])) (ledger-numbers cs ch)
@@ -127,6 +130,7 @@ ledger-numbers (spend p t ∷ cs) ch = ledger-numbers cs ch
 ledger-numbers (credit p n ts ∷ cs) ch = ledger-numbers cs ch
 ledger-numbers (debit p n ts ∷ cs) ch = ledger-numbers cs ch
 
+-- "spend adds 1 to the spent count of its target's absolute value"
 abbrev pub ledger-spent : List Call → Parent → ℕ → ℕ
 ledger-spent [] p n = 0
 ledger-spent (append d m ∷ cs) p n = ledger-spent cs p n
@@ -134,6 +138,7 @@ ledger-spent (spend q t ∷ cs) p n = ite (parent-dec q p) (ite (ℕ-discrete (n
 ledger-spent (credit q m ts ∷ cs) p n = ledger-spent cs p n
 ledger-spent (debit q m ts ∷ cs) p n = ledger-spent cs p n
 
+-- "credit and debit add and subtract"
 abbrev pub ledger-nanos : List Call → Parent → ℤ
 ledger-nanos [] p = pos 0
 ledger-nanos (append d m ∷ cs) p = ledger-nanos cs p
@@ -148,11 +153,13 @@ ledger-amount (spend q s ∷ cs) p t = ledger-amount cs p t
 ledger-amount (credit q m ts ∷ cs) p t = ite (parent-dec q p) (ledger-amount cs p t +ℤ sumOf t ts) (ledger-amount cs p t)
 ledger-amount (debit q m ts ∷ cs) p t = ite (parent-dec q p) (ledger-amount cs p t -ℤ sumOf t ts) (ledger-amount cs p t)
 
--- HISTORY RULES
+-- ---- the rules of a history
+
 abbrev pub AllPos : Tokens → Type 0
 AllPos [] = Unit {0}
 AllPos (x ∷ xs) = (pos 1 ≤ℤ x .1) × AllPos xs
 
+-- a box is appended with a number at or above those before it, and not one that is spent
 pub record BoxRule (cs : List Call) (p : Parent) (n : ℤ) : Type 0 where
   pub rises : (m : ℤ) → List·Memᴰ m (ledger-numbers cs (boxes p)) → natAbs m ≤ natAbs n
   pub unspent : ledger-spent cs p (natAbs n) ≡ 0

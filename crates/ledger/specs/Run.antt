@@ -64,7 +64,7 @@ MayUndo clean = Unit {0}
 MayUndo calls = ⊥
 MayUndo undos = Unit {0}
 
--- ledger-spent copies of a number
+-- how many entries are the negative of a number
 abbrev pub negAt : ℕ → ℤ → ℕ
 negAt n (pos m) = 0
 negAt n (negsuc k) = ite (ℕ-discrete (suc k) n) 1 0
@@ -120,12 +120,14 @@ module _ (M : Machine) where
   popped σ (done r) = done (record { after = record { store = r .left; bals = σ .bals }; answer = r .value ∷ [] })
   popped σ (refused n) = refused n
 
+  -- "Undo means pop, unspend, `subtract_box` or `add_box` with the same arguments"
   abbrev pub runUndo : State → Call → Res Undone
   runUndo σ (append ch n) = popped σ (doPop (σ .store) ch)
   runUndo σ (spend p t) = quiet (withStore σ (doUnspend (σ .store) p t))
   runUndo σ (credit p n ts) = quiet (withBal σ p (sub (σ .bals p) n ts))
   runUndo σ (debit p n ts) = quiet (withBal σ p (add (σ .bals p) n ts))
 
+  -- an accepted call becomes the newest standing call; a refused one changes nothing
   abbrev pub afterCall : Conf → Call → Res State → Conf
   afterCall c a (done σ) = record { now = σ; standing = a ∷ c .standing; phase = calls }
   afterCall c a (refused n) = record { now = c .now; standing = c .standing; phase = calls }
@@ -172,9 +174,11 @@ module _ (M : Machine) where
   InUse c [] ch s = Needs c ch s
   InUse c (x ∷ ss) ch s = Needs c ch s ⊎ InUse (step c x) ss ch s
 
+  -- no two rows in use share a key
   abbrev pub KeysApart : (Series → ℕ → Type 0) → Type 0
   KeysApart U = (d e : Series) (s t : ℕ) → U d s → U e t → key d s ≡ key e t → (d ≡ e) × (s ≡ t)
 
+  -- an accepted undo answers the number of its append; a refused one has 16 or 21, and that list is full
   abbrev pub UndoAnswer : State → Call → Res Undone → Type 0
   UndoAnswer σ a (done u) = u .answer ≡ answerOf a
   UndoAnswer σ a (refused n) = ((n ≡ 16) × StagingFull (σ .store)) ⊎ ((n ≡ 21) × DeletionFull (σ .store))
@@ -192,6 +196,7 @@ module _ (M : Machine) where
   StepsOk c [] = Unit {0}
   StepsOk c (s ∷ ss) = StepOk c s × StepsOk (step c s) ss
 
+  -- the index holds exactly what the standing calls give
   pub record Agrees (c : Conf) : Type 0 where
     pub numbers : (ch : Series) → map absℤ (entries (c .now .store) ch) ≡ ledger-numbers (c .standing) ch
     pub copies : (p : Parent) (n : ℕ) → 0 < n → negs n (entries (c .now .store) (boxes p)) ≡ ledger-spent (c .standing) p n
