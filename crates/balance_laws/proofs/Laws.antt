@@ -1,4 +1,5 @@
 -- A balance in its 128 places does what the ledger's balance does, and so keeps the laws that the fork-undo theorem asks of balances.
+use Rattle.ledger.specs.Ledger.{amount-in}
 use Prim.Native.Nat.{ℕ, suc, _+_, _*_, _≤_, _<_}
 use mathlib.Core.Path.{_≡_, refl, sym, ap, subst, _∙_}
 use mathlib.Core.Bool.{Bool, true, false, cond, _&&_}
@@ -133,7 +134,7 @@ module _ (ids : List ℕ) (amounts : List ℤ) (ids-in : length ids ≡ 4096) (a
   none = record { ids = ids; amounts = amounts; count = 0; nanos = pos 0 }
 
   abbrev pub balances : Wh.Balances
-  balances = record { Bal = Balance; noBal = none; add = credited; sub = debited; nanoOf = λ b. b .nanos; amountOf = λ b t. Ba.amt (tokens-in b) t }
+  balances = record { Bal = Balance; noBal = none; add = credited; sub = debited; nanoOf = λ b. b .nanos; amountOf = λ b t. amount-in (tokens-in b) t }
 
   abbrev G : Ba.Bal → Type 0
   G b = Ba.GoodB limit 128 b

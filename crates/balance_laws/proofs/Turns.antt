@@ -1,4 +1,6 @@
 -- A token added or subtracted, and a run of tokens, do what the ledger's balance does.
+use Rattle.ledger.specs.Ledger.{amount-in}
+use Rattle.ledger.proofs.TestLaws.{ite-yes, ite-no}
 use Prim.Native.Nat.{ℕ, zero, suc, _+_, _*_, _-_, _≤_, _<_}
 use mathlib.Core.Path.{_≡_, refl, sym, ap, subst, _∙_}
 use mathlib.Core.Logic.{_⊎_, inl, inr}
@@ -19,7 +21,7 @@ use Rattle.signed.specs.Checked.{checked}
 use Rattle.stores.specs.Stores.{write}
 use Rattle.stores.proofs.StoreLaws.{length-write}
 use Rattle.balance.specs.Tokens.{Held, Changed, held, turned, id-at, place-of, with-amount, with-token, without-token, sum-at, add-token, difference-at, subtract-token, and-then, change-token, change-tokens}
-use Rattle.ledger.specs.Ledger.{TokenId, Tokens, Typed, ite, ite-yes, ite-no, id-dec}
+use Rattle.ledger.specs.Ledger.{TokenId, Tokens, Typed, ite, id-dec}
 use Rattle.ledger.specs.Run.{Res, done, refused}
 use Rattle.fork_model.proofs.Balances as Ba
 use Rattle.fork_model.proofs.Store.{andThen}
@@ -54,9 +56,9 @@ unfolding ite
 ite-lt m n (yes e) a b = rw (lt-ltb m n e)
 ite-lt m n (no e) a b = rw (le-ltb m n (omega arith))
 
-no-amt : (l : Tokens) (key : TokenId) → (Ba.Has l key → ⊥) → Ba.amt l key ≡ pos 0
+no-amt : (l : Tokens) (key : TokenId) → (Ba.Has l key → ⊥) → amount-in l key ≡ pos 0
 no-amt [] key n = refl
-no-amt (u ∷ us) key n = ite-no (id-dec (u .0) key) (u .1) (Ba.amt us key) (λ e. n (inl e)) ∙ no-amt us key (λ e. n (inr e))
+no-amt (u ∷ us) key n = ite-no (id-dec (u .0) key) (u .1) (amount-in us key) (λ e. n (inl e)) ∙ no-amt us key (λ e. n (inr e))
 
 module _ (h : Held) (I : Fits h) (key : List ℕ) (kl : length key ≡ 32) (v : ℤ) where
   abbrev l : Tokens
@@ -71,7 +73,7 @@ module _ (h : Held) (I : Fits h) (key : List ℕ) (kl : length key ≡ 32) (v : 
   hasn't : h .count ≤ at → Ba.Has l key → ⊥
   hasn't g = not-place key (h .ids) (h .amounts) (h .count) 0 (omega arith)
 
-  amt-at : at < h .count → Ba.amt l key ≡ getD (h .amounts) at (pos 0)
+  amt-at : at < h .count → amount-in l key ≡ getD (h .amounts) at (pos 0)
   amt-at g = amt-place key (h .ids) (h .amounts) (h .count) 0 (omega arith)
 
   -- the amount at the id's place is set
@@ -99,7 +101,7 @@ module _ (h : Held) (I : Fits h) (key : List ℕ) (kl : length key ≡ 32) (v : 
   by-new g false e = refl
 
   abbrev adding : Res Tokens
-  adding = ite (Ba.has-dec l key) (done (Ba.setTok l key (Ba.amt l key +ℤ v))) (ite (decLt (length l) 128) (done (l ++ ((key, v) ∷ []))) (refused 24))
+  adding = ite (Ba.has-dec l key) (done (Ba.setTok l key (amount-in l key +ℤ v))) (ite (decLt (length l) 128) (done (l ++ ((key, v) ∷ []))) (refused 24))
 
   by-place : mag v < limit → (t : Bool) → ltb at (h .count) ≡ t
       → Does (cond t (sum-at h at (checked (getD (h .amounts) at (pos 0) +ℤ v))) (cond (ltb (h .count) 128) (held (with-token h key v)) (turned 24))) (Ba.addTok limit 128 l key v)
@@ -109,14 +111,14 @@ module _ (h : Held) (I : Fits h) (key : List ℕ) (kl : length key ≡ 32) (v : 
       let x : ℤ = getD (h .amounts) at (pos 0) +ℤ v in
       to (sum-at h at (cond (ltb (mag x) limit) (Is x) Out)) (by-sum g x (ltb (mag x) limit))
       (ap (λ (a : ℤ). cond (ltb (mag (a +ℤ v)) limit) (done (Ba.setTok l key (a +ℤ v))) (refused 23)) (sym (amt-at g))
-      ∙ sym (ite-lt (mag (Ba.amt l key +ℤ v)) limit (decLt (mag (Ba.amt l key +ℤ v)) limit) adding (refused 23)
-      ∙ ap (λ (x : Res Tokens). cond (ltb (mag (Ba.amt l key +ℤ v)) limit) x (refused 23)) (ite-yes (Ba.has-dec l key) _ _ (has g))))
+      ∙ sym (ite-lt (mag (amount-in l key +ℤ v)) limit (decLt (mag (amount-in l key +ℤ v)) limit) adding (refused 23)
+      ∙ ap (λ (x : Res Tokens). cond (ltb (mag (amount-in l key +ℤ v)) limit) x (refused 23)) (ite-yes (Ba.has-dec l key) _ _ (has g))))
   by-place f false e =
       let g = ltb-false at (h .count) e in
-      let z : Ba.amt l key +ℤ v ≡ v = ap (λ (a : ℤ). a +ℤ v) (no-amt l key (hasn't g)) ∙ +ℤ-idl v in
+      let z : amount-in l key +ℤ v ≡ v = ap (λ (a : ℤ). a +ℤ v) (no-amt l key (hasn't g)) ∙ +ℤ-idl v in
       to (cond (ltb (h .count) 128) (held (with-token h key v)) (turned 24)) (by-new g (ltb (h .count) 128) refl)
       (ap (λ (m : ℕ). cond (ltb m 128) (done (l ++ ((key, v) ∷ []))) (refused 24)) (sym (length-tokens (h .ids) (h .amounts) (h .count) 0))
-      ∙ sym (ite-yes (decLt (mag (Ba.amt l key +ℤ v)) limit) adding (refused 23) (rw z f)
+      ∙ sym (ite-yes (decLt (mag (amount-in l key +ℤ v)) limit) adding (refused 23) (rw z f)
       ∙ ite-no (Ba.has-dec l key) _ _ (hasn't g)
       ∙ ite-lt (length l) 128 (decLt (length l) 128) (done (l ++ ((key, v) ∷ []))) (refused 24)))
 
@@ -153,7 +155,7 @@ module _ (h : Held) (I : Fits h) (key : List ℕ) (kl : length key ≡ 32) (v : 
       to (difference-at h at (cond (ltb (mag x) limit) (Is x) Out)) (by-difference g x (ltb (mag x) limit))
       (ap (λ (a : ℤ). cond (ltb (mag (a -ℤ v)) limit) (done (Ba.shrink l key (a -ℤ v))) (refused 23)) (sym (amt-at g))
       ∙ sym (ite-yes (Ba.has-dec l key) _ _ (has g)
-      ∙ ite-lt (mag (Ba.amt l key -ℤ v)) limit (decLt (mag (Ba.amt l key -ℤ v)) limit) (done (Ba.shrink l key (Ba.amt l key -ℤ v))) (refused 23)))
+      ∙ ite-lt (mag (amount-in l key -ℤ v)) limit (decLt (mag (amount-in l key -ℤ v)) limit) (done (Ba.shrink l key (amount-in l key -ℤ v))) (refused 23)))
   by-place-sub false e =
       let g = ltb-false at (h .count) e in
       (sym (ite-no (Ba.has-dec l key) _ _ (hasn't g)), I)

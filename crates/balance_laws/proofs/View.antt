@@ -1,4 +1,5 @@
 -- What is held as a list of tokens: a place that holds an id, and the list after an amount is set, a token goes last, or a token leaves.
+use Rattle.ledger.specs.Ledger.{amount-in}
 use Prim.Native.Nat.{ℕ, zero, suc, _+_, _-_, _*_, _<_, _≤_}
 use native.Mathlib.Nat.{le-refl, lt-irrefl}
 use native.Mathlib.Omega.{arith}
@@ -76,16 +77,16 @@ module _ (key ids : List ℕ) (ams : List ℤ) where
   not-place zero i h x = x
   not-place (suc n) i h x = not-by i n (place-from key ids (suc i) n) (same-bytes (id-at ids i) key) refl (not-place n (suc i)) h x
 
-  amt-by : (i n q : ℕ) (s : Bool) → (q < suc i + n → Ba.amt (T (suc i) n) key ≡ getD ams q (pos 0)) → cond s i q < i + suc n
-      → cond s (getD ams i (pos 0)) (Ba.amt (T (suc i) n) key) ≡ getD ams (cond s i q) (pos 0)
+  amt-by : (i n q : ℕ) (s : Bool) → (q < suc i + n → amount-in (T (suc i) n) key ≡ getD ams q (pos 0)) → cond s i q < i + suc n
+      → cond s (getD ams i (pos 0)) (amount-in (T (suc i) n) key) ≡ getD ams (cond s i q) (pos 0)
   amt-by i n q true f h = refl
   amt-by i n q false f h = f (omega arith)
 
-  pub amt-place : (n i : ℕ) → place-from key ids i n < i + n → Ba.amt (T i n) key ≡ getD ams (place-from key ids i n) (pos 0)
+  pub amt-place : (n i : ℕ) → place-from key ids i n < i + n → amount-in (T i n) key ≡ getD ams (place-from key ids i n) (pos 0)
   unfolding place-from
   amt-place zero i h = absurd (omega arith)
   amt-place (suc n) i h =
-      ite-same (id-at ids i) key (id-dec (id-at ids i) key) (getD ams i (pos 0)) (Ba.amt (T (suc i) n) key)
+      ite-same (id-at ids i) key (id-dec (id-at ids i) key) (getD ams i (pos 0)) (amount-in (T (suc i) n) key)
       ∙ amt-by i n (place-from key ids (suc i) n) (same-bytes (id-at ids i) key) (amt-place n (suc i)) h
 
 pub length-tokens : (ids : List ℕ) (ams : List ℤ) (n i : ℕ) → length (tokens-from ids ams i n) ≡ n

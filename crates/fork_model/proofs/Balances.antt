@@ -1,4 +1,6 @@
 -- A balance as document 01 has it: nanoErgs and tokens in order; credit, debit, and what they do to the amounts.
+use Rattle.ledger.specs.Ledger.{amount-in}
+use Rattle.ledger.proofs.TestLaws.{ite-yes, ite-no}
 use mathlib.Core.Path.{_≡_, refl, sym, _∙_, ap, subst}
 use mathlib.Core.Logic.{_⊎_, inl, inr, ⊎-elim, _≢_}
 use mathlib.Core.List.{List, [], _∷_, _++_, map}
@@ -10,14 +12,10 @@ use lib.Signed.{_≤ℤ_, mag}
 use lib.Dec.{leb→le}
 use lib.ListN.{length, length-append}
 use Rattle.fork_model.proofs.Paid.{Paid}
-use Rattle.ledger.specs.Ledger.{TokenId, id-dec, Tokens, ite, ite-yes, ite-no, sumOf, AllPos}
+use Rattle.ledger.specs.Ledger.{TokenId, id-dec, Tokens, ite, sumOf, AllPos}
 use Rattle.ledger.specs.Run.{Res, done, refused}
 use Rattle.fork_model.proofs.Store.{andThen}
 use Rattle.fork_model.proofs.Search.{done≢refused, ite-cases}
-
-abbrev pub amt : Tokens → TokenId → ℤ
-amt [] t = pos 0
-amt (x ∷ l) t = ite (id-dec (x .0) t) (x .1) (amt l t)
 
 abbrev pub Has : Tokens → TokenId → Type 0
 Has [] t = ⊥
@@ -60,11 +58,11 @@ abbrev pub nanoOf : Bal → ℤ
 nanoOf b = b .nanos
 
 abbrev pub amountOf : Bal → TokenId → ℤ
-amountOf b t = amt (b .toks) t
+amountOf b t = amount-in (b .toks) t
 
 -- amounts as natural numbers
 abbrev AN : Tokens → TokenId → ℕ
-AN l t = natAbs (amt l t)
+AN l t = natAbs (amount-in l t)
 
 abbrev sumN : TokenId → Tokens → ℕ
 sumN t [] = 0
@@ -91,8 +89,8 @@ sum-pos t (x ∷ ts) h = let p = posOf (x .1) (h .0) in sum-ite (id-dec (x .0) t
 module _ (lim cap : ℕ) where
   abbrev pub addTok : Tokens → TokenId → ℤ → Res Tokens
   addTok l t a =
-      ite (decLt (mag (amt l t +ℤ a)) lim)
-      (ite (has-dec l t) (done (setTok l t (amt l t +ℤ a))) (ite (decLt (length l) cap) (done (l ++ ((t, a) ∷ []))) (refused 24)))
+      ite (decLt (mag (amount-in l t +ℤ a)) lim)
+      (ite (has-dec l t) (done (setTok l t (amount-in l t +ℤ a))) (ite (decLt (length l) cap) (done (l ++ ((t, a) ∷ []))) (refused 24)))
       (refused 23)
 
   unfoldable pub addToks : Tokens → Tokens → Res Tokens
@@ -101,7 +99,7 @@ module _ (lim cap : ℕ) where
 
   abbrev pub subTok : Tokens → TokenId → ℤ → Res Tokens
   subTok l t a =
-      ite (has-dec l t) (ite (decLt (mag (amt l t -ℤ a)) lim) (done (shrink l t (amt l t -ℤ a))) (refused 23)) (done l)
+      ite (has-dec l t) (ite (decLt (mag (amount-in l t -ℤ a)) lim) (done (shrink l t (amount-in l t -ℤ a))) (refused 23)) (done l)
 
   unfoldable pub subToks : Tokens → Tokens → Res Tokens
   subToks l [] = done l
@@ -123,20 +121,20 @@ module _ (lim cap : ℕ) where
   GoodT [] = Unit {0}
   GoodT (x ∷ l) = TokOk (x .1) × (Has l (x .0) → ⊥) × GoodT l
 
-  has-val : (l : Tokens) (t : TokenId) → GoodT l → Has l t → TokOk (amt l t)
+  has-val : (l : Tokens) (t : TokenId) → GoodT l → Has l t → TokOk (amount-in l t)
   has-val [] t g h = absurd h
   has-val (x ∷ l) t g h = go (id-dec (x .0) t) (⊎-elim (λ e. inl e) (λ u. inr (has-val l t (g .2) u)) h)
     where
-      go : (w : Dec (x .0 ≡ t)) → (x .0 ≡ t) ⊎ TokOk (amt l t) → TokOk (ite w (x .1) (amt l t))
-      go (yes e) c = subst TokOk (sym (ite-yes (yes e) (x .1) (amt l t) e)) (g .0)
-      go (no n) c = subst TokOk (sym (ite-no (no n) (x .1) (amt l t) n)) (⊎-elim (λ e. absurd (n e)) (λ u. u) c)
+      go : (w : Dec (x .0 ≡ t)) → (x .0 ≡ t) ⊎ TokOk (amount-in l t) → TokOk (ite w (x .1) (amount-in l t))
+      go (yes e) c = subst TokOk (sym (ite-yes (yes e) (x .1) (amount-in l t) e)) (g .0)
+      go (no n) c = subst TokOk (sym (ite-no (no n) (x .1) (amount-in l t) n)) (⊎-elim (λ e. absurd (n e)) (λ u. u) c)
 
-  not-has : (l : Tokens) (t : TokenId) → (Has l t → ⊥) → amt l t ≡ pos 0
+  not-has : (l : Tokens) (t : TokenId) → (Has l t → ⊥) → amount-in l t ≡ pos 0
   not-has [] t n = refl
-  not-has (x ∷ l) t n = ite-no (id-dec (x .0) t) (x .1) (amt l t) (λ e. n (inl e)) ∙ not-has l t (λ h. n (inr h))
+  not-has (x ∷ l) t n = ite-no (id-dec (x .0) t) (x .1) (amount-in l t) (λ e. n (inl e)) ∙ not-has l t (λ h. n (inr h))
 
   record Nat (l : Tokens) (t : TokenId) : Type 0 where
-    is : amt l t ≡ pos (AN l t)
+    is : amount-in l t ≡ pos (AN l t)
     low : 0 < lim → AN l t < lim
 
   amt-nat : (l : Tokens) (t : TokenId) → GoodT l → Dec (Has l t) → Nat l t
@@ -179,22 +177,22 @@ module _ (lim cap : ℕ) where
       go (yes e) k = refl
       go (no n) k = ap suc k
 
-  set-here : (l : Tokens) (t : TokenId) (v : ℤ) → Has l t → amt (setTok l t v) t ≡ v
+  set-here : (l : Tokens) (t : TokenId) (v : ℤ) → Has l t → amount-in (setTok l t v) t ≡ v
   unfolding ite
   set-here [] t v h = absurd h
   set-here (x ∷ l) t v h = go (id-dec (x .0) t) (⊎-elim (λ e. inl e) (λ k. inr (set-here l t v k)) h)
     where
-      go : (w : Dec (x .0 ≡ t)) → (x .0 ≡ t) ⊎ (amt (setTok l t v) t ≡ v) → amt (ite w ((t, v) ∷ l) (x ∷ setTok l t v)) t ≡ v
-      go (yes e) k = ite-yes (id-dec t t) v (amt l t) refl
-      go (no n) k = ite-no (id-dec (x .0) t) (x .1) (amt (setTok l t v) t) n ∙ ⊎-elim (λ e. absurd (n e)) (λ q. q) k
+      go : (w : Dec (x .0 ≡ t)) → (x .0 ≡ t) ⊎ (amount-in (setTok l t v) t ≡ v) → amount-in (ite w ((t, v) ∷ l) (x ∷ setTok l t v)) t ≡ v
+      go (yes e) k = ite-yes (id-dec t t) v (amount-in l t) refl
+      go (no n) k = ite-no (id-dec (x .0) t) (x .1) (amount-in (setTok l t v) t) n ∙ ⊎-elim (λ e. absurd (n e)) (λ q. q) k
 
-  set-other : (l : Tokens) (t : TokenId) (v : ℤ) (u : TokenId) → t ≢ u → amt (setTok l t v) u ≡ amt l u
+  set-other : (l : Tokens) (t : TokenId) (v : ℤ) (u : TokenId) → t ≢ u → amount-in (setTok l t v) u ≡ amount-in l u
   unfolding ite
   set-other [] t v u q = refl
   set-other (x ∷ l) t v u q = go (id-dec (x .0) t) (set-other l t v u q)
     where
-      go : (w : Dec (x .0 ≡ t)) → amt (setTok l t v) u ≡ amt l u → amt (ite w ((t, v) ∷ l) (x ∷ setTok l t v)) u ≡ ite (id-dec (x .0) u) (x .1) (amt l u)
-      go (yes e) k = ite-no (id-dec t u) v (amt l u) q ∙ sym (ite-no (id-dec (x .0) u) (x .1) (amt l u) (λ z. q (sym e ∙ z)))
+      go : (w : Dec (x .0 ≡ t)) → amount-in (setTok l t v) u ≡ amount-in l u → amount-in (ite w ((t, v) ∷ l) (x ∷ setTok l t v)) u ≡ ite (id-dec (x .0) u) (x .1) (amount-in l u)
+      go (yes e) k = ite-no (id-dec t u) v (amount-in l u) q ∙ sym (ite-no (id-dec (x .0) u) (x .1) (amount-in l u) (λ z. q (sym e ∙ z)))
       go (no n) k = ap (ite (id-dec (x .0) u) (x .1)) k
 
   -- drop
@@ -225,22 +223,22 @@ module _ (lim cap : ℕ) where
       go (yes e) k = omega arith
       go (no n) k = omega arith
 
-  drop-here : (l : Tokens) (t : TokenId) → GoodT l → amt (dropTok l t) t ≡ pos 0
+  drop-here : (l : Tokens) (t : TokenId) → GoodT l → amount-in (dropTok l t) t ≡ pos 0
   unfolding ite
   drop-here [] t g = refl
   drop-here (x ∷ l) t g = go (id-dec (x .0) t) (drop-here l t (g .2))
     where
-      go : (w : Dec (x .0 ≡ t)) → amt (dropTok l t) t ≡ pos 0 → amt (ite w l (x ∷ dropTok l t)) t ≡ pos 0
+      go : (w : Dec (x .0 ≡ t)) → amount-in (dropTok l t) t ≡ pos 0 → amount-in (ite w l (x ∷ dropTok l t)) t ≡ pos 0
       go (yes e) k = not-has l t (λ h. g .1 (subst (Has l) (sym e) h))
-      go (no n) k = ite-no (id-dec (x .0) t) (x .1) (amt (dropTok l t) t) n ∙ k
+      go (no n) k = ite-no (id-dec (x .0) t) (x .1) (amount-in (dropTok l t) t) n ∙ k
 
-  drop-other : (l : Tokens) (t : TokenId) (u : TokenId) → t ≢ u → amt (dropTok l t) u ≡ amt l u
+  drop-other : (l : Tokens) (t : TokenId) (u : TokenId) → t ≢ u → amount-in (dropTok l t) u ≡ amount-in l u
   unfolding ite
   drop-other [] t u q = refl
   drop-other (x ∷ l) t u q = go (id-dec (x .0) t) (drop-other l t u q)
     where
-      go : (w : Dec (x .0 ≡ t)) → amt (dropTok l t) u ≡ amt l u → amt (ite w l (x ∷ dropTok l t)) u ≡ ite (id-dec (x .0) u) (x .1) (amt l u)
-      go (yes e) k = sym (ite-no (id-dec (x .0) u) (x .1) (amt l u) (λ z. q (sym e ∙ z)))
+      go : (w : Dec (x .0 ≡ t)) → amount-in (dropTok l t) u ≡ amount-in l u → amount-in (ite w l (x ∷ dropTok l t)) u ≡ ite (id-dec (x .0) u) (x .1) (amount-in l u)
+      go (yes e) k = sym (ite-no (id-dec (x .0) u) (x .1) (amount-in l u) (λ z. q (sym e ∙ z)))
       go (no n) k = ap (ite (id-dec (x .0) u) (x .1)) k
 
   -- a new id, last
@@ -252,21 +250,21 @@ module _ (lim cap : ℕ) where
   snoc-good [] t a o n g = (o, (λ h. h), tt)
   snoc-good (x ∷ l) t a o n g = (g .0, (λ h. ⊎-elim (g .1) (λ e. n (inl (sym e))) (snoc-has l t a (x .0) h)), snoc-good l t a o (λ h. n (inr h)) (g .2))
 
-  snoc-here : (l : Tokens) (t : TokenId) (a : ℤ) → (Has l t → ⊥) → amt (l ++ ((t, a) ∷ [])) t ≡ a
+  snoc-here : (l : Tokens) (t : TokenId) (a : ℤ) → (Has l t → ⊥) → amount-in (l ++ ((t, a) ∷ [])) t ≡ a
   snoc-here [] t a n = ite-yes (id-dec t t) a (pos 0) refl
-  snoc-here (x ∷ l) t a n = ite-no (id-dec (x .0) t) (x .1) (amt (l ++ ((t, a) ∷ [])) t) (λ e. n (inl e)) ∙ snoc-here l t a (λ h. n (inr h))
+  snoc-here (x ∷ l) t a n = ite-no (id-dec (x .0) t) (x .1) (amount-in (l ++ ((t, a) ∷ [])) t) (λ e. n (inl e)) ∙ snoc-here l t a (λ h. n (inr h))
 
-  snoc-other : (l : Tokens) (t : TokenId) (a : ℤ) (u : TokenId) → t ≢ u → amt (l ++ ((t, a) ∷ [])) u ≡ amt l u
+  snoc-other : (l : Tokens) (t : TokenId) (a : ℤ) (u : TokenId) → t ≢ u → amount-in (l ++ ((t, a) ∷ [])) u ≡ amount-in l u
   snoc-other [] t a u q = ite-no (id-dec t u) a (pos 0) q
   snoc-other (x ∷ l) t a u q = ap (ite (id-dec (x .0) u) (x .1)) (snoc-other l t a u q)
 
   -- ONE TOKEN
   module _ (l : Tokens) (t : TokenId) (w : ℕ) (g : GoodT l) (len : length l ≤ cap) where
-    plus : amt l t +ℤ pos (suc w) ≡ pos (suc (AN l t + w))
+    plus : amount-in l t +ℤ pos (suc w) ≡ pos (suc (AN l t + w))
     plus = ap (λ z. z +ℤ pos (suc w)) (amt-nat l t g (has-dec l t) .is) ∙ ap pos (omega arith)
 
     abbrev sum : ℤ
-    sum = amt l t +ℤ pos (suc w)
+    sum = amount-in l t +ℤ pos (suc w)
 
     sum-ok : mag sum < lim → TokOk sum
     sum-ok h = record { val = AN l t + w; is = plus; low = subst (λ (z : ℤ). mag z < lim) plus h }
@@ -301,7 +299,7 @@ module _ (lim cap : ℕ) where
 
     -- a debit of what is there
     module _ (y : ℕ) (there : AN l t ≡ y + suc w) where
-      minus : amt l t -ℤ pos (suc w) ≡ pos y
+      minus : amount-in l t -ℤ pos (suc w) ≡ pos y
       minus = ap (λ z. z -ℤ pos (suc w)) (amt-nat l t g (has-dec l t) .is ∙ ap pos there) ∙ +ℤ-negℤ-cancel (pos y) (pos (suc w))
 
       present : Has l t
@@ -326,8 +324,8 @@ module _ (lim cap : ℕ) where
       sub-one : (k : Tokens) × (subTok l t (pos (suc w)) ≡ done k) × UpdN l t y k
       sub-one = (
         shrink l t (pos y),
-        ite-yes (has-dec l t) (ite (decLt (mag (amt l t -ℤ pos (suc w))) lim) (done (shrink l t (amt l t -ℤ pos (suc w)))) (refused 23)) (done l) present
-            ∙ ite-yes (decLt (mag (amt l t -ℤ pos (suc w))) lim) (done (shrink l t (amt l t -ℤ pos (suc w)))) (refused 23) (subst (λ (z : ℤ). mag z < lim) (sym minus) below)
+        ite-yes (has-dec l t) (ite (decLt (mag (amount-in l t -ℤ pos (suc w))) lim) (done (shrink l t (amount-in l t -ℤ pos (suc w)))) (refused 23)) (done l) present
+            ∙ ite-yes (decLt (mag (amount-in l t -ℤ pos (suc w))) lim) (done (shrink l t (amount-in l t -ℤ pos (suc w)))) (refused 23) (subst (λ (z : ℤ). mag z < lim) (sym minus) below)
             ∙ ap (λ z. done (shrink l t z)) minus,
         shrink-ok y below,
       )
@@ -482,7 +480,7 @@ module _ (lim cap : ℕ) where
   pub no-good : 0 < lim → GoodB noBal
   no-good h = record { nat = refl; low = h; good = tt; len = omega arith }
 
-  amt-is : (l : Tokens) (t : TokenId) → GoodT l → amt l t ≡ pos (AN l t)
+  amt-is : (l : Tokens) (t : TokenId) → GoodT l → amount-in l t ≡ pos (AN l t)
   amt-is l t g = amt-nat l t g (has-dec l t) .is
 
   pos-inj : {a b : ℕ} → pos a ≡ pos b → a ≡ b

@@ -1,4 +1,5 @@
 -- What each operation must do to the entries (the laws), the invariant, and the proof of the theorem from the laws.
+use Rattle.ledger.proofs.TestLaws.{ite-yes, ite-no}
 use mathlib.Core.Path.{_≡_, refl, sym, _∙_, ap, subst}
 use mathlib.Core.Logic.{_⊎_, inl, inr, ⊎-elim, _≢_}
 use mathlib.Core.List.{List, [], _∷_, _++_, map, List·Memᴰ, List·Memᴰ·head, List·Memᴰ·tail, List·Memᴰ·cases-cons, List·Memᴰ·not-nil, List·Memᴰ·append-cases, List·Memᴰ·eq-of-singleton, append-assoc, head-eq-of-cons-eq, tail-eq-of-cons-eq}
@@ -10,7 +11,7 @@ use lib.IntN.{ℤ, pos, negsuc, negℤ, natAbs, _+ℤ_, _-ℤ_}
 use lib.Signed.{_≤ℤ_, mag}
 use lib.ListN.{length, length-append, length-map}
 use Rattle.fork_model.proofs.Paid.{Paid}
-use Rattle.ledger.specs.Ledger.{TokenId, Parent, parent-dec, id-dec, Series, boxes, txs, boxes≢txs, boxes-inj, series-dec, ite, ite-yes, ite-no, Tokens, Call, append, spend, credit, debit, absℤ, sumOf, ledger-numbers, ledger-spent, ledger-nanos, ledger-amount, AllPos, BoxRule, DebitRule, Rule, Rules, Typed}
+use Rattle.ledger.specs.Ledger.{TokenId, Parent, parent-dec, id-dec, Series, boxes, txs, boxes≢txs, boxes-inj, series-dec, ite, Tokens, Call, append, spend, credit, debit, absℤ, sumOf, ledger-numbers, ledger-spent, ledger-nanos, ledger-amount, AllPos, BoxRule, DebitRule, Rule, Rules, Typed}
 use Rattle.ledger.specs.Run.{Res, done, refused, Popped, Machine, Phase, clean, calls, undos, Step, call, undo, flush, MayCall, MayUndo, negAt, negs, answerOf}
 use Rattle.ledger.specs.Run as Mc
 

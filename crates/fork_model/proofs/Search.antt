@@ -1,4 +1,6 @@
 -- Facts about the searches in lists and rows.
+use Rattle.ledger.proofs.TestLaws.{ite-yes}
+use Rattle.ledger.specs.Run.{flat, rowOr}
 use mathlib.Core.Path.{_≡_, refl, sym, _∙_, ap, subst}
 use mathlib.Core.Logic.{_⊎_, inl, inr, ⊎-elim, _≢_}
 use mathlib.Core.Bool.{Bool, true, false}
@@ -9,11 +11,11 @@ use native.Mathlib.Omega.{arith}
 use native.Mathlib.Nat.{mul-suc}
 use lib.IntN.{ℤ, pos, negsuc, negℤ, natAbs}
 use lib.ListN.{length, getD, length-append}
-use Rattle.ledger.specs.Ledger.{int-dec, ite, ite-yes, ite-no, absℤ}
+use Rattle.ledger.specs.Ledger.{int-dec, ite, absℤ}
 use Rattle.ledger.specs.Run.{Res, done, refused}
 use Rattle.fork_model.proofs.Table.{Found, missing, found, orElse}
 use Rattle.fork_model.proofs.History.{Sorted, Flip, mem-map, mem-mid}
-use Rattle.fork_model.proofs.Store.{andThen, Ends, nothing, ends, consEnd, unsnoc, consF, flipFirst, ordered, orB, seenIn, whenB, rowOr, flat, Hit, onHit, firstAbs, midOf, halve, notFound, lastAbs, walk}
+use Rattle.fork_model.proofs.Store.{andThen, Ends, nothing, ends, consEnd, unsnoc, consF, flipFirst, ordered, orB, seenIn, whenB, Hit, onHit, firstAbs, midOf, halve, notFound, lastAbs, walk}
 
 -- two constructors are never equal
 pub done≢refused : {A : Type 0} {a : A} {k : ℕ} → _≡_ {A = Res A} (done a) (refused k) → ⊥

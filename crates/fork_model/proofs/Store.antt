@@ -1,4 +1,5 @@
 -- The index over tables of rows of signed numbers: document 01's calls with the row size, the capacities and the keys as parameters.
+use Rattle.ledger.specs.Run.{flat}
 use mathlib.Core.Path.{_≡_, refl, sym, _∙_, ap, subst}
 use mathlib.Core.Logic.{_⊎_, inl, inr, ⊎-elim, _≢_}
 use mathlib.Core.HLevel.{Discrete}
@@ -54,15 +55,6 @@ seenIn m (x ∷ l) = ite (ℕ-discrete (natAbs x) m) true (seenIn m l)
 abbrev pub whenB {ℓ} : {A : Type ℓ} → Bool → A → A → A
 whenB true a b = a
 whenB false a b = b
-
--- the numbers of a row that was read; none where it was not
-abbrev pub rowOr : Res (List ℤ) → List ℤ
-rowOr (done l) = l
-rowOr (refused k) = []
-
-unfoldable pub flat : (ℕ → Res (List ℤ)) → ℕ → List ℤ
-flat f zero = []
-flat f (suc s) = flat f s ++ rowOr (f s)
 
 pub record Hit : Type 0 where
   pub at : ℕ

@@ -1,4 +1,6 @@
 -- The laws of History for the store of tables.
+use Rattle.ledger.proofs.TestLaws.{ite-yes, ite-no}
+use Rattle.ledger.specs.Run.{flat, rowOr}
 use mathlib.Core.Path.{_≡_, refl, sym, _∙_, ap, subst}
 use mathlib.Core.Logic.{_⊎_, inl, inr, ⊎-elim, _≢_}
 use mathlib.Core.HLevel.{Discrete}
@@ -11,12 +13,12 @@ use native.Mathlib.Nat.{mul-suc}
 use lib.IntN.{ℤ, pos, negsuc, negℤ, natAbs}
 use lib.Signed.{mag}
 use lib.ListN.{length, getD, length-append}
-use Rattle.ledger.specs.Ledger.{TokenId, Parent, parent-dec, Series, boxes, txs, series-dec, ite, ite-yes, ite-no, absℤ}
+use Rattle.ledger.specs.Ledger.{TokenId, Parent, parent-dec, Series, boxes, txs, series-dec, ite, absℤ}
 use Rattle.ledger.specs.Run.{Res, done, refused, Popped}
 use Rattle.fork_model.proofs.Table.{Found, missing, found, orElse}
 use Rattle.fork_model.proofs.Table as Tb
 use Rattle.fork_model.proofs.History.{Sorted, Flip, mem-mid}
-use Rattle.fork_model.proofs.Store.{andThen, Ends, nothing, ends, unsnoc, flipFirst, ordered, seenIn, whenB, rowOr, flat, Hit, firstAbs, halve, lastAbs, walk, both, not-dec, missing-dec, IsMissing}
+use Rattle.fork_model.proofs.Store.{andThen, Ends, nothing, ends, unsnoc, flipFirst, ordered, seenIn, whenB, Hit, firstAbs, halve, lastAbs, walk, both, not-dec, missing-dec, IsMissing}
 use Rattle.fork_model.proofs.Store as St
 use Rattle.fork_model.proofs.Search as Se
 use Rattle.fork_model.proofs.Search.{done≢refused, found≢missing, ite-cases, Split}

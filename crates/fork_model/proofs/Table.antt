@@ -1,4 +1,5 @@
 -- Tables of rows by key, as the shelf and staging are: a new key goes last, removal moves the last record into the gap.
+use Rattle.ledger.proofs.TestLaws.{ite-yes, ite-no}
 use mathlib.Core.Path.{_≡_, refl, sym, _∙_, ap, subst}
 use mathlib.Core.Logic.{_⊎_, inl, inr, ⊎-elim, _≢_}
 use mathlib.Core.HLevel.{Discrete}
@@ -7,7 +8,7 @@ use Prim.Native.Nat.{ℕ, zero, suc, _+_, _≤_, _<_}
 use native.Mathlib.Omega.{arith}
 use lib.IntN.{ℤ}
 use lib.ListN.{length}
-use Rattle.ledger.specs.Ledger.{ite, ite-yes, ite-no}
+use Rattle.ledger.specs.Ledger.{ite}
 
 pub data Found (A : Type 0) : Type 0 where
   missing : Found A

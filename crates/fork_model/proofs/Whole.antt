@@ -1,4 +1,5 @@
 -- The theorem for the store of tables and a balance that keeps its laws.
+use Rattle.ledger.specs.Run.{flat}
 use mathlib.Core.Path.{_≡_, refl, sym, _∙_, ap, subst}
 use mathlib.Core.HLevel.{Discrete}
 use mathlib.Core.Logic.{_≢_}
@@ -63,7 +64,7 @@ module _ (E : St.Env) (B : Balances) where
 
   module _ (code : Sl.Coded E) (GoodB : B .Bal → Type 0) (BL : BalanceLaws GoodB) where
     pub store-laws : (U : Series → ℕ → Type 0) → Mc.KeysApart machine U → Hi.Laws machine U (Sl.Good E code U) (Sl.Tidy E code U) GoodB
-    unfolding St.flat
+    unfolding flat
     store-laws U apart = record {
       empty-good = record { full = λ ch s h. absurd (omega arith); used = λ ch s h. absurd (omega arith); kept = λ ch s h i. i; fits = λ ch. omega arith; small = λ ch x t. absurd (List·Memᴰ·not-nil t); oneStaged = tt; oneShelved = tt; capStaged = omega arith; capShelved = omega arith; capDeleted = omega arith };
       empty-tidy = refl;

@@ -1,4 +1,5 @@
 -- An append to the bytes is an append to the tables, and keeps what holds between calls.
+use Rattle.ledger.proofs.TestLaws.{ite-yes, ite-no}
 use mathlib.Core.Path.{_≡_, refl, sym, _∙_, ap}
 use mathlib.Core.List.{List, [], _∷_, _++_, map, List·Memᴰ}
 use mathlib.Core.Bool.{Bool, true, false, cond}
@@ -27,7 +28,7 @@ use Rattle.buffer_core.specs.Edition.{Edition}
 use Rattle.buffer_core.specs.Spills.{head-ok}
 use Rattle.buffer_core.specs.Append.{Appending, appending, counts-of, one-number, counts-with, bytes-with, spilled, spill-of, append-core, append-ok, append-of}
 use Rattle.buffer_core.specs.Pop.{Lists, lists-ok}
-use Rattle.ledger.specs.Ledger.{Parent, Series, series-dec, ite, ite-yes, ite-no, id-dec}
+use Rattle.ledger.specs.Ledger.{Parent, Series, series-dec, ite, id-dec}
 use Rattle.ledger.specs.Run.{Res, done, refused}
 use Rattle.fork_model.proofs.Store as St
 use Rattle.fork_model.proofs.Store.{andThen}

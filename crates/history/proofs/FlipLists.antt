@@ -1,4 +1,5 @@
 -- Searching a list, the halving and the walk: as the contracts say it, and as the tables' machine does.
+use Rattle.ledger.specs.Run.{rowOr}
 use mathlib.Core.Path.{_≡_, refl, sym, _∙_, ap}
 use mathlib.Core.Logic.{_≢_}
 use mathlib.Core.Bool.{Bool, true, false, cond, _||_, _&&_}
@@ -26,10 +27,10 @@ use Rattle.buffer_core.specs.declared.Walk.{Walk}
 use Rattle.buffer_core.specs.declared.Walk.the-variants.{Hit, Ended, Failed}
 use Rattle.buffer_core.specs.Flip.{half, middle, search-by, look-past, look-by, look-in, walk-by, walk-from}
 use Rattle.history.proofs.Lists.{ite-le}
-use Rattle.ledger.specs.Ledger.{ite, ite-yes, ite-no, int-dec}
+use Rattle.ledger.specs.Ledger.{ite, int-dec}
 use Rattle.ledger.specs.Run.{Res, done, refused}
 use Rattle.fork_model.proofs.Store as St
-use Rattle.fork_model.proofs.Store.{andThen, flipFirst, consF, seenIn, orB, rowOr, onHit, firstAbs, lastAbs, midOf, notFound}
+use Rattle.fork_model.proofs.Store.{andThen, flipFirst, consF, seenIn, orB, onHit, firstAbs, lastAbs, midOf, notFound}
 use Rattle.fork_model.proofs.Table.{missing, found}
 use Rattle.fork_model.proofs.Table as Tb
 

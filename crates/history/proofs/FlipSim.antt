@@ -1,4 +1,6 @@
 -- A spend or an unspend of the bytes is one of the tables, and keeps what holds between calls.
+use Rattle.ledger.proofs.TestLaws.{ite-yes}
+use Rattle.ledger.specs.Run.{rowOr}
 use mathlib.Core.Path.{_≡_, refl, sym, _∙_, ap}
 use mathlib.Core.List.{List, [], _∷_, _++_, map}
 use mathlib.Core.Bool.{Bool, true, false, not, _&&_, cond}
@@ -39,10 +41,10 @@ use Rattle.buffer_core.specs.Edition.{Edition, RowRead, bad, good}
 use Rattle.buffer_core.specs.Spills.{Sources, key-at, place-at, read-placed, spill-read, head-ok}
 use Rattle.buffer_core.specs.Flip.{check-row, lead-of, look-of, search-by, search-in, walk-from, Effect, refuse, flip-head, stage, head-first, spends, done-by, row-checked, lead-at, look-at, boxes-in, row-flipped, stage-from, stage-at, after-walk, after-search, in-rows, in-order, flip-effect, flip-core, flip-ok, flip-of}
 use Rattle.buffer_core.specs.Pop.{Lists}
-use Rattle.ledger.specs.Ledger.{Parent, Series, boxes, ite, ite-yes}
+use Rattle.ledger.specs.Ledger.{Parent, Series, boxes, ite}
 use Rattle.ledger.specs.Run.{Res, done, refused}
 use Rattle.fork_model.proofs.Store as St
-use Rattle.fork_model.proofs.Store.{andThen, flipFirst, seenIn, whenB, rowOr, notFound}
+use Rattle.fork_model.proofs.Store.{andThen, flipFirst, seenIn, whenB, notFound}
 use Rattle.fork_model.proofs.StoreLaws as Sl
 use Rattle.fork_model.proofs.Search as Se
 use Rattle.fork_model.proofs.Search.{done≢refused}

@@ -1,4 +1,5 @@
 -- A flush of the bytes is a flush of the tables, and keeps what holds between calls.
+use Rattle.ledger.proofs.TestLaws.{ite-yes, ite-no}
 use mathlib.Core.Path.{_≡_, refl, sym, _∙_, ap}
 use mathlib.Core.List.{List, [], _∷_, _++_, map}
 use mathlib.Core.Bool.{Bool, true, false, not, _&&_, cond}
@@ -29,7 +30,7 @@ use Rattle.buffer_core.specs.declared.Flushed.the-variants.{Done, Refused}
 use Rattle.buffer_core.specs.Edition.{Edition}
 use Rattle.buffer_core.specs.Pop.{Lists, lists, lists-ok, count-without, bytes-without}
 use Rattle.buffer_core.specs.Flush.{Flushing, flushing, one-if, new-count, Listed, listed, found-in, put-staged, put-undeleted, remove-key, remove-keys, deleted-keys, table-after, flushed, new-keys, flush-core, flush-of}
-use Rattle.ledger.specs.Ledger.{Parent, Series, ite, ite-yes, ite-no}
+use Rattle.ledger.specs.Ledger.{Parent, Series, ite}
 use Rattle.ledger.specs.Run.{Res, done, refused}
 use Rattle.fork_model.proofs.Store as St
 use Rattle.fork_model.proofs.Search.{done≢refused}

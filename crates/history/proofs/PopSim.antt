@@ -1,4 +1,5 @@
 -- A row as inspection shows it, and a pop: of the bytes, as of the tables; and a pop keeps what holds between calls.
+use Rattle.ledger.specs.Run.{flat, rowOr}
 use mathlib.Core.Path.{_≡_, refl, sym, _∙_, ap}
 use mathlib.Core.List.{List, [], _∷_, _++_, map, append-assoc}
 use mathlib.Core.Bool.{Bool, true, false, cond}
@@ -32,11 +33,11 @@ use Rattle.buffer_core.specs.Edition.{Edition, RowRead, bad, good}
 use Rattle.buffer_core.specs.Spills.{Sources, place-at, read-placed, spill-read, head-ok}
 use Rattle.buffer_core.specs.Append.{counts-of}
 use Rattle.buffer_core.specs.Pop.{Popping, popping, Lists, lists, count-without, bytes-without, last-of, without-last, row-head, staged-at, deleted-at, merged, merge-of, unspill-of, pop-core, lists-ok, pop-ok, pop-of}
-use Rattle.ledger.specs.Ledger.{Parent, Series, series-dec, ite, ite-yes, ite-no, id-dec}
+use Rattle.ledger.specs.Ledger.{Parent, Series, series-dec, ite, id-dec}
 use Rattle.ledger.specs.Run.{Res, done, refused}
 use Rattle.ledger.specs.Run as Mc
 use Rattle.fork_model.proofs.Store as St
-use Rattle.fork_model.proofs.Store.{andThen, Ends, nothing, ends, unsnoc, consEnd, flat}
+use Rattle.fork_model.proofs.Store.{andThen, Ends, nothing, ends, unsnoc, consEnd}
 use Rattle.fork_model.proofs.Table.{orElse}
 use Rattle.fork_model.proofs.Search.{done≢refused}
 use Rattle.fork_model.proofs.Results.{mapRes, mapPop}
@@ -79,7 +80,7 @@ module _ (E : Edition) (ids : Parent → List ℕ) (table-cap staged-cap deleted
   flat-same : (f g : ℕ → Res (List ℤ)) (n : ℕ) → ((s : ℕ) → f s ≡ g s) → flat f n ≡ flat g n
   unfolding flat
   flat-same f g zero h = refl
-  flat-same f g (suc n) h = λ i. flat-same f g n h i ++ St.rowOr (h n i)
+  flat-same f g (suc n) h = λ i. flat-same f g n h i ++ rowOr (h n i)
 
   -- what inspection shows is what the tables hold
   pub shows : (b : Index) (ch : Series) → entries-of E ids b ch ≡ St.entries W₁ (S.abs E ids table-cap staged-cap deleted-cap b) ch

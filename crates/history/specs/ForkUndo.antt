@@ -2,6 +2,7 @@
 -- `Rattle.ledger.specs.Run` says what a history is, which histories keep the rules of document 01, and what the theorem promises of them (`ForkUndo`):
 -- each undo is accepted unless staging (16) or the deletion list (21) is full, an undone append returns its number, and afterwards the index holds exactly
 -- what the standing calls alone give.
+use Rattle.ledger.specs.Ledger.{amount-in}
 use mathlib.Core.Path.{_≡_}
 use mathlib.Core.List.{List}
 use Prim.Native.Nat.{ℕ, _≤_}
@@ -11,7 +12,6 @@ use Rattle.balance.specs.declared.Balance.{Balance}
 use Rattle.buffer_core.specs.declared.Direction.the-variants.{Spend, Unspend}
 use Rattle.buffer_core.specs.Edition.{Edition, edition-1}
 use Rattle.balance_laws.specs.Calls.{credited, debited, tokens-in}
-use Rattle.fork_model.proofs.Balances.{amt}
 use Rattle.ledger.specs.Ledger.{Parent}
 use Rattle.ledger.specs.Run.{Machine}
 use Rattle.ledger.specs.Run as Run
@@ -48,7 +48,7 @@ module _ (E : Edition) (ids : Parent → List ℕ) (B : Borrowed E) (s : Places)
     add = credited;
     sub = debited;
     nanoOf = λ b. b .nanos;
-    amountOf = λ b t. amt (tokens-in b) t;
+    amountOf = λ b t. amount-in (tokens-in b) t;
     rowSize = 512;
     limit = 9223372036854775808;
     Key = List ℕ;

@@ -1,5 +1,6 @@
 -- The index as the calls leave it: each parent's heads with their counts, the staged spills, the segments table and the deleted spills, in bytes; and its
 -- operations, each the very definition that the contract of the public function cites, run on the part of the index that the function borrows.
+use Rattle.ledger.specs.Run.{flat}
 use mathlib.Core.List.{List, [], _∷_, _++_}
 use Prim.Native.Nat.{ℕ, zero, suc, _≤_}
 use lib.IntN.{ℤ, pos, natAbs}
@@ -27,7 +28,6 @@ use Rattle.buffer_core.specs.Flush.{Flushing, flush-of}
 use Rattle.ledger.specs.Ledger.{Parent, Series, boxes, txs, parentOf, series-dec, ite}
 use Rattle.ledger.specs.Run.{Res, done, refused}
 use Rattle.ledger.specs.Run as Mc
-use Rattle.fork_model.proofs.Store.{flat}
 
 -- a parent's list of one kind: its counts beside the places that are borrowed
 pub record Part : Type 0 where

@@ -20,7 +20,7 @@ name-step (yes p) (yes q) = yes (λ i. p i ∷ q i)
 name-step (yes p) (no n) = no (λ e. n (tail-eq-of-cons-eq e))
 name-step (no n) q = no (λ e. n (head-eq-of-cons-eq e))
 
--- (List-discrete of mathlib does not unfold: definitions that are to compute have their own)
+-- whether two ids are the same; it computes
 unfoldable pub id-dec : Discrete TokenId
 unfolding name-step ℕ-discrete
 id-dec [] [] = yes refl
@@ -63,19 +63,10 @@ isBoxes : Series → ℕ
 isBoxes (boxes p) = 1
 isBoxes (txs p) = 0
 
+-- the first where the test holds, else the second
 unfoldable pub ite {ℓ} : {P : Type 0} {A : Type ℓ} → Dec P → A → A → A
 ite (yes p) a b = a
 ite (no n) a b = b
-
-pub ite-yes {ℓ} : {P : Type 0} {A : Type ℓ} (d : Dec P) (a b : A) → P → ite d a b ≡ a
-unfolding ite
-ite-yes (yes p) a b h = refl
-ite-yes (no n) a b h = absurd (n h)
-
-pub ite-no {ℓ} : {P : Type 0} {A : Type ℓ} (d : Dec P) (a b : A) → (P → ⊥) → ite d a b ≡ b
-unfolding ite
-ite-no (yes p) a b h = absurd (h p)
-ite-no (no n) a b h = refl
 
 pub boxes-inj : {p q : Parent} → boxes p ≡ boxes q → p ≡ q
 boxes-inj e = ap parentOf e
@@ -119,6 +110,11 @@ absℤ z = pos (natAbs z)
 abbrev pub sumOf : TokenId → Tokens → ℤ
 sumOf t [] = pos 0
 sumOf t (x ∷ xs) = ite (id-dec (x .0) t) (x .1 +ℤ sumOf t xs) (sumOf t xs)
+
+-- "an amount per token id (0 if absent)": that of the first token with the id
+abbrev pub amount-in : Tokens → TokenId → ℤ
+amount-in [] t = pos 0
+amount-in (x ∷ l) t = ite (id-dec (x .0) t) (x .1) (amount-in l t)
 
 -- ---- "Its content is what the standing calls give, applied oldest first"; the newest call stands first in the list
 

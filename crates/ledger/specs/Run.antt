@@ -13,6 +13,16 @@ pub data Res (A : Type 0) : Type 0 where
   done : A → Res A
   refused : ℕ → Res A
 
+-- the numbers of a row that was read; none where it was not
+abbrev pub rowOr : Res (List ℤ) → List ℤ
+rowOr (done l) = l
+rowOr (refused k) = []
+
+-- the numbers of the first n rows, "spill 0 up"
+unfoldable pub flat : (ℕ → Res (List ℤ)) → ℕ → List ℤ
+flat f zero = []
+flat f (suc s) = flat f s ++ rowOr (f s)
+
 pub record Popped (S : Type 0) : Type 0 where
   pub left : S
   pub value : ℤ

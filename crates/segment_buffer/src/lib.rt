@@ -335,7 +335,7 @@ fn flip_entry(
     Flipped::Refused(refusal::BUFFERS)
 }
 
-// Marks one box as spent: its newest unspent entry is negated, in the head or in a row.
+// Marks one box as spent: the head's first entry of the number that is not negative is negated; without one, that of the first row that the walk finds it in.
 pub fn flip_box_segment_entry(
     parent: &[u8; 32],
     counts: HeadCounts,

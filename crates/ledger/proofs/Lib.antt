@@ -1,0 +1,2 @@
+-- Laws of the ledger.
+pub mod TestLaws
