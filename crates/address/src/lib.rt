@@ -4,7 +4,6 @@ ghost use Rattle.vlq_core.specs.Writing.{written};
 ghost use Rattle.address_core.specs.Writing.{write-address};
 ghost use Rattle.address_core.specs.Loading.{loading, read-address};
 use address_core::AddressRead;
-use address_core::REFUSED_BUFFER;
 use balance::Balance;
 use segment_core::SEGMENT_THRESHOLD;
 use vlq_core::Wrote;
@@ -35,7 +34,7 @@ pub fn write_indexed_address(
     let count = balance.count;
     let ids = balance.ids;
     let amounts = balance.amounts;
-    address_core::write_address(
+    address_core::writer::write_address(
         hash,
         has_balance,
         nanos,
@@ -58,13 +57,13 @@ pub fn read_indexed_address(row: &[u8], txs: &mut [i64], boxes: &mut [i64]) -> A
     ensures { λ r. ⌜ loading r (now (txs .exit)) (now (boxes .exit)) ≡ read-address (now (row .entry)) (now (txs .entry)) (now (boxes .entry)) ⌝ }
 {
     if ADDRESS_LIMIT < row.len() {
-        return address_core::refused(REFUSED_BUFFER);
+        return address_core::reader::refused(refusal::BUFFERS);
     }
     if txs.len() < SEGMENT_THRESHOLD {
-        return address_core::refused(REFUSED_BUFFER);
+        return address_core::reader::refused(refusal::BUFFERS);
     }
     if boxes.len() < SEGMENT_THRESHOLD {
-        return address_core::refused(REFUSED_BUFFER);
+        return address_core::reader::refused(refusal::BUFFERS);
     }
-    address_core::read_address(row, txs, boxes)
+    address_core::reader::read_address(row, txs, boxes)
 }

@@ -1,12 +1,12 @@
 -- A record has at most 15,675 bytes, and what was written is read back.
 use Prim.Native.Nat.{ℕ, _+_, _*_, _-_, _/_, _≤_, _<_}
 use mathlib.Core.Path.{_≡_, refl, sym, ap, _∙_}
-use mathlib.Core.Bool.{Bool, true, false, cond}
+use mathlib.Core.Bool.{Bool, true, false}
 use mathlib.Core.List.{List, [], _∷_, _++_, append-assoc, append-nil}
 use native.Mathlib.Omega.{arith}
 use lib.IntN.{ℤ, pos}
 use lib.ListN.{length, take, drop, getD, length-append, length-drop, take-append-drop}
-use lib.Seq.{length-take-le, take-at, drop-at, getD-at, take-add}
+use lib.Seq.{length-take-le, take-at, drop-at, getD-at}
 use borrow.Author.Tests.{le-leb, lt-ltb, le-ltb, eq-eqb}
 use mir.Syntax.{w32, w64}
 use mir.Val.{SFits}
@@ -17,28 +17,19 @@ use Rattle.vlq_core.specs.declared.Got.the-variants as got
 use Rattle.vlq_core.specs.Reading.{read-at, signed-of}
 use Rattle.vlq_core.proofs.GroupLaws.{number-length}
 use Rattle.vlq_core.proofs.BackLaws.{signed-back}
-use Rattle.segment_core.specs.Row.{numbers-bytes, list-bytes, row-bytes, row-limit}
-use Rattle.segment_core.specs.Reading.{Seg, seg, segment-at, ended}
+use Rattle.segment_core.specs.Row.{numbers-bytes, row-bytes, row-limit}
+use Rattle.segment_core.specs.Reading.{seg, segment-at, ended}
 use Rattle.segment_core.proofs.RowLaws.{length-size}
-use Rattle.segment_core.proofs.BackLaws.{All64, Writable, segment-back}
-use Rattle.segment_core.proofs.CodecLaws.{row-size}
+use Rattle.segment_core.proofs.BackLaws.{All64, Writable, numbers-some, first, second, second-at, segment-back}
+use Rattle.segment_core.proofs.CodecLaws.{numbers-size, row-size}
 use Rattle.balance.specs.declared.Balance.{Balance}
 use Rattle.address_core.specs.Bytes.{token-bytes, tokens-bytes, balance-bytes, flagged-bytes, address-bytes, address-limit}
-use Rattle.address_core.specs.Reading.{Token, token, no-token, token-at, Tokens, tokens, no-tokens, cons-token, token-then, tokens-at, count-of, count-at, tokens-from, Balanced, balanced, no-balance, with-nanos, balance-at, flagged, flagged-at}
-use Rattle.address_core.specs.Loading.{AddressLoading, balance-of, load-segment, load-balance, load-address, read-address}
-use Rattle.address_core.proofs.BytesLaws.{tokens-length, balance-length, clear-length, set-length, flag-clear, flag-set, address-length}
+use Rattle.address_core.specs.Reading.{token, no-token, token-at, Tokens, tokens, cons-token, token-then, tokens-at, count-of, count-at, tokens-from, Balanced, balanced, no-balance, with-nanos, balance-at, flagged-at}
+use Rattle.address_core.specs.Loading.{balance-of, load-segment, load-balance, load-address, read-address}
+use Rattle.address_core.proofs.BytesLaws.{tokens-length, balance-length, clear-length, set-length, address-length}
 use Rattle.address_core.proofs.LoadLaws.{call-on}
 
 -- ---- the most bytes of a record
-
-numbers-size : (zs : List ℤ) → All64 zs → (length zs ≤ length (numbers-bytes zs)) × (length (numbers-bytes zs) ≤ 10 * length zs)
-unfolding numbers-bytes
-numbers-size [] f = (omega arith, omega arith)
-numbers-size (z ∷ zs) f =
-    let l = length-append (enc (zig z)) (numbers-bytes zs) in
-    let n = numbers-size zs (f .1) in
-    let m = number-length w64 9 (omega arith) z (f .0) in
-    (omega (arith, l, n .0, m .0), omega (arith, l, n .1, m .1))
 
 -- what a record can hold of a balance
 pub record Holds (nanos : ℤ) (ids : List ℕ) (zs : List ℤ) : Type 0 where
@@ -56,7 +47,7 @@ flagged-size true nanos ids zs h =
       set-length true nanos ids zs refl,
       balance-length nanos ids zs (omega (arith, h .keys)),
       length-append (enc (zig (pos (length zs)))) (numbers-bytes zs),
-      numbers-size zs (h .amounts) .1,
+      numbers-size zs (h .amounts),
       number-length w64 9 (omega arith) nanos (h .ergs) .1,
       length-size (length zs) (omega (arith, h .few)),
     )
@@ -65,18 +56,6 @@ flagged-size true nanos ids zs h =
 pub address-size : (hash : List ℕ) → length hash ≡ 32 → (has : Bool) (nanos : ℤ) (ids : List ℕ) (zs : List ℤ) → Holds nanos ids zs → (row : List ℕ) → length row ≤ row-limit
     → length (address-bytes hash has nanos ids zs row) ≤ address-limit
 address-size hash k has nanos ids zs h row r = omega (arith, address-length hash has nanos ids zs row, flagged-size has nanos ids zs h)
-
--- ---- s is p, then x and y, then q: it is also p and x, then y, then q
-
-module _ (s p x y q : List ℕ) (at : ℕ) (e : s ≡ p ++ ((x ++ y) ++ q)) (d : length p ≡ at) where
-  first : s ≡ p ++ (x ++ (y ++ q))
-  first = e ∙ ap (λ (l : List ℕ). p ++ l) (append-assoc x y q)
-
-  second : s ≡ (p ++ x) ++ (y ++ q)
-  second = first ∙ sym (append-assoc p x (y ++ q))
-
-  second-at : length (p ++ x) ≡ at + length x
-  second-at = length-append p x ∙ ap (λ (n : ℕ). n + length x) d
 
 -- ---- tokens
 
@@ -143,7 +122,7 @@ balance-back nanos ids zs h s p q at e d =
     let d₄ = second-at s (p ++ x) y w q (at + length x) e₂ d₂ in
     let behind : ℤ → ℕ → Balanced = λ z n. with-nanos z (tokens-from s (count-at s n)) in
     let room : length zs * 33 ≤ length (w ++ q)
-    = omega (arith, length-append w q, tokens-length ids zs (omega (arith, h .keys)), numbers-size zs (h .amounts) .0) in
+    = omega (arith, length-append w q, tokens-length ids zs (omega (arith, h .keys)), numbers-some zs (h .amounts)) in
     let m : at + length x + length y + length w ≡ at + length (balance-bytes nanos ids zs) = omega (arith, length-append x (y ++ w), length-append y w) in
     ap (λ (l : List ℕ). signed-of behind no-balance (read-at 64 l at)) e₁ ∙ signed-back behind no-balance w64 nanos p ((y ++ w) ++ q) at d (omega arith) (h .ergs)
     ∙ ap (λ (g : Got). with-nanos nanos (tokens-from s g)) (count-back (length zs) (h .few) s (p ++ x) (w ++ q) (at + length x) e₃ d₂ room)

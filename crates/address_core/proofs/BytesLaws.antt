@@ -1,13 +1,13 @@
 -- Laws of a record's bytes, as the writers meet them: token by token, the sizes of the parts, and the parts one after the other.
-use Prim.Native.Nat.{ℕ, _+_, _*_, _-_, _≤_, _<_}
+use Prim.Native.Nat.{ℕ, _+_, _*_, _≤_, _<_}
 use mathlib.Core.Path.{_≡_, refl, sym, ap, ap₂, _∙_}
-use mathlib.Core.Bool.{Bool, true, false}
-use mathlib.Core.List.{List, [], _∷_, _++_, append-assoc}
+use mathlib.Core.Bool.{Bool, true, false, cond}
+use mathlib.Core.List.{List, [], _∷_, _++_}
 use native.Mathlib.Omega.{arith}
 use native.Mathlib.Numerals.{add-one}
 use lib.IntN.{ℤ, pos}
-use lib.ListN.{length, take, drop, getD, length-append, length-drop, drop-of-length-le}
-use lib.Seq.{sets, drop-cons, drop-drop, length-take-le, getD-take}
+use lib.ListN.{length, take, drop, getD, length-append, length-drop, drop-of-length-le, take-append-drop}
+use lib.Seq.{sets, drop-cons, drop-drop, length-take-le, take-append-le, drop-append-le, getD-take}
 use Rattle.stores.specs.Stores.{Put}
 use Rattle.stores.proofs.PutLaws.{sets-append, put-both, put-as}
 use Rattle.vlq_core.specs.Zigzag.{zig}
@@ -102,6 +102,20 @@ set-size has h nanos ids amounts n k g =
     let e : length (take n amounts) ≡ n = length-take-le n amounts k in
     omega (arith, e, set-length has nanos ids (take n amounts) h, balance-length nanos ids (take n amounts) (omega arith))
 
+-- ---- only the ids of the tokens are written, whatever stands behind them
+
+tokens-before : (zs : List ℤ) (ids behind : List ℕ) → length zs * 32 ≤ length ids → tokens-bytes (ids ++ behind) zs ≡ tokens-bytes ids zs
+unfolding tokens-bytes
+tokens-before [] ids behind h = refl
+tokens-before (z ∷ zs) ids behind h =
+    let g : 32 ≤ length ids = omega arith in
+    rw (take-append-le 32 ids behind g, drop-append-le 32 ids behind g, tokens-before zs (drop 32 ids) behind (rw length-drop (omega arith)))
+
+pub tokens-taken : (ids : List ℕ) (zs : List ℤ) → length zs * 32 ≤ length ids → tokens-bytes ids zs ≡ tokens-bytes (take (length zs * 32) ids) zs
+tokens-taken ids zs h =
+    let n : ℕ = length zs * 32 in
+    ap (λ (l : List ℕ). tokens-bytes l zs) (sym (take-append-drop n ids)) ∙ tokens-before zs (take n ids) (drop n ids) (omega (arith, length-take-le n ids h))
+
 -- ---- three parts one after the other
 
 pub three-length : (a b c : List ℕ) → length (a ++ (b ++ c)) ≡ length a + length b + length c
@@ -119,6 +133,13 @@ module _ (hash : List ℕ) (has : Bool) (nanos : ℤ) (ids : List ℕ) (zs : Lis
   address-put i j l at o l₁ p l₂ r l₃ d e f =
       put-both hash (flagged-bytes has nanos ids zs ++ row) l at o l₁ r l₃ d
       (put-both (flagged-bytes has nanos ids zs) row l₁ o p l₂ r l₃ (put-as i l₁ o p l₂ e) (put-as j l₂ p r l₃ f))
+
+-- the same record, of the ids of its tokens only
+pub address-taken : (hash : List ℕ) (has : Bool) (nanos : ℤ) (ids : List ℕ) (zs : List ℤ) (row : List ℕ) → length zs * 32 ≤ length ids
+    → address-bytes hash has nanos ids zs row ≡ address-bytes hash has nanos (take (length zs * 32) ids) zs row
+unfolding address-bytes flagged-bytes
+address-taken hash has nanos ids zs row h =
+    ap (λ (l : List ℕ). hash ++ (cond has (1 ∷ (enc (zig nanos) ++ (enc (zig (pos (length zs))) ++ l))) (0 ∷ []) ++ row)) (tokens-taken ids zs h)
 
 -- the same record, with nanoErgs and row said in another way
 pub address-as : (hash : List ℕ) (has : Bool) {nanos nanos′ : ℤ} (ids : List ℕ) (zs : List ℤ) {row row′ : List ℕ} → nanos′ ≡ nanos → row′ ≡ row

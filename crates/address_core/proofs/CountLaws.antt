@@ -15,11 +15,8 @@ use Rattle.vlq_core.specs.declared.Int.the-variants as int
 use Rattle.vlq_core.specs.Zigzag.{zag}
 use Rattle.vlq_core.specs.Reading.{read-at, signed-of, int-of}
 use Rattle.vlq_core.proofs.ReadLaws.{int-number, int-refused}
+use Rattle.segment_core.proofs.ListLaws.{not-negative}
 use Rattle.address_core.specs.Reading.{count-of, count-at}
-
-not-negative : (y : ℤ) (k : ℕ) → is-negative y ≡ false → k ≡ natAbs y → y ≡ pos k
-not-negative (pos j) k h e = ap pos (sym e)
-not-negative (negsuc j) k h e = let x : _≡_ {A = ℕ} 0 1 = cc in absurd (omega arith)
 
 module _ (s : List ℕ) (at : ℕ) (z : ℤ) (n : ℕ) (e : int-of (read-at 32 s at) ≡ int.Number z n) (x : ℤ) (q : x ≡ z) where
   count-is : count-of s x n ≡ count-at s at

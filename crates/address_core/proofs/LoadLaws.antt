@@ -1,14 +1,14 @@
 -- Laws of reading a balance, its flag, and the record, one for each way out.
-use Prim.Native.Nat.{ℕ, zero, suc, _+_, _*_, _-_, _≤_, _<_}
-use mathlib.Core.Path.{_≡_, refl, sym, ap, subst, _∙_}
+use Prim.Native.Nat.{ℕ, _+_, _-_, _≤_, _<_}
+use mathlib.Core.Path.{_≡_, refl, sym, ap, _∙_}
 use mathlib.Core.Bool.{Bool, true, false, cond, _&&_}
 use mathlib.Core.List.{List, [], _++_}
 use native.Mathlib.Omega.{arith}
 use lib.Dec.{leb, ltb, eqb}
 use lib.IntN.{ℤ, pos}
-use lib.ListN.{length, take, drop, getD, replicate, length-replicate}
+use lib.ListN.{length, take, getD, replicate, length-replicate}
 use lib.Seq.{sets}
-use borrow.Author.Tests.{lt-ltb, le-ltb, le-leb, lt-leb, eq-eqb, ne-eqb}
+use borrow.Author.Tests.{lt-ltb, le-ltb, le-leb, lt-leb, ne-eqb}
 use Rattle.stores.proofs.PutLaws.{sets-front}
 use Rattle.vlq_core.specs.declared.Got.{Got}
 use Rattle.vlq_core.specs.declared.Got.the-variants as got
@@ -21,12 +21,13 @@ use Rattle.segment_core.specs.declared.Loaded.{Loaded}
 use Rattle.segment_core.specs.declared.Loaded.the-variants as loaded
 use Rattle.segment_core.specs.Reading.{Seg, seg, no-seg, segment-at, ended}
 use Rattle.segment_core.specs.Loading as segment-loading
+use Rattle.segment_core.proofs.ListLaws.{drop-replicate}
 use Rattle.refusal.specs.declared.Answer.the-variants.{Accepted}
-use Rattle.balance.specs.declared.Balance.{Balance}
+use Rattle.address_core.specs.declared.AddressRead.{AddressRead}
 use Rattle.address_core.specs.declared.Flagged.{Flagged}
 use Rattle.address_core.specs.declared.Flagged.the-variants.{Held, Refused}
-use Rattle.address_core.specs.Reading.{Tokens, tokens, no-tokens, tokens-at, tokens-from, count-at, Balanced, balanced, no-balance, with-nanos, balance-at, flagged, flagged-at}
-use Rattle.address_core.specs.Loading.{AddressLoading, loading, balance-of, refused-with, load-segment, load-balance, load-address, read-address}
+use Rattle.address_core.specs.Reading.{Tokens, tokens, no-tokens, tokens-at, tokens-from, count-at, Balanced, balanced, no-balance, with-nanos, balance-at, flagged-at}
+use Rattle.address_core.specs.Loading.{loading, balance-of, refused-with, load-segment, load-balance, load-address, read-address}
 use Rattle.address_core.specs.Steps.{TokensInto, BalanceInto}
 use Rattle.address_core.proofs.TokenLaws.{Counted, counted}
 use Rattle.address_core.proofs.CountLaws.{count-most}
@@ -130,11 +131,6 @@ pub record Found (s : List ℕ) (at : ℕ) (has : Bool) (nanos : ℤ) (count n :
   pub ids-are : ids ≡ keys ++ replicate (4096 - length keys) 0
   pub amounts-are : zs ≡ amounts ++ replicate (128 - length amounts) (pos 0)
 
-drop-replicate : {A : Type 0} (m n : ℕ) (a : A) → drop n (replicate m a) ≡ replicate (m - n) a
-drop-replicate m zero a = let e : m ≡ m - 0 = omega arith in ap (λ (k : ℕ). replicate k a) e
-drop-replicate zero (suc n) a = let e : 0 ≡ 0 - suc n = omega arith in ap (λ (k : ℕ). replicate k a) e
-drop-replicate (suc m) (suc n) a = let e : m - n ≡ suc m - suc n = omega arith in drop-replicate m n a ∙ ap (λ (k : ℕ). replicate k a) e
-
 padded : {A : Type 0} (m : ℕ) (a : A) (l : List A) → length l ≤ m → sets (replicate m a) 0 l ≡ l ++ replicate (m - length l) a
 padded {A} m a l h = sets-front l (replicate m a) (rw length-replicate h) ∙ ap (λ (k : List A). l ++ k) (drop-replicate m (length l) a)
 
@@ -164,6 +160,21 @@ module _ (s : List ℕ) (at : ℕ) (r : Flagged) (ids : List ℕ) (zs : List ℤ
       by-answer (no-balance y) f q = let z : y ≡ x = cc in ap no-balance z
 
 -- ---- the record
+
+-- an accepted answer, its address given by what the locals of the reader hold
+abbrev pub answer-with : (hash : List ℕ) → Bool → (ids : List ℕ) → List ℤ → (count : ℕ) → (nanos : ℤ) → (txs boxes : ℕ) → (b t : ℤ) → AddressRead
+answer-with hash has ids zs count nanos j k b t = record {
+  answer = Accepted;
+  address = record {
+    hash = hash;
+    «has_balance» = has;
+    balance = record { ids = ids; amounts = zs; count = count; nanos = nanos };
+    txs = j;
+    boxes = k;
+    «box_segment_count» = b;
+    «tx_segment_count» = t;
+  };
+}
 
 abbrev answer-of : segment-loading.Loading → Loaded
 answer-of w = w .answer
@@ -205,33 +216,11 @@ module _ (s : List ℕ) (l m : List ℤ) where
 
       -- x, y and z are what locals hold of the nanoErgs and the spill counts
       pub address-read : (j k : ℕ) (b t : ℤ) (o : ℕ) → a ≡ loaded.Read j k b t o → (x y z : ℤ) → x ≡ nanos → y ≡ b → z ≡ t → (hash : List ℕ) → hash ≡ take 32 s
-          → loading (record {
-            answer = Accepted;
-            address = record {
-              hash = hash;
-              «has_balance» = has;
-              balance = record { ids = ids; amounts = zs; count = count; nanos = x };
-              txs = j;
-              boxes = k;
-              «box_segment_count» = y;
-              «tx_segment_count» = z;
-            };
-          }) l′ m′ ≡ load-address s l m
+          → loading (answer-with hash has ids zs count x j k y z) l′ m′ ≡ load-address s l m
       address-read j k b t o d x y z xe ye ze hash he = by-segment (ended true (length s) (segment-at s n)) e ∙ whole _ (f .is)
         where
           by-segment : (g : Seg) → segment-loading.loading a l′ m′ ≡ segment-loading.load g l m
-              → loading (record {
-                answer = Accepted;
-                address = record {
-                  hash = hash;
-                  «has_balance» = has;
-                  balance = record { ids = ids; amounts = zs; count = count; nanos = x };
-                  txs = j;
-                  boxes = k;
-                  «box_segment_count» = y;
-                  «tx_segment_count» = z;
-                };
-              }) l′ m′ ≡ load-segment (take 32 s) has (balance-of nanos (f .keys) (f .amounts)) l m g
+              → loading (answer-with hash has ids zs count x j k y z) l′ m′ ≡ load-segment (take 32 s) has (balance-of nanos (f .keys) (f .amounts)) l m g
           by-segment (seg ts bs b′ t′ o′) q =
               let r : loaded.Read j k b t o ≡ loaded.Read (length ts) (length bs) b′ t′ o′ = sym d ∙ ap answer-of q in
               let j′ : j ≡ length ts = cc in

@@ -1,6 +1,5 @@
 -- What the private steps of the reader do: tokens read into buffers of their own, ids of 32 bytes each and amounts at the same places.
 use mathlib.Core.Path.{_≡_}
-use mathlib.Core.Bool.{Bool}
 use mathlib.Core.List.{List}
 use Prim.Native.Nat.{ℕ, _*_}
 use lib.IntN.{ℤ}

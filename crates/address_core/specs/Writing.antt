@@ -9,11 +9,8 @@ use lib.ListN.{length, take}
 use Rattle.vlq_core.specs.declared.Wrote.the-variants.{Refused}
 use Rattle.vlq_core.specs.Writing.{Written, written, put-bytes}
 use Rattle.segment_core.specs.Row.{row-bytes}
+use Rattle.segment.specs.Calls.{held}
 use Rattle.address_core.specs.Bytes.{address-bytes}
-
--- n numbers are within 512, and within a borrowed list of len
-abbrev pub held : ℕ → ℕ → Bool
-held n len = leb n 512 && leb n len
 
 -- 25 unless: both lists are held, and the balance has at most 128 tokens
 unfoldable pub buffers-ok : (n len m len′ count : ℕ) → Bool

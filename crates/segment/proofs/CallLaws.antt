@@ -90,7 +90,7 @@ module _ (s l : List ℕ) (at k : ℕ) where
       let n : length s ≡ k - at = omega arith in
       rw (append-assoc (take at l) s (drop (at + length s) l)) (ap (take (k - at)) (drop-at (take at l) (s ++ drop (at + length s) l) at (length-take-le at l (omega arith))) ∙ take-at s (drop (at + length s) l) (k - at) n)
 
-  answered : (p : Bool) → cond p (put-bytes s l at) (written (wrote.Refused 25) l) .answer ≡ wrote.Next k
+  pub answered : (p : Bool) → cond p (put-bytes s l at) (written (wrote.Refused 25) l) .answer ≡ wrote.Next k
       → (k - at ≡ length s) × (take (k - at) (drop at (cond p (put-bytes s l at) (written (wrote.Refused 25) l) .out)) ≡ s)
   unfolding put-bytes
   answered true e = by-room (leb (at + length s) (length l)) refl e

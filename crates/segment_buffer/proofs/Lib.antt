@@ -1,2 +1,3 @@
--- Laws of the public calls.
+-- Laws of the public calls, and the table theorem of document 01's starred trial values.
 pub mod CallLaws
+pub mod TestVectorsLaw

@@ -41,20 +41,20 @@ pub record Writable (ts bs : List ℤ) (b t : ℤ) : Type 0 where
   pub tx-count : Count t
 
 -- a signed number of 64 bits is at least a byte
-numbers-some : (zs : List ℤ) → All64 zs → length zs ≤ length (numbers-bytes zs)
+pub numbers-some : (zs : List ℤ) → All64 zs → length zs ≤ length (numbers-bytes zs)
 unfolding numbers-bytes
 numbers-some [] f = omega arith
 numbers-some (z ∷ zs) f = omega (arith, length-append (enc (zig z)) (numbers-bytes zs), numbers-some zs (f .1), number-length w64 9 (omega arith) z (f .0) .0)
 
 -- s is p, then x and y, then q: it is also p and x, then y, then q
 module _ (s p x y q : List ℕ) (at : ℕ) (e : s ≡ p ++ ((x ++ y) ++ q)) (d : length p ≡ at) where
-  first : s ≡ p ++ (x ++ (y ++ q))
+  pub first : s ≡ p ++ (x ++ (y ++ q))
   first = e ∙ ap (λ (l : List ℕ). p ++ l) (append-assoc x y q)
 
-  second : s ≡ (p ++ x) ++ (y ++ q)
+  pub second : s ≡ (p ++ x) ++ (y ++ q)
   second = first ∙ sym (append-assoc p x (y ++ q))
 
-  second-at : length (p ++ x) ≡ at + length x
+  pub second-at : length (p ++ x) ≡ at + length x
   second-at = length-append p x ∙ ap (λ (n : ℕ). n + length x) d
 
 -- ---- numbers

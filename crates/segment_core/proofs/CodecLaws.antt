@@ -32,7 +32,7 @@ use Rattle.segment_core.proofs.BackLaws.{All64, Count, Writable, segmen
 
 -- ---- a row has at most 10,254 bytes
 
-numbers-size : (zs : List ℤ) → All64 zs → length (numbers-bytes zs) ≤ 10 * length zs
+pub numbers-size : (zs : List ℤ) → All64 zs → length (numbers-bytes zs) ≤ 10 * length zs
 unfolding numbers-bytes
 numbers-size [] f = omega arith
 numbers-size (z ∷ zs) f = omega (arith, length-append (enc (zig z)) (numbers-bytes zs), numbers-size zs (f .1), number-length w64 9 (omega arith) z (f .0) .1)

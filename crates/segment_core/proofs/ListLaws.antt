@@ -27,7 +27,7 @@ use Rattle.segment_core.specs.Steps.{ReadInto}
 
 -- ---- a length: z was read, x is what a local holds of it, k its absolute value
 
-not-negative : (y : ℤ) (k : ℕ) → is-negative y ≡ false → k ≡ natAbs y → y ≡ pos k
+pub not-negative : (y : ℤ) (k : ℕ) → is-negative y ≡ false → k ≡ natAbs y → y ≡ pos k
 not-negative (pos j) k h e = ap pos (sym e)
 not-negative (negsuc j) k h e = let x : _≡_ {A = ℕ} 0 1 = cc in absurd (omega arith)
 
@@ -176,7 +176,7 @@ pub record Found (s : List ℕ) (at k n : ℕ) (b : List ℤ) : Type 0 where
   pub pads : b ≡ padded list
   pub room : length b ≡ 512
 
-drop-replicate : (m n : ℕ) (a : ℤ) → drop n (replicate m a) ≡ replicate (m - n) a
+pub drop-replicate : {A : Type 0} (m n : ℕ) (a : A) → drop n (replicate m a) ≡ replicate (m - n) a
 drop-replicate m zero a = let e : m ≡ m - 0 = omega arith in ap (λ (k : ℕ). replicate k a) e
 drop-replicate zero (suc n) a = let e : 0 ≡ 0 - suc n = omega arith in ap (λ (k : ℕ). replicate k a) e
 drop-replicate (suc m) (suc n) a = let e : m - n ≡ suc m - suc n = omega arith in drop-replicate m n a ∙ ap (λ (k : ℕ). replicate k a) e

@@ -1,10 +1,7 @@
 -- `address::read_indexed_address` meets its contract: three tests of 25, then the core reads; one law for each way out.
-use mathlib.Core.Path.{ap, _∙_}
-use Rattle.address_core.specs.declared.AddressRead.{AddressRead}
-use Rattle.address_core.specs.Loading.{loading}
+use mathlib.Core.Path.{_∙_}
 use Rattle.address_core.proofs.LoadLaws.{call-25-row, call-25-txs, call-25-boxes, call-on}
 use borrow.Author.Needs.{needs}
-use native.Mathlib.Omega.{arith}
 use Rattle.address.proofs.read_indexed_address.Statement.{statement}
 use Rattle.address.proofs.read_indexed_address.Tie as tie
 

@@ -5,7 +5,6 @@ use mir.Val.{SFits}
 use mir.Facts.{toZ-ofZ}
 use Rattle.address_core.proofs.WriteLaws.{write-as}
 use borrow.Author.Needs.{needs}
-use native.Mathlib.Omega.{arith}
 use Rattle.address.proofs.write_indexed_address.Statement.{statement}
 use Rattle.address.proofs.write_indexed_address.Tie as tie
 

@@ -1,0 +1,2 @@
+-- The laws of `address`.
+pub mod CallLaws
