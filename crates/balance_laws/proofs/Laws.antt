@@ -21,6 +21,7 @@ use Rattle.balance.specs.Boxes.{buffers-ok, stopped, nanos-after, held-by, sett
 use Rattle.ledger.specs.Ledger.{TokenId, Tokens, Typed}
 use Rattle.ledger.specs.Run.{Res, done, refused}
 use Rattle.fork_model.proofs.Balances as Ba
+use Rattle.fork_model.proofs.BalanceLaws as Bw
 use Rattle.fork_model.proofs.Results.{mapRes, map-done}
 use Rattle.fork_model.proofs.Search.{done≢refused}
 use Rattle.fork_model.proofs.Store as St
@@ -137,27 +138,27 @@ module _ (ids : List ℕ) (amounts : List ℤ) (ids-in : length ids ≡ 4096) (a
   balances = record { Bal = Balance; noBal = none; add = credited; sub = debited; nanoOf = λ b. b .nanos; amountOf = λ b t. amount-in (tokens-in b) t }
 
   abbrev G : Ba.Bal → Type 0
-  G b = Ba.GoodB limit 128 b
+  G b = Bw.GoodB limit 128 b
 
   abbrev pub Good : Balance → Type 0
   Good b = Fits (held-by b) × G (bal-of b)
 
   pub laws : (E : St.Env) → Wh.BalanceLaws E balances Good
   laws E = record {
-    no-good = (record { few = omega arith; ids-in = ids-in; amounts-in = amounts-in }, Ba.no-good limit 128 (omega arith));
+    no-good = (record { few = omega arith; ids-in = ids-in; amounts-in = amounts-in }, Bw.no-good limit 128 (omega arith));
     no-nano = refl;
     no-amount = λ t. refl;
     add-ok = λ b n ts c g R e.
         let D = add-same b (g .0) n ts (R .typed) in
-        let a = Ba.add-ok limit 128 (bal-of b) n ts (bal-of c) (g .1) R (done-same (credited b n ts) c (Ba.add limit 128 (bal-of b) n ts) (D .same) e) in
+        let a = Bw.add-ok limit 128 (bal-of b) n ts (bal-of c) (g .1) R (done-same (credited b n ts) c (Ba.add limit 128 (bal-of b) n ts) (D .same) e) in
         ((D .keeps c e, a .0), record { nanoErgs = a .1 .nanoErgs; amounts = a .1 .amounts });
     sub-ok = λ b n ts c g R h k e.
         let D = sub-same b (g .0) n ts (R .typed) in
-        let a = Ba.sub-ok limit 128 (bal-of b) n ts (bal-of c) (g .1) R h k (done-same (debited b n ts) c (Ba.sub limit 128 (bal-of b) n ts) (D .same) e) in
+        let a = Bw.sub-ok limit 128 (bal-of b) n ts (bal-of c) (g .1) R h k (done-same (debited b n ts) c (Ba.sub limit 128 (bal-of b) n ts) (D .same) e) in
         ((D .keeps c e, a .0), record { nanoErgs = a .1 .nanoErgs; amounts = a .1 .amounts });
     add-back = λ x n ts b g h R s.
         let D = add-same b (h .0) n ts (R .typed) in
-        let a = Ba.add-back limit 128 (bal-of x) n ts (bal-of b) (g .1) (h .1) R (record { nanoErgs = s .nanoErgs; amounts = s .amounts }) in
+        let a = Bw.add-back limit 128 (bal-of x) n ts (bal-of b) (g .1) (h .1) R (record { nanoErgs = s .nanoErgs; amounts = s .amounts }) in
         let m = map-done bal-of (credited b n ts) (a .0) (D .same ∙ a .1) in (
           m .0,
           m .1,
@@ -166,7 +167,7 @@ module _ (ids : List ℕ) (amounts : List ℤ) (ids-in : length ids ≡ 4096) (a
         );
     sub-back = λ x n ts b g h R s.
         let D = sub-same b (h .0) n ts (R .typed) in
-        let a = Ba.sub-back limit 128 (bal-of x) n ts (bal-of b) (g .1) (h .1) R (record { nanoErgs = s .nanoErgs; amounts = s .amounts }) in
+        let a = Bw.sub-back limit 128 (bal-of x) n ts (bal-of b) (g .1) (h .1) R (record { nanoErgs = s .nanoErgs; amounts = s .amounts }) in
         let m = map-done bal-of (debited b n ts) (a .0) (D .same ∙ a .1) in (
           m .0,
           m .1,

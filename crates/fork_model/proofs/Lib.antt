@@ -1,10 +1,21 @@
 -- The fork-undo theorem of an index of tables, from which that of the index in bytes follows.
 pub mod Paid
 pub mod Table
+pub mod EntryLaws
 pub mod Store
 pub mod Search
 pub mod Balances
+pub mod TokenLaws
+pub mod BalanceLaws
+pub mod OperationLaws
+pub mod Holding
 pub mod History
-pub mod StoreLaws
+pub mod GoodStore
+pub mod AppendLaws
+pub mod PopLaws
+pub mod FlushLaws
+pub mod FlipLaws
 pub mod Whole
 pub mod Results
+pub mod Room
+pub mod SmallHistories

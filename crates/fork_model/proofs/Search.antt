@@ -2,20 +2,20 @@
 use Rattle.ledger.proofs.TestLaws.{ite-yes}
 use Rattle.ledger.specs.Run.{flat, rowOr}
 use mathlib.Core.Path.{_≡_, refl, sym, _∙_, ap, subst}
-use mathlib.Core.Logic.{_⊎_, inl, inr, ⊎-elim, _≢_}
+use mathlib.Core.Logic.{⊎-elim, _≢_}
 use mathlib.Core.Bool.{Bool, true, false}
 use mathlib.Core.List.{List, [], _∷_, _++_, map, append-assoc, append-nil, List·Memᴰ, List·Memᴰ·head, List·Memᴰ·tail, List·Memᴰ·cases-cons, List·Memᴰ·not-nil, List·Memᴰ·append-cases, Memᴰ·append-left, Memᴰ·append-right}
-use Prim.Native.Nat.{ℕ, zero, suc, _+_, _*_, _-_, _/_, _≤_, _<_}
+use Prim.Native.Nat.{ℕ, zero, suc, _+_, _*_, _≤_, _<_}
 use native.Mathlib.Decide.{ℕ-discrete, decLe, decLt}
 use native.Mathlib.Omega.{arith}
 use native.Mathlib.Nat.{mul-suc}
-use lib.IntN.{ℤ, pos, negsuc, negℤ, natAbs}
+use lib.IntN.{ℤ, pos, negℤ, natAbs}
 use lib.ListN.{length, getD, length-append}
 use Rattle.ledger.specs.Ledger.{int-dec, ite, absℤ}
 use Rattle.ledger.specs.Run.{Res, done, refused}
-use Rattle.fork_model.proofs.Table.{Found, missing, found, orElse}
-use Rattle.fork_model.proofs.History.{Sorted, Flip, mem-map, mem-mid}
-use Rattle.fork_model.proofs.Store.{andThen, Ends, nothing, ends, consEnd, unsnoc, consF, flipFirst, ordered, orB, seenIn, whenB, Hit, onHit, firstAbs, midOf, halve, notFound, lastAbs, walk}
+use Rattle.fork_model.proofs.Table.{Found, missing, found}
+use Rattle.fork_model.proofs.EntryLaws.{Sorted, Flip, mem-map}
+use Rattle.fork_model.proofs.Store.{andThen, Ends, nothing, ends, consEnd, unsnoc, consF, flipFirst, ordered, orB, seenIn, Hit, onHit, firstAbs, midOf, halve, notFound, lastAbs, walk}
 
 -- two constructors are never equal
 pub done≢refused : {A : Type 0} {a : A} {k : ℕ} → _≡_ {A = Res A} (done a) (refused k) → ⊥

@@ -208,6 +208,25 @@ module _ (Row : Type 0) (Key : Type 0) (key-dec : Discrete Key) where
   distinct-removeAll [] shelf d = d
   distinct-removeAll (k ∷ ks) shelf d = distinct-removeAll ks (remove shelf k) (distinct-remove shelf k d)
 
+  removed-at : (t : Table) (k : Key) (x : Rec) (w : Dec (x .name ≡ k)) → Distinct (x ∷ t) → Absent k (remove t k) → Absent k (ite w (gapped t) (x ∷ remove t k))
+  unfolding ite
+  removed-at t k x (yes e) d h = absent-gapped t k (subst (λ (y : Key). Absent y t) e (d .0))
+  removed-at t k x (no q) d h = (q, h)
+
+  removed : (t : Table) (k : Key) → Distinct t → Absent k (remove t k)
+  removed [] k d = tt
+  removed (x ∷ t) k d = removed-at t k x (key-dec (x .name) k) d (removed t k (d .1))
+
+  absent-removeAll : (ks : List Key) (t : Table) (k : Key) → Absent k t → Absent k (removeAll ks t)
+  absent-removeAll [] t k a = a
+  absent-removeAll (j ∷ ks) t k a = absent-removeAll ks (remove t j) k (absent-remove t j k a)
+
+  -- a deleted key has no row any more
+  pub deleted-gone : (ks : List Key) (t : Table) (k : Key) → Distinct t → In k ks → Absent k (removeAll ks t)
+  deleted-gone [] t k d h = absurd h
+  deleted-gone (j ∷ ks) t k d (inl e) = absent-removeAll ks (remove t j) k (subst (λ (y : Key). Absent y (remove t j)) e (removed t j d))
+  deleted-gone (j ∷ ks) t k d (inr h) = deleted-gone ks (remove t j) k (distinct-remove t j d) h
+
   pub lookup-removeAll : (ks : List Key) (shelf : Table) (j : Key) → Distinct shelf → (In j ks → ⊥) → lookup (removeAll ks shelf) j ≡ lookup shelf j
   lookup-removeAll [] shelf j d n = refl
   lookup-removeAll (k ∷ ks) shelf j d n =

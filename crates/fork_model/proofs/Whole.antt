@@ -1,21 +1,23 @@
 -- The theorem for the store of tables and a balance that keeps its laws.
 use Rattle.ledger.specs.Run.{flat}
-use mathlib.Core.Path.{_≡_, refl, sym, _∙_, ap, subst}
-use mathlib.Core.HLevel.{Discrete}
-use mathlib.Core.Logic.{_≢_}
-use mathlib.Core.List.{List, [], _∷_, _++_, map, List·Memᴰ, List·Memᴰ·not-nil}
-use Prim.Native.Nat.{ℕ, zero, suc, _+_, _*_, _≤_, _<_}
+use mathlib.Core.Path.{_≡_, refl}
+use mathlib.Core.List.{List·Memᴰ·not-nil}
+use Prim.Native.Nat.{ℕ, suc}
 use native.Mathlib.Omega.{arith}
-use lib.IntN.{ℤ, pos, negsuc, negℤ, natAbs, _+ℤ_, _-ℤ_}
+use lib.IntN.{ℤ, pos, negℤ, natAbs}
 use lib.Signed.{_≤ℤ_}
-use lib.ListN.{length}
 use Rattle.fork_model.proofs.Paid.{Paid}
-use Rattle.ledger.specs.Ledger.{TokenId, Parent, parent-dec, Series, boxes, txs, Tokens, absℤ, sumOf}
-use Rattle.ledger.specs.Run.{Res, done, refused, Popped, Machine}
+use Rattle.ledger.specs.Ledger.{TokenId, Series, boxes, Tokens, sumOf}
+use Rattle.ledger.specs.Run.{Res, done, Machine}
 use Rattle.ledger.specs.Run as Mc
+use Rattle.fork_model.proofs.OperationLaws as Op
 use Rattle.fork_model.proofs.History as Hi
 use Rattle.fork_model.proofs.Store as St
-use Rattle.fork_model.proofs.StoreLaws as Sl
+use Rattle.fork_model.proofs.GoodStore as Gs
+use Rattle.fork_model.proofs.AppendLaws as Al
+use Rattle.fork_model.proofs.PopLaws as Pl
+use Rattle.fork_model.proofs.FlushLaws as Fu
+use Rattle.fork_model.proofs.FlipLaws as Fl
 use Rattle.fork_model.proofs.Search as Se
 
 -- the operations on balances
@@ -56,31 +58,28 @@ module _ (E : St.Env) (B : Balances) where
     pub no-good : GoodB (B .noBal)
     pub no-nano : B .nanoOf (B .noBal) ≡ pos 0
     pub no-amount : (t : TokenId) → B .amountOf (B .noBal) t ≡ pos 0
-    pub add-ok : (b : B .Bal) (n : ℤ) (ts : Tokens) (b′ : B .Bal) → GoodB b → Paid n ts → B .add b n ts ≡ done b′ → GoodB b′ × Hi.Grew machine b n ts b′
+    pub add-ok : (b : B .Bal) (n : ℤ) (ts : Tokens) (b′ : B .Bal) → GoodB b → Paid n ts → B .add b n ts ≡ done b′ → GoodB b′ × Op.Grew machine b n ts b′
     pub sub-ok : (b : B .Bal) (n : ℤ) (ts : Tokens) (b′ : B .Bal) → GoodB b → Paid n ts → n ≤ℤ B .nanoOf b → ((t : TokenId) → sumOf t ts ≤ℤ B .amountOf b t)
-        → B .sub b n ts ≡ done b′ → GoodB b′ × Hi.Shrank machine b n ts b′
-    pub add-back : (b₀ : B .Bal) (n : ℤ) (ts : Tokens) (b : B .Bal) → GoodB b₀ → GoodB b → Paid n ts → Hi.Shrank machine b₀ n ts b → (b′ : B .Bal) × (B .add b n ts ≡ done b′) × GoodB b′ × Hi.Alike machine b₀ b′
-    pub sub-back : (b₀ : B .Bal) (n : ℤ) (ts : Tokens) (b : B .Bal) → GoodB b₀ → GoodB b → Paid n ts → Hi.Grew machine b₀ n ts b → (b′ : B .Bal) × (B .sub b n ts ≡ done b′) × GoodB b′ × Hi.Alike machine b₀ b′
+        → B .sub b n ts ≡ done b′ → GoodB b′ × Op.Shrank machine b n ts b′
+    pub add-back : (b₀ : B .Bal) (n : ℤ) (ts : Tokens) (b : B .Bal) → GoodB b₀ → GoodB b → Paid n ts → Op.Shrank machine b₀ n ts b → (b′ : B .Bal) × (B .add b n ts ≡ done b′) × GoodB b′ × Op.Alike machine b₀ b′
+    pub sub-back : (b₀ : B .Bal) (n : ℤ) (ts : Tokens) (b : B .Bal) → GoodB b₀ → GoodB b → Paid n ts → Op.Grew machine b₀ n ts b → (b′ : B .Bal) × (B .sub b n ts ≡ done b′) × GoodB b′ × Op.Alike machine b₀ b′
 
-  module _ (code : Sl.Coded E) (GoodB : B .Bal → Type 0) (BL : BalanceLaws GoodB) where
-    pub store-laws : (U : Series → ℕ → Type 0) → Mc.KeysApart machine U → Hi.Laws machine U (Sl.Good E code U) (Sl.Tidy E code U) GoodB
+  module _ (code : Gs.Coded E) (GoodB : B .Bal → Type 0) (BL : BalanceLaws GoodB) where
+    pub store-laws : (U : Series → ℕ → Type 0) → Mc.KeysApart machine U → Op.Laws machine U (Gs.Good E code U) (Gs.Tidy E code U) GoodB
     unfolding flat
     store-laws U apart = record {
       empty-good = record { full = λ ch s h. absurd (omega arith); used = λ ch s h. absurd (omega arith); kept = λ ch s h i. i; fits = λ ch. omega arith; small = λ ch x t. absurd (List·Memᴰ·not-nil t); oneStaged = tt; oneShelved = tt; capStaged = omega arith; capShelved = omega arith; capDeleted = omega arith };
       empty-tidy = refl;
       empty-entries = λ ch. refl;
-      append-ok = λ σ ch n τ G t v e C. let a = Sl.append-ok E code U apart σ ch n τ G t v e C in
-          record { good = a .good; tidy = a .tidy t; nonneg = a .nonneg; grown = a .grown; beside = a .beside };
-      pop-ok = λ σ ch x G e. let a = Sl.pop-ok E code U apart σ ch x G e in
-          record { good = a .good; last = a .last; beside = a .beside };
-      pop-no = λ σ ch k G n e. Sl.pop-no E code U apart σ ch k G n e;
-      spend-ok = λ σ p t τ G e. let a = Sl.guard-ok E code U apart σ (boxes p) (pos (natAbs t)) t τ G e in
+      append-ok = Al.append-ok E code U apart;
+      pop-ok = Pl.pop-ok E code U apart;
+      pop-no = Pl.pop-no E code U apart;
+      spend-ok = λ σ p t τ G e. let a = Fl.guard-ok E code U apart σ (boxes p) (pos (natAbs t)) t τ G e in
           record { good = a .good; tidy = a .tidy; flip = Se.flip-of-split (natAbs t) (a .split); beside = a .beside };
-      unspend-ok = λ σ p t τ G e. let a = Sl.guard-ok E code U apart σ (boxes p) (negℤ (pos (natAbs t))) t τ G e in
+      unspend-ok = λ σ p t τ G e. let a = Fl.guard-ok E code U apart σ (boxes p) (negℤ (pos (natAbs t))) t τ G e in
           record { good = a .good; flip = Se.unflip-of-split (natAbs t) (a .split); beside = a .beside };
-      unspend-no = λ σ p t k G S m e. Sl.guard-no E code U apart σ (boxes p) (negℤ (pos (natAbs t))) t k G (Se.sorted-unmap (St.entries E σ (boxes p)) S) (Sl.abs-neg (pos (natAbs t))) m e;
-      flush-ok = λ σ τ G e. let a = Sl.flush-ok E code U apart σ τ G e in
-          record { good = a .good; tidy = a .tidy; same = a .same };
+      unspend-no = λ σ p t k G S m e. Fl.guard-no E code U apart σ (boxes p) (negℤ (pos (natAbs t))) t k G (Se.sorted-unmap (St.entries E σ (boxes p)) S) (Gs.abs-neg (pos (natAbs t))) m e;
+      flush-ok = Fu.flush-ok E code U apart;
       no-good = BL .no-good;
       no-nano = BL .no-nano;
       no-amount = BL .no-amount;
@@ -91,4 +90,4 @@ module _ (E : St.Env) (B : Balances) where
     }
 
     pub fork-undo : Mc.ForkUndo machine
-    fork-undo = Hi.fork-undo machine (Sl.Tidy E code (λ ch s. ⊥)) (Sl.Good E code) GoodB store-laws
+    fork-undo = Hi.fork-undo machine (Gs.Tidy E code (λ ch s. ⊥)) (Gs.Good E code) GoodB store-laws

@@ -37,7 +37,7 @@ use Rattle.fork_model.proofs.Results.{mapRes}
 use Rattle.history.specs.Index.{Part, part, Index, index, kind-of, set-part, with-staged, after-append, id-of, do-append}
 use Rattle.history.proofs.Tables.{Table, tab, put}
 use Rattle.history.proofs.State as S
-use Rattle.history.proofs.State.{Small, EditionLaws, ListsFit, lists-fit, fit-lists, HeadFits, head-fits, fit-head, push-to, all-set, same-set}
+use Rattle.history.proofs.State.{Small, EditionLaws, ListsFit, lists-fit, fit-lists, HeadFits, head-fits, fit-head, push-to, all-set, same-set, Capacities, head-of, spills-of}
 use Rattle.history.proofs.Lists.{full-is, put-table}
 
 -- ---- heads
@@ -53,23 +53,14 @@ pub first-one : (n : ℤ) (head : List ℤ) → take 1 (one-number n head) ≡ n
 unfolding write
 first-one n head = refl
 
-module _ (E : Edition) (L : EditionLaws E) (ids : Parent → List ℕ) (table-cap staged-cap deleted-cap : ℕ) where
+module _ (E : Edition) (L : EditionLaws E) (ids : Parent → List ℕ) (caps : Capacities) where
   abbrev W : St.Env
-  W = S.env E ids table-cap staged-cap deleted-cap
+  W = S.env E ids caps
 
   abbrev abs : Index → St.Store W
-  abs b = S.abs E ids table-cap staged-cap deleted-cap b
+  abs b = S.abs E ids caps b
 
-  abbrev Inv : Index → Type 0
-  Inv b = S.Inv E ids table-cap staged-cap deleted-cap b
-
-  abbrev head-of : Part → List ℤ
-  head-of p = S.head-of E ids table-cap staged-cap deleted-cap p
-
-  abbrev spills-of : Part → ℕ
-  spills-of p = S.spills-of E ids table-cap staged-cap deleted-cap p
-
-  module _ (b : Index) (ch : Series) (I : Inv b) (small : Small (abs b .heads ch)) where
+  module _ (b : Index) (ch : Series) (I : S.Inv E ids caps b) (small : Small (abs b .heads ch)) where
     abbrev c : ListCounts
     c = b .lists .staged-counts
 
@@ -145,7 +136,7 @@ module _ (E : Edition) (L : EditionLaws E) (ids : Parent → List ℕ) (table-ca
         λ i. done (record { heads = heads i; counts = counts i; staging = rows i; shelf = abs b .shelf; deletion = abs b .deletion })
 
     stage-is : (r : List ℕ) → St.stage W (abs b) key r ≡ cond (full-for (E .size) c key l) (refused 16) (done (put (abs b .staging) key r))
-    stage-is r = full-is (E .size) c staged-cap key l (refused 16) (done (put (abs b .staging) key r)) (I .staged-at)
+    stage-is r = full-is (E .size) c (caps .staged) key l (refused 16) (done (put (abs b .staging) key r)) (I .staged-at)
 
     by-full : (n : ℤ) (t : Bool) → len ≡ 512 → full-for (E .size) c key l ≡ t
         → mapRes abs (end (cond t (no-append 16) (spill n)))
@@ -177,7 +168,7 @@ module _ (E : Edition) (L : EditionLaws E) (ids : Parent → List ℕ) (table-ca
 
     -- ---- and keeps what holds
     inv-part : (v : Part) (d : ListCounts) (m : List ℕ) → head-ok (v .head) (v .places) ≡ true → is-negative (v .head .spills) ≡ false → natAbs (v .head .spills) ≤ 2147483647
-        → RecordsOk (E .size) (E .limit) d m → d .capacity ≡ c .capacity → Inv (index (set-part (b .parts) ch v) (with-staged d m (b .lists)))
+        → RecordsOk (E .size) (E .limit) d m → d .capacity ≡ c .capacity → S.Inv E ids caps (index (set-part (b .parts) ch v) (with-staged d m (b .lists)))
     inv-part v d m x y z t q = record {
       heads-in = all-set (λ q. head-ok (q .head) (q .places) ≡ true) (b .parts) ch v x (I .heads-in);
       not-below = all-set (λ q. is-negative (q .head .spills) ≡ false) (b .parts) ch v y (I .not-below);
@@ -189,7 +180,7 @@ module _ (E : Edition) (L : EditionLaws E) (ids : Parent → List ℕ) (table-ca
     }
 
     abbrev Keeps : Appending → Type 0
-    Keeps o = (d : Index) → end o ≡ done d → Inv d
+    Keeps o = (d : Index) → end o ≡ done d → S.Inv E ids caps d
 
     no-keeps : (k : ℕ) → Keeps (no-append k)
     no-keeps k d e = absurd (done≢refused (sym e))
@@ -228,6 +219,6 @@ module _ (E : Edition) (L : EditionLaws E) (ids : Parent → List ℕ) (table-ca
     keeps-sign n true = no-keeps 17
     keeps-sign n false = keeps-len n (ltb len 512) refl
 
-    pub append-inv : (n : ℤ) (d : Index) → do-append E ids b ch n ≡ done d → Inv d
+    pub append-inv : (n : ℤ) (d : Index) → do-append E ids b ch n ≡ done d → S.Inv E ids caps d
     unfolding append-of append-core
     append-inv n d e = keeps-sign n (is-negative n) d (rw (ok, I .not-below ch) at e)

@@ -45,7 +45,7 @@ use Rattle.ledger.specs.Ledger.{Parent, Series, boxes, ite}
 use Rattle.ledger.specs.Run.{Res, done, refused}
 use Rattle.fork_model.proofs.Store as St
 use Rattle.fork_model.proofs.Store.{andThen, flipFirst, seenIn, whenB, notFound}
-use Rattle.fork_model.proofs.StoreLaws as Sl
+use Rattle.fork_model.proofs.GoodStore as Gs
 use Rattle.fork_model.proofs.Search as Se
 use Rattle.fork_model.proofs.Search.{done≢refused}
 use Rattle.fork_model.proofs.Table.{orElse}
@@ -54,7 +54,7 @@ use Rattle.history.specs.Index.{Part, part, Index, index, set-part, with
 use Rattle.history.proofs.Tables.{tab, put, lookup-is, row-opt}
 use Rattle.history.proofs.Tables as Tab
 use Rattle.history.proofs.State as S
-use Rattle.history.proofs.State.{EditionLaws, ListsFit, lists-fit, fit-lists, HeadFits, head-fits, fit-head, push-to, all-set, same-set}
+use Rattle.history.proofs.State.{EditionLaws, ListsFit, lists-fit, fit-lists, HeadFits, head-fits, fit-head, push-to, all-set, same-set, Capacities, head-of, spills-of}
 use Rattle.history.proofs.Lists.{ite-le, full-is, put-table}
 use Rattle.history.proofs.PopSim.{read-same}
 use Rattle.history.proofs.FlipLists.{copyOf, copy-abs, newOf, first-new, isSeen, first-seen, first-in, order-same, leadRes, lowOf, search-same, lookRes, hitOf, walk-same}
@@ -81,24 +81,15 @@ check-eq l e = rw (eq-eqb (length l) 512 e)
 turn-take : (l : List ℤ) (n i : ℕ) → i < n → take n (flipped-at (At i) l) ≡ flipped-at (At i) (take n l)
 turn-take l n i h = take-set-lt n l i (negℤ (getD l i (pos 0))) h ∙ ap (λ (x : ℤ). set (take n l) i (negℤ x)) (sym (getD-take n l i (pos 0) h))
 
-module _ (E : Edition) (L : EditionLaws E) (ids : Parent → List ℕ) (table-cap staged-cap deleted-cap : ℕ) where
+module _ (E : Edition) (L : EditionLaws E) (ids : Parent → List ℕ) (caps : Capacities) where
   abbrev W : St.Env
-  W = S.env E ids table-cap staged-cap deleted-cap
+  W = S.env E ids caps
 
   abbrev abs : Index → St.Store W
-  abs b = S.abs E ids table-cap staged-cap deleted-cap b
+  abs b = S.abs E ids caps b
 
-  abbrev Inv : Index → Type 0
-  Inv b = S.Inv E ids table-cap staged-cap deleted-cap b
-
-  abbrev head-of : Part → List ℤ
-  head-of p = S.head-of E ids table-cap staged-cap deleted-cap p
-
-  abbrev spills-of : Part → ℕ
-  spills-of p = S.spills-of E ids table-cap staged-cap deleted-cap p
-
-  module _ (b : Index) (p : Parent) (I : Inv b) (small : Sl.Small 9223372036854775808 (abs b .heads (boxes p)))
-      (full : (s : ℕ) → s < abs b .counts (boxes p) → Sl.FullRow 9223372036854775808 511 (St.rowAt W (abs b) (boxes p) s)) where
+  module _ (b : Index) (p : Parent) (I : S.Inv E ids caps b) (small : Gs.Small 9223372036854775808 (abs b .heads (boxes p)))
+      (full : (s : ℕ) → s < abs b .counts (boxes p) → Gs.FullRow 9223372036854775808 511 (St.rowAt W (abs b) (boxes p) s)) where
     abbrev x : Lists
     x = b .lists
 
@@ -138,7 +129,7 @@ module _ (E : Edition) (L : EditionLaws E) (ids : Parent → List ℕ) (table-ca
     -- an effect does what the tables' operation does, and keeps what holds
     pub record Does (e : Effect) (Y : Res (St.Store W)) : Type 0 where
       pub same : mapRes abs (end e) ≡ Y
-      pub keeps : (d : Index) → end e ≡ done d → Inv d
+      pub keeps : (d : Index) → end e ≡ done d → S.Inv E ids caps d
 
     no : (k : ℕ) → Does (refuse k) (refused k)
     no k = record { same = refl; keeps = λ d e. absurd (done≢refused (sym e)) }
@@ -150,7 +141,7 @@ module _ (E : Edition) (L : EditionLaws E) (ids : Parent → List ℕ) (table-ca
     from {e} {f} {Y} z D = rw z D
 
     inv-part : (v : Part) (d : ListCounts) (l : List ℕ) → head-ok (v .head) (v .places) ≡ true → v .head ≡ q .head → RecordsOk (E .size) (E .limit) d l → d .capacity ≡ cap
-        → Inv (index (set-part (b .parts) (boxes p) v) (with-staged d l x))
+        → S.Inv E ids caps (index (set-part (b .parts) (boxes p) v) (with-staged d l x))
     inv-part v d l y h t e = record {
       heads-in = all-set (λ z. head-ok (z .head) (z .places) ≡ true) (b .parts) (boxes p) v y (I .heads-in);
       not-below = all-set (λ z. is-negative (z .head .spills) ≡ false) (b .parts) (boxes p) v (rw h (I .not-below (boxes p))) (I .not-below);
@@ -213,7 +204,7 @@ module _ (E : Edition) (L : EditionLaws E) (ids : Parent → List ℕ) (table-ca
       full-val f e = rw e
 
       stage-is : (r : List ℕ) → St.stage W (abs b) key r ≡ cond (full-for (E .size) c key (x .staged)) (refused 16) (done (put (abs b .staging) key r))
-      stage-is r = full-is (E .size) c staged-cap key (x .staged) (refused 16) (done (put (abs b .staging) key r)) (I .staged-at)
+      stage-is r = full-is (E .size) c (caps .staged) key (x .staged) (refused 16) (done (put (abs b .staging) key r)) (I .staged-at)
 
       -- the row's bytes, by where its key was found
       abbrev row-by : Found → Found → List ℕ
@@ -242,7 +233,7 @@ module _ (E : Edition) (L : EditionLaws E) (ids : Parent → List ℕ) (table-ca
       abbrev finish : Tab.Table → Res (St.Store W)
       finish t = done (St.withStaging W (abs b) t)
 
-      module _ (i : ℕ) (l : List ℤ) (few : length (flipped-at (At i) l) ≤ 512) (little : Sl.Small 9223372036854775808 (flipped-at (At i) l)) where
+      module _ (i : ℕ) (l : List ℤ) (few : length (flipped-at (At i) l) ≤ 512) (little : Gs.Small 9223372036854775808 (flipped-at (At i) l)) where
         abbrev new : List ℤ
         new = flipped-at (At i) l
 
@@ -278,8 +269,8 @@ module _ (E : Edition) (L : EditionLaws E) (ids : Parent → List ℕ) (table-ca
             ∙ ap (λ (r : List ℕ). andThen (St.stage W (abs b) key r) finish) (sym (redo-same l new h)))
 
     -- ---- rows below the spill count are read alike
-    reads : (n : ℕ) → n < spills → (l : List ℤ) × (read-spill n ≡ good l) × (length l ≡ 512) × Sl.Small 9223372036854775808 l
-    reads n h = let g = full n h in (g .0, good-of (read-spill n) (g .0) (read-same E ids table-cap staged-cap deleted-cap b (boxes p) n ∙ g .1), g .2, g .3)
+    reads : (n : ℕ) → n < spills → (l : List ℤ) × (read-spill n ≡ good l) × (length l ≡ 512) × Gs.Small 9223372036854775808 l
+    reads n h = let g = full n h in (g .0, good-of (read-spill n) (g .0) (read-same E ids caps b (boxes p) n ∙ g .1), g .2, g .3)
 
     rd-is : (n : ℕ) (h : n < spills) → rd n ≡ whenB (order-ok (reads n h .0)) (done (reads n h .0)) (refused 13)
     unfolding reads
@@ -328,7 +319,7 @@ module _ (E : Edition) (L : EditionLaws E) (ids : Parent → List ℕ) (table-ca
           let sp = Se.first-split e (g .0) (flipped-at (At i) (rowOr (rd n))) o in
           let a : flipped-at (At i) (rowOr (rd n)) ≡ flipped-at (At i) (g .0) = ap (flipped-at (At i)) r in
           let few : length (flipped-at (At i) (g .0)) ≤ 512 = omega (arith, sym (ap length a) ∙ Se.split-length sp, g .2) in
-          let little : Sl.Small 9223372036854775808 (flipped-at (At i) (g .0)) = rw a at (Sl.small-split sp (g .3)) in
+          let little : Gs.Small 9223372036854775808 (flipped-at (At i) (g .0)) = rw a at (Gs.small-split sp (g .3)) in
           to (stage-does n i (g .0) few little (g .1)) (ap (λ (l : List ℤ). on-hit (record { at = n; new = l })) (sym a))
 
       by-low : (seen : Bool) (X : Res ℕ) → St.halve rd t spills 0 spills ≡ X
@@ -385,7 +376,7 @@ module _ (E : Edition) (L : EditionLaws E) (ids : Parent → List ℕ) (table-ca
 
     pub record FlipDoes (X : Res Index) (Y : Res (St.Store W)) : Type 0 where
       pub same : mapRes abs X ≡ Y
-      pub keeps : (d : Index) → X ≡ done d → Inv d
+      pub keeps : (d : Index) → X ≡ done d → S.Inv E ids caps d
 
     flip-does : (d : Direction) (z : ℤ) → FlipDoes (do-flip E ids d b p z) (ite (decLe 9223372036854775808 (natAbs z)) (refused 9) (St.doFlip W (abs b) (boxes p) (copyOf (spends d) (natAbs z))))
     unfolding flip-of flip-core

@@ -38,7 +38,7 @@ use Rattle.fork_model.proofs.Results.{mapRes}
 use Rattle.history.specs.Index.{Index, index, after-flush, do-flush}
 use Rattle.history.proofs.Tables.{Bytes, Table, tab, put, remove, in-dec, ite-in, writeAll, removeAll, fresh, fresh-is}
 use Rattle.history.proofs.State as S
-use Rattle.history.proofs.State.{EditionLaws, ListsFit, lists-fit, fit-lists}
+use Rattle.history.proofs.State.{EditionLaws, ListsFit, lists-fit, fit-lists, Capacities}
 use Rattle.history.proofs.Lists.{put-table, remove-table, remove-keeps, capacity-without, length-table}
 
 -- a record as a list that passes 25 holds it
@@ -182,17 +182,14 @@ module _ (E : Edition) (L : EditionLaws E) (dels : List (List ℕ)) where
       }
 
 -- ---- the flush
-module _ (E : Edition) (L : EditionLaws E) (ids : Parent → List ℕ) (table-cap staged-cap deleted-cap : ℕ) where
+module _ (E : Edition) (L : EditionLaws E) (ids : Parent → List ℕ) (caps : Capacities) where
   abbrev W : St.Env
-  W = S.env E ids table-cap staged-cap deleted-cap
+  W = S.env E ids caps
 
   abbrev abs : Index → St.Store W
-  abs b = S.abs E ids table-cap staged-cap deleted-cap b
+  abs b = S.abs E ids caps b
 
-  abbrev Inv : Index → Type 0
-  Inv b = S.Inv E ids table-cap staged-cap deleted-cap b
-
-  module _ (b : Index) (I : Inv b) where
+  module _ (b : Index) (I : S.Inv E ids caps b) where
     abbrev x : Lists
     x = b .lists
 
@@ -238,18 +235,18 @@ module _ (E : Edition) (L : EditionLaws E) (ids : Parent → List ℕ) (table-ca
     by-room : (t : Bool) → leb new (x .table-counts .capacity - x .table-counts .count) ≡ t → mapRes abs (end (cond t (flushed E x) refuse)) ≡ St.doFlush W (abs b)
     by-room true e =
         let h = leb-true new (x .table-counts .capacity - x .table-counts .count) e in
-        done-same h ∙ sym (ite-no (decLt table-cap (length (abs b .shelf) + fresh (abs b .staging) (abs b .deletion) (abs b .shelf))) (refused 22) (done (St.flushed W (abs b)))
+        done-same h ∙ sym (ite-no (decLt (caps .table) (length (abs b .shelf) + fresh (abs b .staging) (abs b .deletion) (abs b .shelf))) (refused 22) (done (St.flushed W (abs b)))
         (λ g. omega (arith, fresh-same, I .table-at, lf .in-table .bounds .counted)))
     by-room false e =
         let h = leb-false new (x .table-counts .capacity - x .table-counts .count) e in
-        sym (ite-yes (decLt table-cap (length (abs b .shelf) + fresh (abs b .staging) (abs b .deletion) (abs b .shelf))) (refused 22) (done (St.flushed W (abs b)))
+        sym (ite-yes (decLt (caps .table) (length (abs b .shelf) + fresh (abs b .staging) (abs b .deletion) (abs b .shelf))) (refused 22) (done (St.flushed W (abs b)))
         (omega (arith, fresh-same, I .table-at, lf .in-table .bounds .counted)))
 
     pub flush-same : mapRes abs (do-flush E ids b) ≡ St.doFlush W (abs b)
     unfolding flush-of flush-core
     flush-same = rw (I .lists-in) (by-room (leb new (x .table-counts .capacity - x .table-counts .count)) refl)
 
-    keeps-done : (d : Index) → new ≤ x .table-counts .capacity - x .table-counts .count → end (flushed E x) ≡ done d → Inv d
+    keeps-done : (d : Index) → new ≤ x .table-counts .capacity - x .table-counts .count → end (flushed E x) ≡ done d → S.Inv E ids caps d
     unfolding flushed
     keeps-done d h e =
         let t : Listed = table-after E x in
@@ -271,10 +268,10 @@ module _ (E : Edition) (L : EditionLaws E) (ids : Parent → List ℕ) (table-ca
           deleted-at = I .deleted-at;
         })
 
-    by-keeps : (t : Bool) → leb new (x .table-counts .capacity - x .table-counts .count) ≡ t → (d : Index) → end (cond t (flushed E x) refuse) ≡ done d → Inv d
+    by-keeps : (t : Bool) → leb new (x .table-counts .capacity - x .table-counts .count) ≡ t → (d : Index) → end (cond t (flushed E x) refuse) ≡ done d → S.Inv E ids caps d
     by-keeps true e d q = keeps-done d (leb-true new (x .table-counts .capacity - x .table-counts .count) e) q
     by-keeps false e d q = absurd (done≢refused (sym q))
 
-    pub flush-inv : (d : Index) → do-flush E ids b ≡ done d → Inv d
+    pub flush-inv : (d : Index) → do-flush E ids b ≡ done d → S.Inv E ids caps d
     unfolding flush-of flush-core
     flush-inv d e = by-keeps (leb new (x .table-counts .capacity - x .table-counts .count)) refl d (rw (I .lists-in) at e)

@@ -1,30 +1,30 @@
 -- The fork-undo theorem of the index in bytes, for any edition that keeps its laws and any balances that keep theirs.
-use mathlib.Core.Path.{_≡_, refl, sym, _∙_, ap}
-use mathlib.Core.Bool.{Bool, true, false}
-use mathlib.Core.List.{List, []}
-use Prim.Native.Nat.{ℕ, zero, suc, _+_, _*_, _≤_, _<_}
+use mathlib.Core.Path.{_≡_, refl, ap}
+use mathlib.Core.List.{List}
+use Prim.Native.Nat.{ℕ, _*_, _≤_}
 use native.Mathlib.Omega.{arith}
-use lib.IntN.{ℤ, pos}
+use lib.IntN.{ℤ}
 use lib.ListN.{length}
-use Rattle.records.specs.declared.ListCounts.{ListCounts}
-use Rattle.records.specs.Records.{records, keys}
+use Rattle.records.specs.Records.{records}
 use Rattle.records.specs.Find.{distinct}
 use Rattle.records.specs.Checks.{RecordsOk, KeysOk, lengths-ok}
 use Rattle.records.proofs.TurnLaws.{length-keys}
 use Rattle.records.proofs.CheckLaws.{bounds-of}
 use Rattle.segment_id.specs.declared.Kind.the-variants.{Box, Tx}
-use Rattle.buffer_core.specs.declared.Direction.the-variants.{Spend, Unspend}
-use Rattle.buffer_core.specs.Edition.{Edition, RowRead, bad, good}
-use Rattle.ledger.specs.Ledger.{Parent, Series, boxes, txs}
-use Rattle.ledger.specs.Run.{Res, done, refused}
+use Rattle.buffer_core.specs.Edition.{Edition}
+use Rattle.ledger.specs.Ledger.{Parent, Series, boxes, txs, id-dec}
+use Rattle.ledger.specs.Run.{done}
 use Rattle.ledger.specs.Run as Mc
+use Rattle.fork_model.proofs.Table as Tb
 use Rattle.fork_model.proofs.Store as St
-use Rattle.fork_model.proofs.StoreLaws as Sl
+use Rattle.fork_model.proofs.GoodStore as Gs
+use Rattle.fork_model.proofs.FlushLaws as Fl
 use Rattle.fork_model.proofs.Whole as Wh
-use Rattle.history.specs.Index.{Index, kind-of, to-res, do-append, do-pop, do-flip, do-flush, entries-of}
+use Rattle.history.specs.Index.{Index, kind-of, to-res, do-flush}
 use Rattle.history.specs.Machine.{Borrowed, none-of, start}
+use Rattle.history.specs.ForkUndo.{Places, index-machine}
 use Rattle.history.proofs.State as S
-use Rattle.history.proofs.State.{EditionLaws, fit-lists, fit-head}
+use Rattle.history.proofs.State.{EditionLaws, Capacities, fit-lists, fit-head}
 use Rattle.history.proofs.Lists.{length-table}
 use Rattle.history.proofs.Sim as Sm
 use Rattle.history.proofs.AppendSim as Ap
@@ -40,39 +40,32 @@ none-keys : (cap : ℕ) (l : List ℕ) → cap * 32 ≤ length l → KeysOk (non
 unfolding records distinct
 none-keys cap l h = record { bounds = bounds-of 32 (none-of cap) l (omega arith) h; apart = refl }
 
-module _ (E : Edition) (L : EditionLaws E) (ids : Parent → List ℕ) (B : Borrowed E) (Q : Wh.Balances) where
+module _ (E : Edition) (L : EditionLaws E) (ids : Parent → List ℕ) (B : Borrowed E) (s : Places) (Q : Wh.Balances) where
   abbrev begin : Index
   begin = start E B
 
-  -- the operations, as the contracts define them
-  abbrev pub ops : Sm.Ops Index
-  ops = record {
-    none = begin;
-    doAppend = do-append E ids;
-    doPop = do-pop E ids;
-    doSpend = do-flip E ids Spend;
-    doUnspend = do-flip E ids Unspend;
-    doFlush = do-flush E ids;
-    entries = entries-of E ids;
-    StagingFull = λ b. b .lists .staged-counts .capacity ≤ b .lists .staged-counts .count;
-    DeletionFull = λ b. b .lists .deleted-counts .capacity ≤ b .lists .deleted-counts .count;
-  }
+  -- the index of the theorem, its operations as the contracts define them
+  abbrev pub N : Mc.Machine
+  N = index-machine E ids B s
+
+  abbrev caps : Capacities
+  caps = record { table = B .table-cap; staged = B .staged-cap; deleted = B .deleted-cap }
 
   abbrev pub W : St.Env
-  W = S.env E ids (B .table-cap) (B .staged-cap) (B .deleted-cap)
+  W = S.env E ids caps
 
-  abbrev abs : Index → St.Store W
-  abs b = S.abs E ids (B .table-cap) (B .staged-cap) (B .deleted-cap) b
+  abbrev pub abs : Index → St.Store W
+  abs b = S.abs E ids caps b
 
-  abbrev Inv : Index → Type 0
-  Inv b = S.Inv E ids (B .table-cap) (B .staged-cap) (B .deleted-cap) b
+  abbrev pub Inv : Index → Type 0
+  Inv b = S.Inv E ids caps b
 
   again : (ch : Series) (row : List ℕ) (l new : List ℤ) → to-res (E .decode (kind-of ch) row) ≡ done l → length new ≤ 512 → S.Small new
-      → to-res (E .decode (kind-of ch) (S.redone E ids (B .table-cap) (B .staged-cap) (B .deleted-cap) ch row new)) ≡ done new
+      → to-res (E .decode (kind-of ch) (S.redone E ids caps ch row new)) ≡ done new
   again (boxes p) row l new e h sm = ap to-res (L .redo-decode row l new (Fp.good-of (E .decode Box row) l e) h sm)
   again (txs p) row l new e h sm = ap to-res (L .decode-encode Tx new h sm)
 
-  pub code : Sl.Coded W
+  pub code : Gs.Coded W
   code = record { plain = λ ch l h sm. ap to-res (L .decode-encode (kind-of ch) l h sm); again = again }
 
   abbrev pub M : Mc.Machine
@@ -97,36 +90,42 @@ module _ (E : Edition) (L : EditionLaws E) (ids : Parent → List ℕ) (B : Borr
     deleted-at = refl;
   }
 
-  sims : (U : Series → ℕ → Type 0) → Sm.Sims M Index ops abs Inv (Sl.Good W code U)
+  pub sims : (U : Series → ℕ → Type 0) → Sm.Sims M N abs Inv (Gs.Good W code U)
   sims U = record {
     start = start-same;
     start-inv = start-inv;
-    shows = λ b I ch. Po.shows E ids (B .table-cap) (B .staged-cap) (B .deleted-cap) b ch;
+    shows = λ b I ch. Po.shows E ids caps b ch;
     staging-full = λ b I h. omega (arith, length-table (E .size) (b .lists .staged-counts .count) (b .lists .staged), I .staged-at);
     deletion-full = λ b I h. omega (arith, length-keys 32 (b .lists .deleted-counts .count) (b .lists .deleted), I .deleted-at);
     append = λ b ch n I G. record {
-      same = Ap.append-same E L ids (B .table-cap) (B .staged-cap) (B .deleted-cap) b ch I (G .small ch) n;
-      keeps = λ d e. Ap.append-inv E L ids (B .table-cap) (B .staged-cap) (B .deleted-cap) b ch I (G .small ch) n d e;
+      same = Ap.append-same E L ids caps b ch I (G .small ch) n;
+      keeps = λ d e. Ap.append-inv E L ids caps b ch I (G .small ch) n d e;
     };
     pop = λ b ch I G. record {
-      same = Po.pop-same E L ids (B .table-cap) (B .staged-cap) (B .deleted-cap) b ch I;
-      keeps = λ d e. Po.pop-inv E L ids (B .table-cap) (B .staged-cap) (B .deleted-cap) b ch I d e;
+      same = Po.pop-same E L ids caps b ch I;
+      keeps = λ d e. Po.pop-inv E L ids caps b ch I d e;
     };
     spend = λ b p t I G.
-        let D = Fp.spend-does E L ids (B .table-cap) (B .staged-cap) (B .deleted-cap) b p I (G .small (boxes p)) (G .full (boxes p)) t in
+        let D = Fp.spend-does E L ids caps b p I (G .small (boxes p)) (G .full (boxes p)) t in
         record { same = D .same; keeps = D .keeps };
     unspend = λ b p t I G.
-        let D = Fp.unspend-does E L ids (B .table-cap) (B .staged-cap) (B .deleted-cap) b p I (G .small (boxes p)) (G .full (boxes p)) t in
+        let D = Fp.unspend-does E L ids caps b p I (G .small (boxes p)) (G .full (boxes p)) t in
         record { same = D .same; keeps = D .keeps };
     flush = λ b I G. record {
-      same = Fu.flush-same E L ids (B .table-cap) (B .staged-cap) (B .deleted-cap) b I;
-      keeps = λ d e. Fu.flush-inv E L ids (B .table-cap) (B .staged-cap) (B .deleted-cap) b I d e;
+      same = Fu.flush-same E L ids caps b I;
+      keeps = λ d e. Fu.flush-inv E L ids caps b I d e;
     };
   }
 
+  -- after a flush the segments table has no row under a key that was deleted
+  pub flush-deletes : (U : Series → ℕ → Type 0) → Mc.KeysApart M U → (b d : Index) → Inv b → Gs.Good W code U (abs b) → do-flush E ids b ≡ done d
+      → (k : List ℕ) → Gs.In W code k (abs b .deletion) → Tb.Absent (List ℕ) (List ℕ) id-dec k (abs d .shelf)
+  flush-deletes U apart b d I G e k h =
+      Fl.flush-deletes W code U apart (abs b) (abs d) G (Sm.map-keeps-done abs (do-flush E ids b) d (St.doFlush W (abs b)) (sims U .flush b I G .same) e) k h
+
   -- the index in bytes, with balances
   abbrev pub machine : Mc.Machine
-  machine = Sm.lower M Index ops
+  machine = Sm.lower M N
 
   pub index-theorem : (GoodB : Q .Bal → Type 0) → Wh.BalanceLaws W Q GoodB → Mc.ForkUndo machine
-  index-theorem GoodB laws = Sm.fork-undo M Index ops abs Inv (Sl.Tidy W code (λ ch s. ⊥)) (Sl.Good W code) GoodB (Wh.store-laws W Q code GoodB laws) sims
+  index-theorem GoodB laws = Sm.fork-undo M N abs Inv (Gs.Tidy W code (λ ch s. ⊥)) (Gs.Good W code) GoodB (Wh.store-laws W Q code GoodB laws) sims

@@ -10,3 +10,7 @@ pub mod Sim
 pub mod IndexTheorem
 pub mod EditionOne
 pub mod ForkUndoLaw
+pub mod ExampleRules
+pub mod ExampleRun
+pub mod ExampleLaws
+pub mod SmallHistories

@@ -44,13 +44,13 @@ use Rattle.fork_model.proofs.Results.{mapRes, mapPop}
 use Rattle.history.specs.Index.{Part, part, Index, index, kind-of, set-part, after-pop, to-res, id-of, do-pop, sources-of, row-of-spill, entries-of}
 use Rattle.history.proofs.Tables.{Bytes, tab, remove, lookup-is, row-opt, in-dec}
 use Rattle.history.proofs.State as S
-use Rattle.history.proofs.State.{EditionLaws, ListsFit, lists-fit, fit-lists, HeadFits, head-fits, fit-head, push-to, all-set, same-set}
+use Rattle.history.proofs.State.{EditionLaws, ListsFit, lists-fit, fit-lists, HeadFits, head-fits, fit-head, push-to, all-set, same-set, Capacities, head-of, spills-of}
 use Rattle.history.proofs.Lists.{full-keys, remove-table, remove-keeps, capacity-without, put-keys}
 
 -- ---- the row of a spill number, in the staged spills or in the table
-module _ (E : Edition) (ids : Parent → List ℕ) (table-cap staged-cap deleted-cap : ℕ) where
+module _ (E : Edition) (ids : Parent → List ℕ) (caps : Capacities) where
   abbrev W₁ : St.Env
-  W₁ = S.env E ids table-cap staged-cap deleted-cap
+  W₁ = S.env E ids caps
 
   module _ (b : Index) (ch : Series) (s : ℕ) where
     abbrev k₁ : List ℕ
@@ -71,7 +71,7 @@ module _ (E : Edition) (ids : Parent → List ℕ) (table-cap staged-cap deleted
         ap (λ (r : List ℕ). to-res (E .decode (kind-of ch) (stored-row r))) (sym (record-at (E .size) n₁ j (b .lists .table) (found-in k₁ (E .size) n₁ (b .lists .table) j (At j) d refl)))
     by-found Nothing Nothing e d = refl
 
-    pub read-same : row-of-spill E ids b ch s ≡ St.rowAt W₁ (S.abs E ids table-cap staged-cap deleted-cap b) ch s
+    pub read-same : row-of-spill E ids b ch s ≡ St.rowAt W₁ (S.abs E ids caps b) ch s
     unfolding spill-read place-at
     read-same =
         by-found (find-key k₁ (keys (E .size) m₁ (b .lists .staged))) (find-key k₁ (keys (E .size) n₁ (b .lists .table))) refl refl
@@ -83,9 +83,9 @@ module _ (E : Edition) (ids : Parent → List ℕ) (table-cap staged-cap deleted
   flat-same f g (suc n) h = λ i. flat-same f g n h i ++ rowOr (h n i)
 
   -- what inspection shows is what the tables hold
-  pub shows : (b : Index) (ch : Series) → entries-of E ids b ch ≡ St.entries W₁ (S.abs E ids table-cap staged-cap deleted-cap b) ch
+  pub shows : (b : Index) (ch : Series) → entries-of E ids b ch ≡ St.entries W₁ (S.abs E ids caps b) ch
   shows b ch = ap (λ (l : List ℤ). l ++ take (b .parts ch .head .len) (b .parts ch .places))
-      (flat-same (row-of-spill E ids b ch) (St.rowAt W₁ (S.abs E ids table-cap staged-cap deleted-cap b) ch) (natAbs (b .parts ch .head .spills)) (read-same b ch))
+      (flat-same (row-of-spill E ids b ch) (St.rowAt W₁ (S.abs E ids caps b) ch) (natAbs (b .parts ch .head .spills)) (read-same b ch))
 
 -- ---- the last of a list
 unsnoc-last : (l : List ℤ) (x : ℤ) → unsnoc (l ++ x ∷ []) ≡ ends l x
@@ -115,23 +115,14 @@ last-row zs head m h =
     ∙ getD-take (suc m) zs m (pos 0) (omega arith)
 
 -- ---- the pop
-module _ (E : Edition) (L : EditionLaws E) (ids : Parent → List ℕ) (table-cap staged-cap deleted-cap : ℕ) where
+module _ (E : Edition) (L : EditionLaws E) (ids : Parent → List ℕ) (caps : Capacities) where
   abbrev W : St.Env
-  W = S.env E ids table-cap staged-cap deleted-cap
+  W = S.env E ids caps
 
   abbrev abs : Index → St.Store W
-  abs b = S.abs E ids table-cap staged-cap deleted-cap b
+  abs b = S.abs E ids caps b
 
-  abbrev Inv : Index → Type 0
-  Inv b = S.Inv E ids table-cap staged-cap deleted-cap b
-
-  abbrev head-of : Part → List ℤ
-  head-of p = S.head-of E ids table-cap staged-cap deleted-cap p
-
-  abbrev spills-of : Part → ℕ
-  spills-of p = S.spills-of E ids table-cap staged-cap deleted-cap p
-
-  module _ (b : Index) (ch : Series) (I : Inv b) where
+  module _ (b : Index) (ch : Series) (I : S.Inv E ids caps b) where
     abbrev x : Lists
     x = b .lists
 
@@ -174,14 +165,14 @@ module _ (E : Edition) (L : EditionLaws E) (ids : Parent → List ℕ) (table-ca
         whole ∙ ap (St.popFrom W (abs b) ch) (sym (unsnoc-take (p .places) len h (omega (arith, hf .len-in, hf .places-in))))
 
     abbrev Keeps : Popping → Type 0
-    Keeps o = (d : Mc.Popped Index) → end o ≡ done d → Inv (d .left)
+    Keeps o = (d : Mc.Popped Index) → end o ≡ done d → S.Inv E ids caps (d .left)
 
     no-keeps : (k : ℕ) → Keeps (no-pop k)
     no-keeps k d e = absurd (done≢refused (sym e))
 
     inv-part : (v : Part) (y : Lists) → head-ok (v .head) (v .places) ≡ true → is-negative (v .head .spills) ≡ false → natAbs (v .head .spills) ≤ 2147483647
         → y .table-counts .capacity ≡ x .table-counts .capacity → y .staged-counts .capacity ≡ x .staged-counts .capacity → y .deleted-counts .capacity ≡ x .deleted-counts .capacity
-        → ListsFit E y → Inv (index (set-part (b .parts) ch v) y)
+        → ListsFit E y → S.Inv E ids caps (index (set-part (b .parts) ch v) y)
     inv-part v y h n z e₁ e₂ e₃ t = record {
       heads-in = all-set (λ q. head-ok (q .head) (q .places) ≡ true) (b .parts) ch v h (I .heads-in);
       not-below = all-set (λ q. is-negative (q .head .spills) ≡ false) (b .parts) ch v n (I .not-below);
@@ -227,7 +218,7 @@ module _ (E : Edition) (L : EditionLaws E) (ids : Parent → List ℕ) (table-ca
       some-same zs h m =
           let y : Res (Mc.Popped (St.Store W)) = done (record { left = St.merged W (abs b) ch s (take (length zs - 1) zs); value = getD zs (length zs - 1) (pos 0) }) in
           let q : St.popMerged W (abs b) ch s (ends (take (length zs - 1) zs) (getD zs (length zs - 1) (pos 0))) ≡ cond full (refused 21) y
-          = full-keys (x .deleted-counts) deleted-cap key (x .deleted) (refused 21) y (I .deleted-at) in
+          = full-keys (x .deleted-counts) (caps .deleted) key (x .deleted) (refused 21) y (I .deleted-at) in
           let u : unsnoc zs ≡ ends (take (length zs - 1) zs) (getD zs (length zs - 1) (pos 0)) = ap unsnoc (sym (take-all (length zs) zs (omega arith))) ∙ unsnoc-take zs (length zs) h (omega arith) in
           by-full zs h m full refl ∙ sym q ∙ ap (St.popMerged W (abs b) ch s) (sym u)
 
@@ -249,7 +240,7 @@ module _ (E : Edition) (L : EditionLaws E) (ids : Parent → List ℕ) (table-ca
 
       row-same : mapRes (mapPop abs) (end (unspill-of E kind (id-of E ids ch) s x (p .places))) ≡ St.popRow W (abs b) ch (suc s)
       unfolding unspill-of
-      row-same = taken-same (spill-read E kind (sources-of E ids b ch) s) read-few ∙ ap (St.popMerge W (abs b) ch s) (read-same E ids table-cap staged-cap deleted-cap b ch s)
+      row-same = taken-same (spill-read E kind (sources-of E ids b ch) s) read-few ∙ ap (St.popMerge W (abs b) ch s) (read-same E ids caps b ch s)
 
       restore-keeps : (zs : List ℤ) → s ≤ 2147483647 → length zs ≤ 512 → full ≡ false → Keeps (restore zs)
       unfolding merged
@@ -315,6 +306,6 @@ module _ (E : Edition) (L : EditionLaws E) (ids : Parent → List ℕ) (table-ca
     keeps-len true e = last-keeps (ltb-true 0 len e)
     keeps-len false e = keeps-spills (natAbs (p .head .spills)) (eqb (natAbs (p .head .spills)) 0) (I .spills-in ch)
 
-    pub pop-inv : (d : Mc.Popped Index) → do-pop E ids b ch ≡ done d → Inv (d .left)
+    pub pop-inv : (d : Mc.Popped Index) → do-pop E ids b ch ≡ done d → S.Inv E ids caps (d .left)
     unfolding pop-of pop-core
     pop-inv d e = keeps-len (ltb 0 len) refl d (rw (ok, I .not-below ch) at e)

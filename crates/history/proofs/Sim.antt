@@ -1,14 +1,14 @@
--- One machine does what another does: laws of the one from the laws of the other. (The shape of hist2's Pull, with operations that have their own definitions.)
-use mathlib.Core.Path.{_≡_, refl, sym, _∙_, ap, subst}
-use mathlib.Core.List.{List, [], _∷_, _++_, map}
+-- One machine does what another does: laws of the one from the laws of the other.
+use mathlib.Core.Path.{_≡_, sym, _∙_, ap, subst}
+use mathlib.Core.List.{[], _∷_, _++_}
 use Prim.Native.Nat.{ℕ}
-use lib.IntN.{ℤ, natAbs}
-use Rattle.ledger.specs.Ledger.{Parent, Series, boxes, absℤ}
+use lib.IntN.{ℤ}
+use Rattle.ledger.specs.Ledger.{Parent, Series, boxes}
 use Rattle.ledger.specs.Run.{Res, done, refused, Popped, Machine}
 use Rattle.ledger.specs.Run as Mc
+use Rattle.fork_model.proofs.OperationLaws as Op
 use Rattle.fork_model.proofs.History as Hi
-use Rattle.fork_model.proofs.Search.{done≢refused}
-use Rattle.fork_model.proofs.Results.{mapRes, mapPop, map-done}
+use Rattle.fork_model.proofs.Results.{mapRes, mapPop}
 
 pub map-keeps-done : {A B : Type 0} (f : A → B) (X : Res A) (a : A) (Y : Res B) → mapRes f X ≡ Y → X ≡ done a → Y ≡ done (f a)
 map-keeps-done f X a Y e q = sym e ∙ ap (mapRes f) q
@@ -16,31 +16,20 @@ map-keeps-done f X a Y e q = sym e ∙ ap (mapRes f) q
 map-keeps-refused : {A B : Type 0} (f : A → B) (X : Res A) (k : ℕ) (Y : Res B) → mapRes f X ≡ Y → X ≡ refused k → Y ≡ refused k
 map-keeps-refused f X k Y e q = sym e ∙ ap (mapRes f) q
 
--- the operations over other stores
-pub record Ops (C : Type 0) : Type 1 where
-  pub none : C
-  pub doAppend : C → Series → ℤ → Res C
-  pub doPop : C → Series → Res (Popped C)
-  pub doSpend : C → Parent → ℤ → Res C
-  pub doUnspend : C → Parent → ℤ → Res C
-  pub doFlush : C → Res C
-  pub entries : C → Series → List ℤ
-  pub StagingFull : C → Type 0
-  pub DeletionFull : C → Type 0
-
-module _ (M : Machine) (C : Type 0) (O : Ops C) where
+-- the stores of N and their operations, the balances of M
+module _ (M N : Machine) where
   abbrev pub lower : Machine
   lower = record {
-    Store = C;
-    empty = O .none;
-    doAppend = O .doAppend;
-    doPop = O .doPop;
-    doSpend = O .doSpend;
-    doUnspend = O .doUnspend;
-    doFlush = O .doFlush;
-    entries = O .entries;
-    StagingFull = O .StagingFull;
-    DeletionFull = O .DeletionFull;
+    Store = N .Store;
+    empty = N .empty;
+    doAppend = N .doAppend;
+    doPop = N .doPop;
+    doSpend = N .doSpend;
+    doUnspend = N .doUnspend;
+    doFlush = N .doFlush;
+    entries = N .entries;
+    StagingFull = N .StagingFull;
+    DeletionFull = N .DeletionFull;
     Bal = M .Bal;
     noBal = M .noBal;
     add = M .add;
@@ -53,91 +42,91 @@ module _ (M : Machine) (C : Type 0) (O : Ops C) where
     key = M .key;
   }
 
-  module _ (abs : C → M .Store) (Inv : C → Type 0) (Good : M .Store → Type 0) where
+  module _ (abs : N .Store → M .Store) (Inv : N .Store → Type 0) (Good : M .Store → Type 0) where
     -- an operation does what that of M does, and keeps Inv
-    pub record Does (X : Res C) (Y : Res (M .Store)) : Type 0 where
+    pub record Does (X : Res (N .Store)) (Y : Res (M .Store)) : Type 0 where
       pub same : mapRes abs X ≡ Y
-      pub keeps : (c : C) → X ≡ done c → Inv c
+      pub keeps : (c : N .Store) → X ≡ done c → Inv c
 
-    pub record DoesPop (X : Res (Popped C)) (Y : Res (Popped (M .Store))) : Type 0 where
+    pub record DoesPop (X : Res (Popped (N .Store))) (Y : Res (Popped (M .Store))) : Type 0 where
       pub same : mapRes (mapPop abs) X ≡ Y
-      pub keeps : (c : Popped C) → X ≡ done c → Inv (c .left)
+      pub keeps : (c : Popped (N .Store)) → X ≡ done c → Inv (c .left)
 
     pub record Sims : Type 0 where
-      pub start : abs (O .none) ≡ M .empty
-      pub start-inv : Inv (O .none)
-      pub shows : (b : C) → Inv b → (ch : Series) → O .entries b ch ≡ M .entries (abs b) ch
-      pub staging-full : (b : C) → Inv b → M .StagingFull (abs b) → O .StagingFull b
-      pub deletion-full : (b : C) → Inv b → M .DeletionFull (abs b) → O .DeletionFull b
-      pub append : (b : C) (ch : Series) (n : ℤ) → Inv b → Good (abs b) → Does (O .doAppend b ch n) (M .doAppend (abs b) ch n)
-      pub pop : (b : C) (ch : Series) → Inv b → Good (abs b) → DoesPop (O .doPop b ch) (M .doPop (abs b) ch)
-      pub spend : (b : C) (p : Parent) (t : ℤ) → Inv b → Good (abs b) → Does (O .doSpend b p t) (M .doSpend (abs b) p t)
-      pub unspend : (b : C) (p : Parent) (t : ℤ) → Inv b → Good (abs b) → Does (O .doUnspend b p t) (M .doUnspend (abs b) p t)
-      pub flush : (b : C) → Inv b → Good (abs b) → Does (O .doFlush b) (M .doFlush (abs b))
+      pub start : abs (N .empty) ≡ M .empty
+      pub start-inv : Inv (N .empty)
+      pub shows : (b : N .Store) → Inv b → (ch : Series) → N .entries b ch ≡ M .entries (abs b) ch
+      pub staging-full : (b : N .Store) → Inv b → M .StagingFull (abs b) → N .StagingFull b
+      pub deletion-full : (b : N .Store) → Inv b → M .DeletionFull (abs b) → N .DeletionFull b
+      pub append : (b : N .Store) (ch : Series) (n : ℤ) → Inv b → Good (abs b) → Does (N .doAppend b ch n) (M .doAppend (abs b) ch n)
+      pub pop : (b : N .Store) (ch : Series) → Inv b → Good (abs b) → DoesPop (N .doPop b ch) (M .doPop (abs b) ch)
+      pub spend : (b : N .Store) (p : Parent) (t : ℤ) → Inv b → Good (abs b) → Does (N .doSpend b p t) (M .doSpend (abs b) p t)
+      pub unspend : (b : N .Store) (p : Parent) (t : ℤ) → Inv b → Good (abs b) → Does (N .doUnspend b p t) (M .doUnspend (abs b) p t)
+      pub flush : (b : N .Store) → Inv b → Good (abs b) → Does (N .doFlush b) (M .doFlush (abs b))
 
-    abbrev pub Fine : C → Type 0
+    abbrev pub Fine : N .Store → Type 0
     Fine b = Inv b × Good (abs b)
 
-    module _ (U : Series → ℕ → Type 0) (Tidy : M .Store → Type 0) (GoodB : M .Bal → Type 0) (L : Hi.Laws M U Good Tidy GoodB) (S : Sims) where
-      pub lower-laws : Hi.Laws lower U Fine (λ b. Tidy (abs b)) GoodB
+    module _ (U : Series → ℕ → Type 0) (Tidy : M .Store → Type 0) (GoodB : M .Bal → Type 0) (L : Op.Laws M U Good Tidy GoodB) (S : Sims) where
+      pub lower-laws : Op.Laws lower U Fine (λ b. Tidy (abs b)) GoodB
       lower-laws = record {
         empty-good = (S .start-inv, subst Good (sym (S .start)) (L .empty-good));
         empty-tidy = subst Tidy (sym (S .start)) (L .empty-tidy);
-        empty-entries = λ ch. S .shows (O .none) (S .start-inv) ch ∙ ap (λ x. M .entries x ch) (S .start) ∙ L .empty-entries ch;
+        empty-entries = λ ch. S .shows (N .empty) (S .start-inv) ch ∙ ap (λ x. M .entries x ch) (S .start) ∙ L .empty-entries ch;
         append-ok = λ b ch n c G t v e u.
             let s = S .append b ch n (G .0) (G .1) in
             let I = s .keeps c e in
             let f = S .shows b (G .0) in
             let g = S .shows c I in
-            let a = L .append-ok (abs b) ch n (abs c) (G .1) t v (map-keeps-done abs (O .doAppend b ch n) c (M .doAppend (abs b) ch n) (s .same) e) (rw (← f ch) u) in
+            let a = L .append-ok (abs b) ch n (abs c) (G .1) t v (map-keeps-done abs (N .doAppend b ch n) c (M .doAppend (abs b) ch n) (s .same) e) (rw (← f ch) u) in
             record { good = (I, a .good); tidy = a .tidy; nonneg = a .nonneg; grown = g ch ∙ a .grown ∙ ap (λ l. l ++ (n ∷ [])) (sym (f ch)); beside = λ d q. g d ∙ a .beside d q ∙ sym (f d) };
         pop-ok = λ b ch c G e.
             let s = S .pop b ch (G .0) (G .1) in
             let I = s .keeps c e in
             let f = S .shows b (G .0) in
             let g = S .shows (c .left) I in
-            let a = L .pop-ok (abs b) ch (mapPop abs c) (G .1) (map-keeps-done (mapPop abs) (O .doPop b ch) c (M .doPop (abs b) ch) (s .same) e) in
+            let a = L .pop-ok (abs b) ch (mapPop abs c) (G .1) (map-keeps-done (mapPop abs) (N .doPop b ch) c (M .doPop (abs b) ch) (s .same) e) in
             record { good = (I, a .good); last = f ch ∙ a .last ∙ ap (λ l. l ++ (c .value ∷ [])) (sym (g ch)); beside = λ d q. g d ∙ a .beside d q ∙ sym (f d) };
         pop-no = λ b ch k G n e.
             let s = S .pop b ch (G .0) (G .1) in
-            let a = L .pop-no (abs b) ch k (G .1) (λ q. n (S .shows b (G .0) ch ∙ q)) (map-keeps-refused (mapPop abs) (O .doPop b ch) k (M .doPop (abs b) ch) (s .same) e) in
+            let a = L .pop-no (abs b) ch k (G .1) (λ q. n (S .shows b (G .0) ch ∙ q)) (map-keeps-refused (mapPop abs) (N .doPop b ch) k (M .doPop (abs b) ch) (s .same) e) in
             (a .0, S .deletion-full b (G .0) (a .1));
         spend-ok = λ b p t c G e.
             let s = S .spend b p t (G .0) (G .1) in
             let I = s .keeps c e in
             let f = S .shows b (G .0) in
             let g = S .shows c I in
-            let a = L .spend-ok (abs b) p t (abs c) (G .1) (map-keeps-done abs (O .doSpend b p t) c (M .doSpend (abs b) p t) (s .same) e) in
+            let a = L .spend-ok (abs b) p t (abs c) (G .1) (map-keeps-done abs (N .doSpend b p t) c (M .doSpend (abs b) p t) (s .same) e) in
             record { good = (I, a .good); tidy = a .tidy; flip = rw (f (boxes p), g (boxes p)) (a .flip); beside = λ d q. g d ∙ a .beside d q ∙ sym (f d) };
         unspend-ok = λ b p t c G e.
             let s = S .unspend b p t (G .0) (G .1) in
             let I = s .keeps c e in
             let f = S .shows b (G .0) in
             let g = S .shows c I in
-            let a = L .unspend-ok (abs b) p t (abs c) (G .1) (map-keeps-done abs (O .doUnspend b p t) c (M .doUnspend (abs b) p t) (s .same) e) in
+            let a = L .unspend-ok (abs b) p t (abs c) (G .1) (map-keeps-done abs (N .doUnspend b p t) c (M .doUnspend (abs b) p t) (s .same) e) in
             record { good = (I, a .good); flip = rw (f (boxes p), g (boxes p)) (a .flip); beside = λ d q. g d ∙ a .beside d q ∙ sym (f d) };
         unspend-no = λ b p t k G T m e.
             let s = S .unspend b p t (G .0) (G .1) in
             let f = S .shows b (G .0) (boxes p) in
-            let a = L .unspend-no (abs b) p t k (G .1) (rw (← f) T) (rw (← f) m) (map-keeps-refused abs (O .doUnspend b p t) k (M .doUnspend (abs b) p t) (s .same) e) in
+            let a = L .unspend-no (abs b) p t k (G .1) (rw (← f) T) (rw (← f) m) (map-keeps-refused abs (N .doUnspend b p t) k (M .doUnspend (abs b) p t) (s .same) e) in
             (a .0, S .staging-full b (G .0) (a .1));
         flush-ok = λ b c G e.
             let s = S .flush b (G .0) (G .1) in
             let I = s .keeps c e in
-            let a = L .flush-ok (abs b) (abs c) (G .1) (map-keeps-done abs (O .doFlush b) c (M .doFlush (abs b)) (s .same) e) in
+            let a = L .flush-ok (abs b) (abs c) (G .1) (map-keeps-done abs (N .doFlush b) c (M .doFlush (abs b)) (s .same) e) in
             record { good = (I, a .good); tidy = a .tidy; same = λ ch. S .shows c I ch ∙ a .same ch ∙ sym (S .shows b (G .0) ch) };
         no-good = L .no-good;
         no-nano = L .no-nano;
         no-amount = L .no-amount;
-        add-ok = λ b n ts c G R e. let a = L .add-ok b n ts c G R e in (a .0, record { nanoErgs = a .1 .nanoErgs; amounts = a .1 .amounts });
-        sub-ok = λ b n ts c G R h k e. let a = L .sub-ok b n ts c G R h k e in (a .0, record { nanoErgs = a .1 .nanoErgs; amounts = a .1 .amounts });
-        add-back = λ x n ts b A G R g. let c = L .add-back x n ts b A G R (record { nanoErgs = g .nanoErgs; amounts = g .amounts }) in (c .0, c .1, c .2, record { nanoErgs = c .3 .nanoErgs; amounts = c .3 .amounts });
-        sub-back = λ x n ts b A G R g. let c = L .sub-back x n ts b A G R (record { nanoErgs = g .nanoErgs; amounts = g .amounts }) in (c .0, c .1, c .2, record { nanoErgs = c .3 .nanoErgs; amounts = c .3 .amounts });
+        add-ok = L .add-ok;
+        sub-ok = L .sub-ok;
+        add-back = L .add-back;
+        sub-back = L .sub-back;
       }
 
 -- the lowered machine's theorem
-module _ (M : Machine) (C : Type 0) (O : Ops C) (abs : C → M .Store) (Inv : C → Type 0) (Tidy : M .Store → Type 0) (Good : (Series → ℕ → Type 0) → M .Store → Type 0) (GoodB : M .Bal → Type 0)
-    (laws : (U : Series → ℕ → Type 0) → Mc.KeysApart M U → Hi.Laws M U (Good U) Tidy GoodB)
-    (sims : (U : Series → ℕ → Type 0) → Sims M C O abs Inv (Good U)) where
-  pub fork-undo : Mc.ForkUndo (lower M C O)
-  fork-undo = Hi.fork-undo (lower M C O) (λ b. Tidy (abs b)) (λ U. Fine M C O abs Inv (Good U)) GoodB (λ U k. lower-laws M C O abs Inv (Good U) U Tidy GoodB (laws U k) (sims U))
+module _ (M N : Machine) (abs : N .Store → M .Store) (Inv : N .Store → Type 0) (Tidy : M .Store → Type 0) (Good : (Series → ℕ → Type 0) → M .Store → Type 0) (GoodB : M .Bal → Type 0)
+    (laws : (U : Series → ℕ → Type 0) → Mc.KeysApart M U → Op.Laws M U (Good U) Tidy GoodB)
+    (sims : (U : Series → ℕ → Type 0) → Sims M N abs Inv (Good U)) where
+  pub fork-undo : Mc.ForkUndo (lower M N)
+  fork-undo = Hi.fork-undo (lower M N) (λ b. Tidy (abs b)) (λ U. Fine M N abs Inv (Good U)) GoodB (λ U k. lower-laws M N abs Inv (Good U) U Tidy GoodB (laws U k) (sims U))

@@ -80,8 +80,20 @@ head-fits p h =
 pub fit-head : (p : Part) → p .head .len ≤ 512 → 512 ≤ length (p .places) → head-ok (p .head) (p .places) ≡ true
 fit-head p h k = and-true (leb (p .head .len) 512) (leb 512 (length (p .places))) (le-leb _ _ h) (le-leb _ _ k)
 
+-- ---- a part's numbers and rows
+abbrev pub head-of : Part → List ℤ
+head-of p = take (p .head .len) (p .places)
+
+abbrev pub spills-of : Part → ℕ
+spills-of p = natAbs (p .head .spills)
+
 -- ---- the tables
-module _ (E : Edition) (ids : Parent → List ℕ) (table-cap staged-cap deleted-cap : ℕ) where
+pub record Capacities : Type 0 where
+  pub table : ℕ
+  pub staged : ℕ
+  pub deleted : ℕ
+
+module _ (E : Edition) (ids : Parent → List ℕ) (caps : Capacities) where
   abbrev pub key-of-spill : Series → ℕ → List ℕ
   key-of-spill ch s = E .key (kind-of ch) (id-of E ids ch) (pos s)
 
@@ -101,17 +113,11 @@ module _ (E : Edition) (ids : Parent → List ℕ) (table-cap staged-cap deleted
     enc = λ ch l. E .encode (kind-of ch) l;
     dec = λ ch row. to-res (E .decode (kind-of ch) row);
     redo = redone;
-    shelfCap = table-cap;
-    stagCap = staged-cap;
-    delCap = deleted-cap;
+    shelfCap = caps .table;
+    stagCap = caps .staged;
+    delCap = caps .deleted;
     maxCount = 2147483647;
   }
-
-  abbrev pub head-of : Part → List ℤ
-  head-of p = take (p .head .len) (p .places)
-
-  abbrev pub spills-of : Part → ℕ
-  spills-of p = natAbs (p .head .spills)
 
   abbrev pub abs : Index → St.Store env
   abs b = record {
@@ -128,9 +134,9 @@ module _ (E : Edition) (ids : Parent → List ℕ) (table-cap staged-cap deleted
     pub not-below : (ch : Series) → is-negative (b .parts ch .head .spills) ≡ false
     pub spills-in : (ch : Series) → spills-of (b .parts ch) ≤ 2147483647
     pub lists-in : lists-ok E (b .lists) ≡ true
-    pub table-at : b .lists .table-counts .capacity ≡ table-cap
-    pub staged-at : b .lists .staged-counts .capacity ≡ staged-cap
-    pub deleted-at : b .lists .deleted-counts .capacity ≡ deleted-cap
+    pub table-at : b .lists .table-counts .capacity ≡ caps .table
+    pub staged-at : b .lists .staged-counts .capacity ≡ caps .staged
+    pub deleted-at : b .lists .deleted-counts .capacity ≡ caps .deleted
 
 -- ---- a function of the part that is set
 push-at : {A : Type 0} (f : Part → A) (g : Series → Part) (ch d : Series) (v : Part) (w : Dec (ch ≡ d)) → f (ite w v (g d)) ≡ ite w (f v) (f (g d))

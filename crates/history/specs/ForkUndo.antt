@@ -1,7 +1,8 @@
 -- The index that the fork-undo theorem speaks of: its operations are the definitions that the contracts of the public functions cite, at edition 1.
--- `Rattle.ledger.specs.Run` says what a history is, which histories keep the rules of document 01, and what the theorem promises of them (`ForkUndo`):
--- each undo is accepted unless staging (16) or the deletion list (21) is full, an undone append returns its number, and afterwards the index holds exactly
--- what the standing calls alone give.
+-- `Rattle.ledger.specs.Ledger` is the ledger and the history rules ("The plain record that demand 3 compares with"). `Rattle.ledger.specs.Run` says what a
+-- list of calls, undos and flushes does, which lists are legal, and what the theorem promises of them (`ForkUndo`): each undo is accepted unless the staged
+-- (16) or the deleted spills (21) are full, an undone append returns its number, and afterwards the index holds exactly what the standing calls alone give.
+-- "Demand 3 is a single statement about the whole list, not one for each call."
 use Rattle.ledger.specs.Ledger.{amount-in}
 use mathlib.Core.Path.{_≡_}
 use mathlib.Core.List.{List}
@@ -18,7 +19,7 @@ use Rattle.ledger.specs.Run as Run
 use Rattle.history.specs.Index.{Index, kind-of, id-of, do-append, do-pop, do-flip, do-flush, entries-of}
 use Rattle.history.specs.Machine.{Borrowed, start}
 
--- an empty balance, whatever its 128 places hold
+-- "Empty: each count, length and nanoErgs 0": an empty balance, whatever its 128 places hold
 pub record Places : Type 0 where
   pub ids : List ℕ
   pub amounts : List ℤ
@@ -33,28 +34,35 @@ module _ (E : Edition) (ids : Parent → List ℕ) (B : Borrowed E) (s : Places)
   index-machine = record {
     Store = Index;
     empty = start E B;
+    -- "append, spend, .. their undos and flush". "Undo means pop, unspend, ..":
     -- append_box_entry and append_tx_entry, pop_box_entry and pop_tx_entry, flip_box_segment_entry, unflip_box_segment_entry, flush_staged_spills
     doAppend = do-append E ids;
     doPop = do-pop E ids;
     doSpend = do-flip E ids Spend;
     doUnspend = do-flip E ids Unspend;
     doFlush = do-flush E ids;
+    -- "spill 0 up with rows as inspection shows them, then the head"
     entries = entries-of E ids;
+    -- 16 and 21 name a list that is full: as many records as its capacity
     StagingFull = λ b. b .lists .staged-counts .capacity ≤ b .lists .staged-counts .count;
     DeletionFull = λ b. b .lists .deleted-counts .capacity ≤ b .lists .deleted-counts .count;
-    -- add_box and subtract_box
+    -- "credit, debit" and their undos, "`subtract_box` or `add_box` with the same arguments"
     Bal = Balance;
     noBal = empty-balance s;
     add = credited;
     sub = debited;
     nanoOf = λ b. b .nanos;
+    -- "an amount per token id (0 if absent)"
     amountOf = λ b t. amount-in (tokens-in b) t;
+    -- a row holds 512 numbers; arguments are signed 64-bit numbers
     rowSize = 512;
     limit = 9223372036854775808;
+    -- "Row keys in use": by BLAKE2b of the parent's id, kind and spill number; two parents may have one id
     Key = List ℕ;
     key = λ ch n. E .key (kind-of ch) (id-of E ids ch) (pos n);
   }
 
--- for all parents' ids and whatever the borrowed buffers hold at the start
+-- for all parents' ids, all capacities and whatever the borrowed buffers hold at the start: every legal list in which no two row keys in use are equal.
+-- "Only the list writes parents and buffers"; that "25 never arises" is part of the proof (Inv of proofs/State.antt)
 abbrev pub Theorem : Type 0
 Theorem = (ids : Parent → List ℕ) (B : Borrowed edition-1) (s : Places) → Run.ForkUndo (index-machine edition-1 ids B s)

@@ -1,2 +1,3 @@
 -- Laws of the ledger.
 pub mod TestLaws
+pub mod RuleLaws

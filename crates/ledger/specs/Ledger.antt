@@ -50,7 +50,7 @@ Parent = ℕ
 abbrev pub parent-dec : Discrete Parent
 parent-dec = ℕ-discrete
 
--- a parent's list of one kind
+-- "per parent a list of box and one of transaction numbers"
 pub data Series : Type 0 where
   boxes : Parent → Series
   txs : Parent → Series
@@ -92,10 +92,11 @@ series-dec (boxes p) (txs q) = no (λ e. boxes≢txs e)
 series-dec (txs p) (boxes q) = no (λ e. boxes≢txs (sym e))
 series-dec (txs p) (txs q) = onTxs (ℕ-discrete p q)
 
--- tokens of a box: ids with amounts
+-- tokens of a credit or debit: ids with amounts, an id may repeat
 abbrev pub Tokens : Type 0
 Tokens = List (TokenId × ℤ)
 
+-- "Demand 3 needs only append, spend, credit, debit, their undos and flush": the calls; undo and flush are steps of a run (Run.antt)
 pub data Call : Type 0 where
   append : Series → ℤ → Call
   spend : Parent → ℤ → Call
@@ -106,7 +107,7 @@ pub data Call : Type 0 where
 abbrev pub absℤ : ℤ → ℤ
 absℤ z = pos (natAbs z)
 
--- the sum of the amounts of one id
+-- "repeats of an id summed"
 abbrev pub sumOf : TokenId → Tokens → ℤ
 sumOf t [] = pos 0
 sumOf t (x ∷ xs) = ite (id-dec (x .0) t) (x .1 +ℤ sumOf t xs) (sumOf t xs)
@@ -116,7 +117,8 @@ abbrev pub amount-in : Tokens → TokenId → ℤ
 amount-in [] t = pos 0
 amount-in (x ∷ l) t = ite (id-dec (x .0) t) (x .1) (amount-in l t)
 
--- ---- "Its content is what the standing calls give, applied oldest first"; the newest call stands first in the list
+-- ---- "Its content is what the standing calls give, applied oldest first"; the newest call stands first in the list.
+-- With no call it is "all empty or 0 at first".
 
 -- "Append adds at the end"
 abbrev pub ledger-numbers : List Call → Series → List ℤ
@@ -142,6 +144,7 @@ ledger-nanos (spend q t ∷ cs) p = ledger-nanos cs p
 ledger-nanos (credit q m ts ∷ cs) p = ite (parent-dec q p) (ledger-nanos cs p +ℤ m) (ledger-nanos cs p)
 ledger-nanos (debit q m ts ∷ cs) p = ite (parent-dec q p) (ledger-nanos cs p -ℤ m) (ledger-nanos cs p)
 
+-- "credit and debit add and subtract", of each token id the sum of its amounts
 abbrev pub ledger-amount : List Call → Parent → TokenId → ℤ
 ledger-amount [] p t = pos 0
 ledger-amount (append d m ∷ cs) p t = ledger-amount cs p t
@@ -149,32 +152,39 @@ ledger-amount (spend q s ∷ cs) p t = ledger-amount cs p t
 ledger-amount (credit q m ts ∷ cs) p t = ite (parent-dec q p) (ledger-amount cs p t +ℤ sumOf t ts) (ledger-amount cs p t)
 ledger-amount (debit q m ts ∷ cs) p t = ite (parent-dec q p) (ledger-amount cs p t -ℤ sumOf t ts) (ledger-amount cs p t)
 
--- ---- the rules of a history
+-- ---- "The history rules, per parent"
 
+-- "token amounts above 0"
 abbrev pub AllPos : Tokens → Type 0
 AllPos [] = Unit {0}
 AllPos (x ∷ xs) = (pos 1 ≤ℤ x .1) × AllPos xs
 
--- a box is appended with a number at or above those before it, and not one that is spent
+-- an append of box number n to parent p, after the standing calls cs
 pub record BoxRule (cs : List Call) (p : Parent) (n : ℤ) : Type 0 where
+  -- "appended box numbers never fall"
   pub rises : (m : ℤ) → List·Memᴰ m (ledger-numbers cs (boxes p)) → natAbs m ≤ natAbs n
+  -- "no box number is appended while its spent count is above 0"
   pub unspent : ledger-spent cs p (natAbs n) ≡ 0
 
--- arguments as the calls take them: ids of 32 bytes, amounts of 64 signed bits
+-- arguments as the functions take them: ids of 32 bytes, amounts of 64 signed bits
 abbrev pub Typed : Tokens → Type 0
 Typed [] = Unit {0}
 Typed (x ∷ xs) = (length (x .0) ≡ 32) × (mag (x .1) < 9223372036854775808) × Typed xs
 
+-- "nanoErgs of a credit or debit are 0 or more, token amounts above 0"
 pub record CreditRule (n : ℤ) (ts : Tokens) : Type 0 where
   pub nonneg : pos 0 ≤ℤ n
   pub allpos : AllPos ts
 
+-- the same of a debit, and what the ledger held before it
 pub record DebitRule (cs : List Call) (p : Parent) (n : ℤ) (ts : Tokens) : Type 0 where
   pub nonneg : pos 0 ≤ℤ n
   pub allpos : AllPos ts
+  -- "no debit exceeds what the record held before it, repeats of an id summed"
   pub within : n ≤ℤ ledger-nanos cs p
   pub held : (t : TokenId) → sumOf t ts ≤ℤ ledger-amount cs p t
 
+-- the rule of a call after the standing calls cs; transaction appends and spends have none
 abbrev pub Rule : Call → List Call → Type 0
 Rule (append (boxes p) n) cs = BoxRule cs p n
 Rule (append (txs p) n) cs = Unit {0}
@@ -182,6 +192,7 @@ Rule (spend p t) cs = Unit {0}
 Rule (credit p n ts) cs = CreditRule n ts
 Rule (debit p n ts) cs = DebitRule cs p n ts
 
+-- the standing calls keep the history rules: each one after those that were standing before it
 abbrev pub Rules : List Call → Type 0
 Rules [] = Unit {0}
 Rules (c ∷ cs) = Rule c cs × Rules cs

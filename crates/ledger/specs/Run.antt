@@ -1,4 +1,6 @@
--- The operations that a history makes on an index, the run of a list of steps, which runs keep the rules of document 01, and what the fork-undo theorem says of them.
+-- The operations that a history makes on an index, the run of a list of steps, which lists keep the rules of document 01, and what the fork-undo theorem
+-- says of them ("Demand 3 is a single statement about the whole list, not one for each call"). Read with Ledger.antt, it states the theorem whole:
+-- `ForkUndo` at the end, for a machine. Quotations are of document 01, most of them of "The plain record".
 use mathlib.Core.Path.{_≡_}
 use mathlib.Core.Logic.{_⊎_, _≢_}
 use mathlib.Core.List.{List, [], _∷_, _++_, map, List·Memᴰ}
@@ -9,6 +11,7 @@ use lib.Signed.{_≤ℤ_, mag}
 use lib.ListN.{length}
 use Rattle.ledger.specs.Ledger.{TokenId, Parent, parent-dec, id-dec, Series, boxes, txs, ite, Tokens, Call, append, spend, credit, debit, absℤ, sumOf, ledger-numbers, ledger-spent, ledger-nanos, ledger-amount, AllPos, Typed, Rules}
 
+-- what a call answers: accepted, with what it leaves, or refused with a number. "A refusal returns its number only and changes nothing"
 pub data Res (A : Type 0) : Type 0 where
   done : A → Res A
   refused : ℕ → Res A
@@ -23,6 +26,7 @@ unfoldable pub flat : (ℕ → Res (List ℤ)) → ℕ → List ℤ
 flat f zero = []
 flat f (suc s) = flat f s ++ rowOr (f s)
 
+-- an accepted pop: what is left, and the number it answers
 pub record Popped (S : Type 0) : Type 0 where
   pub left : S
   pub value : ℤ
@@ -30,13 +34,16 @@ pub record Popped (S : Type 0) : Type 0 where
 -- the calls of document 01, over stores (heads, spill counts, staged spills, segments table and deleted spills of all parents) and balances
 pub record Machine : Type 1 where
   pub Store : Type 0
+  -- "Empty: each count, length and nanoErgs 0"
   pub empty : Store
   pub doAppend : Store → Series → ℤ → Res Store
   pub doPop : Store → Series → Res (Popped Store)
   pub doSpend : Store → Parent → ℤ → Res Store
   pub doUnspend : Store → Parent → ℤ → Res Store
   pub doFlush : Store → Res Store
+  -- "spill 0 up with rows as inspection shows them, then the head"
   pub entries : Store → Series → List ℤ
+  -- refusals 16 and 21 of document 01's table: "staging full", "list full"
   pub StagingFull : Store → Type 0
   pub DeletionFull : Store → Type 0
   pub Bal : Type 0
@@ -45,25 +52,30 @@ pub record Machine : Type 1 where
   pub sub : Bal → ℤ → Tokens → Res Bal
   pub nanoOf : Bal → ℤ
   pub amountOf : Bal → TokenId → ℤ
+  -- numbers of a row; arguments have a size below the limit; the key of a row
   pub rowSize : ℕ
   pub limit : ℕ
   pub Key : Type 0
   pub key : Series → ℕ → Key
 
+-- "Refused calls and undos count at a change": which of the two came last, or an accepted flush after it
 pub data Phase : Type 0 where
   clean calls undos : Phase
 
+-- arguments as the functions take them: 64 signed bits, ids of 32 bytes
 abbrev pub Args : ℕ → Call → Type 0
 Args lim (append ch n) = mag n < lim
 Args lim (spend p t) = mag t < lim
 Args lim (credit p n ts) = (mag n < lim) × Typed ts
 Args lim (debit p n ts) = (mag n < lim) × Typed ts
 
+-- "It is told each call, undo and flush"
 pub data Step : Type 0 where
   call : Call → Step
   undo : Step
   flush : Step
 
+-- at each change between calls and undos comes an accepted flush
 abbrev pub MayCall : Phase → Type 0
 MayCall clean = Unit {0}
 MayCall calls = Unit {0}
@@ -74,7 +86,7 @@ MayUndo clean = Unit {0}
 MayUndo calls = ⊥
 MayUndo undos = Unit {0}
 
--- how many entries are the negative of a number
+-- "a spent copy is a negative entry, and how many there are of a number"
 abbrev pub negAt : ℕ → ℤ → ℕ
 negAt n (pos m) = 0
 negAt n (negsuc k) = ite (ℕ-discrete (suc k) n) 1 0
@@ -83,6 +95,7 @@ abbrev pub negs : ℕ → List ℤ → ℕ
 negs n [] = 0
 negs n (e ∷ l) = negAt n e + negs n l
 
+-- what an undo answers: the number of an append, nothing else
 abbrev pub answerOf : Call → List ℤ
 answerOf (append ch n) = n ∷ []
 answerOf (spend p t) = []
@@ -92,15 +105,18 @@ answerOf (debit p n ts) = []
 module _ (M : Machine) where
   open Machine M using (Store, empty, doAppend, doPop, doSpend, doUnspend, doFlush, entries, StagingFull, DeletionFull, Bal, noBal, add, sub, nanoOf, amountOf, rowSize, limit, Key, key)
 
+  -- the index: stores and each parent's balance. "Only the list writes parents and buffers": nothing but the steps changes it
   pub record State : Type 0 where
     pub store : Store
     pub bals : Parent → Bal
 
+  -- the index, the standing calls (the newest first), and the phase
   pub record Conf : Type 0 where
     pub now : State
     pub standing : List Call
     pub phase : Phase
 
+  -- what an accepted undo leaves, and what it answers
   pub record Undone : Type 0 where
     pub after : State
     pub answer : List ℤ
@@ -116,6 +132,7 @@ module _ (M : Machine) where
   withBal σ p (done b) = done (record { store = σ .store; bals = setBal (σ .bals) p b })
   withBal σ p (refused n) = refused n
 
+  -- a call of the list runs the operation with its arguments
   abbrev pub runCall : State → Call → Res State
   runCall σ (append ch n) = withStore σ (doAppend (σ .store) ch n)
   runCall σ (spend p t) = withStore σ (doSpend (σ .store) p t)
@@ -137,11 +154,12 @@ module _ (M : Machine) where
   runUndo σ (credit p n ts) = quiet (withBal σ p (sub (σ .bals p) n ts))
   runUndo σ (debit p n ts) = quiet (withBal σ p (add (σ .bals p) n ts))
 
-  -- an accepted call becomes the newest standing call; a refused one changes nothing
+  -- "An accepted call becomes the newest standing call"; "flushes and refusals change nothing"
   abbrev pub afterCall : Conf → Call → Res State → Conf
   afterCall c a (done σ) = record { now = σ; standing = a ∷ c .standing; phase = calls }
   afterCall c a (refused n) = record { now = c .now; standing = c .standing; phase = calls }
 
+  -- "an accepted undo removes that one": the calls cs that stood before it are left
   abbrev pub afterUndo : Conf → List Call → Res Undone → Conf
   afterUndo c cs (done u) = record { now = u .after; standing = cs; phase = undos }
   afterUndo c cs (refused n) = record { now = c .now; standing = c .standing; phase = undos }
@@ -150,15 +168,18 @@ module _ (M : Machine) where
   undoNewest c [] = c
   undoNewest c (a ∷ cs) = afterUndo c cs (runUndo (c .now) a)
 
+  -- an accepted flush lets the other side follow; a refused one (22) does not
   abbrev pub afterFlush : Conf → Res State → Conf
   afterFlush c (done σ) = record { now = σ; standing = c .standing; phase = clean }
   afterFlush c (refused n) = c
 
+  -- one step of the list; an undo is that of the newest standing call
   abbrev pub step : Conf → Step → Conf
   step c (call a) = afterCall c a (runCall (c .now) a)
   step c undo = undoNewest c (c .standing)
   step c flush = afterFlush c (withStore (c .now) (doFlush (c .now .store)))
 
+  -- "all empty or 0 at first": no call stands, every parent and every list is empty
   abbrev pub start : Conf
   start = record { now = record { store = empty; bals = λ p. noBal }; standing = []; phase = clean }
 
@@ -166,25 +187,27 @@ module _ (M : Machine) where
   run c [] = c
   run c (s ∷ ss) = run (step c s) ss
 
-  -- at each change an accepted flush; an undo only while a call stands
+  -- a step may come: at each change an accepted flush came before it, and an undo comes only while a call stands
   abbrev pub Allowed : Conf → Step → Type 0
   Allowed c (call a) = MayCall (c .phase) × Args limit a
   Allowed c undo = MayUndo (c .phase) × (c .standing ≢ [])
   Allowed c flush = Unit {0}
 
+  -- the list is legal: each step may come, and after each the standing calls keep the history rules
   unfoldable pub Legal : Conf → List Step → Type 0
   Legal c [] = Unit {0}
   Legal c (s ∷ ss) = Allowed c s × Rules (step c s .standing) × Legal (step c s) ss
 
-  -- row s of ch: more than rowSize * (s + 1) numbers stand together
+  -- "Row keys in use: of each parent, kind and spill number s where more than 512 (s + 1) numbers of that kind once stood together": they do now
   abbrev pub Needs : Conf → Series → ℕ → Type 0
   Needs c ch s = rowSize * suc s < length (ledger-numbers (c .standing) ch)
 
+  -- or they once did: before or after some step of the list
   unfoldable pub InUse : Conf → List Step → Series → ℕ → Type 0
   InUse c [] ch s = Needs c ch s
   InUse c (x ∷ ss) ch s = Needs c ch s ⊎ InUse (step c x) ss ch s
 
-  -- no two rows in use share a key
+  -- no two row keys in use are equal
   abbrev pub KeysApart : (Series → ℕ → Type 0) → Type 0
   KeysApart U = (d e : Series) (s t : ℕ) → U d s → U e t → key d s ≡ key e t → (d ≡ e) × (s ≡ t)
 
@@ -197,22 +220,28 @@ module _ (M : Machine) where
   NewestOk c [] = Unit {0}
   NewestOk c (a ∷ cs) = UndoAnswer (c .now) a (runUndo (c .now) a)
 
+  -- nothing is owed of what a call or a flush answers
   abbrev pub StepOk : Conf → Step → Type 0
   StepOk c (call a) = Unit {0}
   StepOk c undo = NewestOk c (c .standing)
   StepOk c flush = Unit {0}
 
+  -- every undo of the list, wherever it stands
   unfoldable pub StepsOk : Conf → List Step → Type 0
   StepsOk c [] = Unit {0}
   StepsOk c (s ∷ ss) = StepOk c s × StepsOk (step c s) ss
 
-  -- the index holds exactly what the standing calls give
+  -- the index holds exactly what the standing calls alone give
   pub record Agrees (c : Conf) : Type 0 where
+    -- "The index's numbers are the absolute values of its entries", in their order, of each parent and kind
     pub numbers : (ch : Series) → map absℤ (entries (c .now .store) ch) ≡ ledger-numbers (c .standing) ch
+    -- "a spent copy is a negative entry, and how many there are of a number is compared with its spent count"; a spent 0 stays 0, so 0 is left out
     pub copies : (p : Parent) (n : ℕ) → 0 < n → negs n (entries (c .now .store) (boxes p)) ≡ ledger-spent (c .standing) p n
+    -- nanoErgs, and the amount of every token id, 0 if absent. "Places of copies and tokens are not compared"
     pub nanoErgs : (p : Parent) → nanoOf (c .now .bals p) ≡ ledger-nanos (c .standing) p
     pub amounts : (p : Parent) (t : TokenId) → amountOf (c .now .bals p) t ≡ ledger-amount (c .standing) p t
 
-  -- the fork-undo theorem of a machine: every legal list of steps, as long as no two rows in use share a key
+  -- the fork-undo theorem of a machine: for every legal list of steps in which no two row keys in use are equal, every undo answers as it should, and at the
+  -- end the index agrees with the standing calls. As every beginning of a legal list is legal, it agrees after each step
   abbrev pub ForkUndo : Type 0
   ForkUndo = (ss : List Step) → Legal start ss → KeysApart (InUse start ss) → StepsOk start ss × Agrees (run start ss)

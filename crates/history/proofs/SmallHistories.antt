@@ -1,0 +1,104 @@
+-- Small histories, computed by the machine of the theorem: what a wrong undo would break.
+use mathlib.Core.Path.{_≡_, refl}
+use mathlib.Core.List.{List, [], _∷_}
+use Prim.Native.Nat.{ℕ}
+use native.Mathlib.Omega.{arith}
+use native.Mathlib.Decide.{ℕ-discrete}
+use lib.IntN.{ℤ, pos, negsuc}
+use lib.ListN.{replicate, length-replicate}
+use Rattle.stores.specs.Stores.{write}
+use Rattle.stores.specs.Equal.{same-bytes}
+use Rattle.records.specs.Records.{records}
+use Rattle.records.specs.Find.{find-from, distinct}
+use Rattle.records.specs.Changes.{clear-records}
+use Rattle.records.specs.Checks.{lengths-ok, records-ok, keys-ok}
+use Rattle.buffer_core.specs.Edition.{Edition, edition-1}
+use Rattle.buffer_core.specs.Append.{counts-of, append-of, append-ok, append-core, spill-of}
+use Rattle.buffer_core.specs.Pop.{lists, pop-of, pop-ok, pop-core, lists-ok}
+use Rattle.buffer_core.specs.Flip.{flip-of, flip-ok, flip-core, flip-effect, in-order, in-rows, search-by, walk-from}
+use Rattle.buffer_core.specs.Flush.{flush-of, flush-core, flushed, table-after, put-undeleted, put-staged, remove-key, remove-keys, new-count}
+use Rattle.ledger.specs.Ledger.{ite, series-dec, Call}
+use Rattle.ledger.specs.Run.{Res, done, refused, Machine, Step, undo, flush, State, Undone, start, run, runUndo, StepsOk, flat}
+use Rattle.fork_model.proofs.SmallHistories.{append-box, spend-box, boxes-after}
+use Rattle.history.specs.Index.{Index, index, part, do-flush}
+use Rattle.history.specs.Machine.{Borrowed}
+use Rattle.history.specs.ForkUndo.{Places, index-machine}
+
+-- heads of 512 places, lists without room
+abbrev pub heads-only : Borrowed edition-1
+heads-only = record {
+  table-cap = 0;
+  staged-cap = 0;
+  deleted-cap = 0;
+  places = λ ch. replicate 512 (pos 0);
+  table = [];
+  staged = [];
+  deleted = [];
+  places-in = λ ch. omega (arith, length-replicate {A = ℤ} 512 (pos 0));
+  table-in = omega arith;
+  staged-in = omega arith;
+  deleted-in = omega arith;
+}
+
+module _ (s : Places) where
+  abbrev M : Machine
+  M = index-machine edition-1 (λ p. []) heads-only s
+
+  -- what the undo of the newest standing call answers, after the steps
+  abbrev answer-of : Res (Undone M) → List ℤ
+  answer-of (done u) = u .answer
+  answer-of (refused k) = []
+
+  abbrev answer-to : State M → List Call → List ℤ
+  answer-to σ [] = []
+  answer-to σ (a ∷ cs) = answer-of (runUndo M σ a)
+
+  abbrev undo-answer : List Step → List ℤ
+  undo-answer ss = answer-to (run M (start M) ss .now) (run M (start M) ss .standing)
+
+  -- one undo takes one mark off, and the right one: neither none nor all
+  pub one-spend-undone : boxes-after M (append-box 5 ∷ append-box 6 ∷ spend-box 5 ∷ spend-box 6 ∷ flush ∷ undo ∷ []) ≡ negsuc 4 ∷ pos 6 ∷ []
+  unfolding run flat ite series-dec ℕ-discrete append-of append-ok append-core spill-of records-ok lengths-ok distinct records
+      flip-of flip-ok flip-core flip-effect in-order in-rows search-by walk-from flush-of flush-core flushed table-after put-undeleted remove-keys new-count lists-ok keys-ok clear-records write
+  one-spend-undone = refl
+
+  -- one undone append takes one number off, and answers it
+  pub one-append-undone : boxes-after M (append-box 5 ∷ append-box 6 ∷ flush ∷ undo ∷ []) ≡ pos 5 ∷ []
+  unfolding run flat ite series-dec ℕ-discrete append-of append-ok append-core spill-of records-ok lengths-ok distinct records
+      pop-of pop-ok pop-core flush-of flush-core flushed table-after put-undeleted remove-keys new-count lists-ok keys-ok clear-records write
+  one-append-undone = refl
+
+  pub undone-append-answers : undo-answer (append-box 5 ∷ append-box 6 ∷ flush ∷ []) ≡ pos 6 ∷ []
+  unfolding run flat ite series-dec ℕ-discrete append-of append-ok append-core spill-of records-ok lengths-ok distinct records
+      pop-of pop-ok pop-core flush-of flush-core flushed table-after put-undeleted remove-keys new-count lists-ok keys-ok clear-records write
+  undone-append-answers = refl
+
+  -- "no box number is appended while its spent count is above 0": without this rule the theorem is false. The second 5 is appended while the first is spent;
+  -- both are spent then, the undo of the second spend takes the mark off the first 5, and the undo of the append answers -5
+  abbrev appended-while-spent : List Step
+  appended-while-spent = append-box 5 ∷ spend-box 5 ∷ append-box 5 ∷ spend-box 5 ∷ flush ∷ undo ∷ undo ∷ []
+
+  pub rule-needed : StepsOk M (start M) appended-while-spent → ⊥
+  unfolding StepsOk run flat ite series-dec ℕ-discrete append-of append-ok append-core spill-of records-ok lengths-ok distinct records
+      flip-of flip-ok flip-core flip-effect in-order in-rows search-by walk-from pop-of pop-ok pop-core flush-of flush-core flushed table-after put-undeleted remove-keys new-count lists-ok keys-ok clear-records write
+  rule-needed h =
+      let e : _≡_ {A = List ℤ} (negsuc 4 ∷ []) (pos 5 ∷ []) = h .1 .1 .1 .1 .1 .1 .0 in
+      let z : _≡_ {A = ℕ} 0 1 = cc in
+      omega arith
+
+-- "Staged rows whose key is not deleted are written": one staged row, its key (32 zeros) deleted, and a table that has room for it; with records of 36 bytes
+abbrev short-records : Edition
+short-records = record { size = 36; limit = 2; key = edition-1 .key; encode = edition-1 .encode; decode = edition-1 .decode; with-boxes = edition-1 .with-boxes }
+
+abbrev deleted-row : Index
+deleted-row =
+    index (λ ch. part (counts-of 0 (pos 0)) [])
+    (lists (record { count = 1; capacity = 1 }) (replicate 36 0) (record { count = 0; capacity = 1 }) (replicate 36 0) (record { count = 1; capacity = 1 }) (replicate 32 0))
+
+abbrev rows-in-table : Res Index → ℕ
+rows-in-table (done b) = b .lists .table-counts .count
+rows-in-table (refused k) = k
+
+pub deleted-row-left-out : rows-in-table (do-flush short-records (λ p. []) deleted-row) ≡ 0
+unfolding flush-of flush-core flushed table-after put-undeleted put-staged remove-key remove-keys new-count lists-ok records-ok keys-ok lengths-ok distinct records find-from same-bytes
+deleted-row-left-out = refl
