@@ -59,16 +59,16 @@ module _ (E : St.Env) (code : Coded E) (U : Series → ℕ → Type 0) (apart : 
   unfolding Live flat
   append-spill σ ch m G td v cap h u = record {
     good = record {
-      full = λ d s l. Gs.full-put E code U (σ .staging) (σ .shelf) ch d (key ch (σ .counts ch)) (key d s) (σ .heads ch) size (G .small ch)
+      full = λ d s l. Gs.full-put E code U (σ .staging) (σ .table) ch d (key ch (σ .counts ch)) (key d s) (σ .heads ch) size (G .small ch)
           (⊎-elim (λ a. inl (G .full d s (a .0), a .1)) (λ a. inr (a .0, named d s a)) (at d s l));
       used = λ d s l. ⊎-elim (λ a. G .used d s (a .0)) (λ a. subst (λ (x : Series). U x s) (a .0) (subst (U ch) (sym (a .1)) u)) (at d s l);
       kept = λ d s l i. subst (Tb.In Row Key key-dec (key d s)) td i;
       fits = λ d. ite-both (λ (x : List ℤ). length x ≤ suc r) (series-dec ch d) (pos m ∷ []) (σ .heads d) (omega arith) (G .fits d);
       small = λ d. ite-both (Small lim) (series-dec ch d) (pos m ∷ []) (σ .heads d) (small-one lim m v) (G .small d);
       oneStaged = Tb.distinct-put Row Key key-dec (σ .staging) (key ch (σ .counts ch)) (enc ch (σ .heads ch)) (G .oneStaged);
-      oneShelved = G .oneShelved;
+      oneTable = G .oneTable;
       capStaged = cap;
-      capShelved = G .capShelved;
+      capTable = G .capTable;
       capDeleted = G .capDeleted;
     };
     tidy = td;
@@ -76,12 +76,12 @@ module _ (E : St.Env) (code : Coded E) (U : Series → ℕ → Type 0) (apart : 
     grown = (λ i. flat (St.rowAt E (St.spilled E σ ch (pos m) (put (σ .staging) (key ch (σ .counts ch)) (enc ch (σ .heads ch)))) ch) (ite-yes (series-dec ch ch) (suc (σ .counts ch)) (σ .counts ch) refl i)
         ++ ite-yes (series-dec ch ch) (pos m ∷ []) (σ .heads ch) refl i)
         ∙ (λ i. (Se.flat-cong (St.rowAt E (St.spilled E σ ch (pos m) (put (σ .staging) (key ch (σ .counts ch)) (enc ch (σ .heads ch)))) ch) (St.rowAt E σ ch) (σ .counts ch)
-        (λ s l. ap (St.decoded E ch) (Gs.view-put-other E code U (σ .staging) (σ .shelf) (key ch (σ .counts ch)) (key ch s) (enc ch (σ .heads ch)) (own s l))) i
-        ++ rowOr (Gs.read-put-same E code U (σ .staging) (σ .shelf) ch (key ch (σ .counts ch)) (σ .heads ch) (G .fits ch) (G .small ch) i)) ++ (pos m ∷ []));
+        (λ s l. ap (St.decoded E ch) (Gs.view-put-other E code U (σ .staging) (σ .table) (key ch (σ .counts ch)) (key ch s) (enc ch (σ .heads ch)) (own s l))) i
+        ++ rowOr (Gs.read-put-same E code U (σ .staging) (σ .table) ch (key ch (σ .counts ch)) (σ .heads ch) (G .fits ch) (G .small ch) i)) ++ (pos m ∷ []));
     beside = λ d q. (λ i. flat (St.rowAt E (St.spilled E σ ch (pos m) (put (σ .staging) (key ch (σ .counts ch)) (enc ch (σ .heads ch)))) d) (ite-no (series-dec ch d) (suc (σ .counts ch)) (σ .counts d) q i)
         ++ ite-no (series-dec ch d) (pos m ∷ []) (σ .heads d) q i)
         ∙ ap (λ (x : List ℤ). x ++ σ .heads d) (Se.flat-cong (St.rowAt E (St.spilled E σ ch (pos m) (put (σ .staging) (key ch (σ .counts ch)) (enc ch (σ .heads ch)))) d) (St.rowAt E σ d) (σ .counts d)
-        (λ s l. ap (St.decoded E d) (Gs.view-put-other E code U (σ .staging) (σ .shelf) (key ch (σ .counts ch)) (key d s) (enc ch (σ .heads ch)) (λ k. q (apart ch d (σ .counts ch) s u (G .used d s l) k .0)))));
+        (λ s l. ap (St.decoded E d) (Gs.view-put-other E code U (σ .staging) (σ .table) (key ch (σ .counts ch)) (key d s) (enc ch (σ .heads ch)) (λ k. q (apart ch d (σ .counts ch) s u (G .used d s l) k .0)))));
   }
     where
       size : length (σ .heads ch) ≡ suc r

@@ -48,15 +48,15 @@ module _ (E : St.Env) (code : Coded E) (U : Series → ℕ → Type 0) (apart : 
       → Flipped σ ch e (St.withStaging E σ (Tb.put Row Key key-dec (σ .staging) (key ch s) (St.redone E σ ch s new)))
   flip-row σ ch e s row new G b a h cap = record {
     good = record {
-      full = λ d t l. Gs.full-put-any E code U (σ .staging) (σ .shelf) ch d (key ch s) (key d t) (St.redone E σ ch s new) new reads size little (who d t l (key-dec (key ch s) (key d t)));
+      full = λ d t l. Gs.full-put-any E code U (σ .staging) (σ .table) ch d (key ch s) (key d t) (St.redone E σ ch s new) new reads size little (who d t l (key-dec (key ch s) (key d t)));
       used = G .used;
       kept = G .kept;
       fits = G .fits;
       small = G .small;
       oneStaged = Tb.distinct-put Row Key key-dec (σ .staging) (key ch s) (St.redone E σ ch s new) (G .oneStaged);
-      oneShelved = G .oneShelved;
+      oneTable = G .oneTable;
       capStaged = cap;
-      capShelved = G .capShelved;
+      capTable = G .capTable;
       capDeleted = G .capDeleted;
     };
     tidy = λ t. t;
@@ -64,7 +64,7 @@ module _ (E : St.Env) (code : Coded E) (U : Series → ℕ → Type 0) (apart : 
         (subst (λ (x : List ℤ). Split e (flat (St.rowAt E σ ch) s ++ (rowOr (St.rowAt E σ ch s) ++ p .rest)) x) (sym there)
         (Se.split-in (flat (St.rowAt E σ ch) s) (p .rest) (subst (λ (x : Res (List ℤ)). Split e (rowOr x) new) (sym a) sp))));
     beside = λ d q. ap (λ (x : List ℤ). x ++ σ .heads d) (Se.flat-cong (St.rowAt E τ d) (St.rowAt E σ d) (σ .counts d)
-        (λ t l. ap (St.decoded E d) (Gs.view-put-other E code U (σ .staging) (σ .shelf) (key ch s) (key d t) (St.redone E σ ch s new) (λ k. q (apart ch d s t (G .used ch s b) (G .used d t l) k .0)))));
+        (λ t l. ap (St.decoded E d) (Gs.view-put-other E code U (σ .staging) (σ .table) (key ch s) (key d t) (St.redone E σ ch s new) (λ k. q (apart ch d s t (G .used ch s b) (G .used d t l) k .0)))));
   }
     where
       τ : St.Store E
@@ -80,7 +80,7 @@ module _ (E : St.Env) (code : Coded E) (U : Series → ℕ → Type 0) (apart : 
       little = let g = G .full ch s b in let z : g .0 ≡ row = cc in small-split sp (subst (Small lim) z (g .3))
 
       reads : dec ch (St.redone E σ ch s new) ≡ done new
-      reads = Gs.redo-found E code U ch (St.view E (σ .staging) (σ .shelf) (key ch s)) row new a (omega (arith, size)) little
+      reads = Gs.redo-found E code U ch (St.view E (σ .staging) (σ .table) (key ch s)) row new a (omega (arith, size)) little
 
       who : (d : Series) (t : ℕ) → t < σ .counts d → Dec (key ch s ≡ key d t) → (FullRow lim r (St.rowAt E σ d t) × (key ch s ≢ key d t)) ⊎ ((ch ≡ d) × (key ch s ≡ key d t))
       who d t l (yes k) = inr (apart ch d s t (G .used ch s b) (G .used d t l) k .0, k)
@@ -90,11 +90,11 @@ module _ (E : St.Env) (code : Coded E) (U : Series → ℕ → Type 0) (apart : 
       p = Se.flat-parts (St.rowAt E σ ch) (σ .counts ch) s b
 
       other : (t : ℕ) → t < σ .counts ch → t ≢ s → St.rowAt E τ ch t ≡ St.rowAt E σ ch t
-      other t l n = ap (St.decoded E ch) (Gs.view-put-other E code U (σ .staging) (σ .shelf) (key ch s) (key ch t) (St.redone E σ ch s new) (λ k. n (sym (apart ch ch s t (G .used ch s b) (G .used ch t l) k .1))))
+      other t l n = ap (St.decoded E ch) (Gs.view-put-other E code U (σ .staging) (σ .table) (key ch s) (key ch t) (St.redone E σ ch s new) (λ k. n (sym (apart ch ch s t (G .used ch s b) (G .used ch t l) k .1))))
 
       there : flat (St.rowAt E τ ch) (σ .counts ch) ≡ flat (St.rowAt E σ ch) s ++ (new ++ p .rest)
       there = p .alike (St.rowAt E τ ch) (λ t x y. other t y (λ z. omega arith))
-          ∙ (λ i. Se.flat-cong (St.rowAt E τ ch) (St.rowAt E σ ch) s (λ t x. other t (omega arith) (λ z. omega arith)) i ++ (rowOr (Gs.read-put-any E code U (σ .staging) (σ .shelf) ch (key ch s) (St.redone E σ ch s new) new reads i) ++ p .rest))
+          ∙ (λ i. Se.flat-cong (St.rowAt E τ ch) (St.rowAt E σ ch) s (λ t x. other t (omega arith) (λ z. omega arith)) i ++ (rowOr (Gs.read-put-any E code U (σ .staging) (σ .table) ch (key ch s) (St.redone E σ ch s new) new reads i) ++ p .rest))
 
   flip-staged : (σ : St.Store E) (ch : Series) (e : ℤ) (h : Hit) (τ : St.Store E) (X : Res (St.Table E)) → Good σ → (n : ℕ) → n ≤ σ .counts ch → Se.Stopped r (St.readRow E σ ch) e n h → St.stage E σ (key ch (h .at)) (St.redone E σ ch (h .at) (h .new)) ≡ X
       → andThen X (λ t. done (St.withStaging E σ t)) ≡ done τ → Flipped σ ch e τ

@@ -17,7 +17,7 @@ use Rattle.fork_model.proofs.GoodStore.{Coded}
 use Rattle.fork_model.proofs.GoodStore as Gs
 
 module _ (E : St.Env) (code : Coded E) (U : Series → ℕ → Type 0) (apart : (d e : Series) (s t : ℕ) → U d s → U e t → E .key d s ≡ E .key e t → (d ≡ e) × (s ≡ t)) where
-  open St.Env E using (Key, key-dec, key, Row, shelfCap)
+  open St.Env E using (Key, key-dec, key, Row, tableCap)
 
   abbrev Good : St.Store E → Type 0
   Good σ = Gs.Good E code U σ
@@ -25,12 +25,12 @@ module _ (E : St.Env) (code : Coded E) (U : Series → ℕ → Type 0) (apart : 
   abbrev pub Flushed : St.Store E → St.Store E → Type 0
   Flushed σ τ = Op.Flushed (St.Store E) (St.entries E) Good (Gs.Tidy E code U) σ τ
 
-  view-flush : (σ : St.Store E) (k : Key) → Good σ → (Tb.In Row Key key-dec k (σ .deletion) → ⊥) → St.view E [] (St.flushed E σ .shelf) k ≡ St.view E (σ .staging) (σ .shelf) k
+  view-flush : (σ : St.Store E) (k : Key) → Good σ → (Tb.In Row Key key-dec k (σ .deletion) → ⊥) → St.view E [] (St.flushed E σ .table) k ≡ St.view E (σ .staging) (σ .table) k
   view-flush σ k G n =
-      Tb.lookup-removeAll Row Key key-dec (σ .deletion) (Tb.writeAll Row Key key-dec (σ .staging) (σ .deletion) (σ .shelf)) k (Tb.distinct-write Row Key key-dec (σ .staging) (σ .deletion) (σ .shelf) (G .oneShelved)) n
-      ∙ Tb.lookup-write Row Key key-dec (σ .staging) (σ .deletion) (σ .shelf) k (G .oneStaged) n
+      Tb.lookup-removeAll Row Key key-dec (σ .deletion) (Tb.writeAll Row Key key-dec (σ .staging) (σ .deletion) (σ .table)) k (Tb.distinct-write Row Key key-dec (σ .staging) (σ .deletion) (σ .table) (G .oneTable)) n
+      ∙ Tb.lookup-write Row Key key-dec (σ .staging) (σ .deletion) (σ .table) k (G .oneStaged) n
 
-  flush-good : (σ : St.Store E) → Good σ → (shelfCap < length (σ .shelf) + Tb.fresh Row Key key-dec (σ .staging) (σ .deletion) (σ .shelf) → ⊥) → Flushed σ (St.flushed E σ)
+  flush-good : (σ : St.Store E) → Good σ → (tableCap < length (σ .table) + Tb.fresh Row Key key-dec (σ .staging) (σ .deletion) (σ .table) → ⊥) → Flushed σ (St.flushed E σ)
   flush-good σ G ok = record {
     good = record {
       full = λ d s h. let g = G .full d s h in (g .0, ap (St.decoded E d) (view-flush σ (key d s) G (G .kept d s h)) ∙ g .1, g .2, g .3);
@@ -39,9 +39,9 @@ module _ (E : St.Env) (code : Coded E) (U : Series → ℕ → Type 0) (apart : 
       fits = G .fits;
       small = G .small;
       oneStaged = tt;
-      oneShelved = Tb.distinct-removeAll Row Key key-dec (σ .deletion) (Tb.writeAll Row Key key-dec (σ .staging) (σ .deletion) (σ .shelf)) (Tb.distinct-write Row Key key-dec (σ .staging) (σ .deletion) (σ .shelf) (G .oneShelved));
+      oneTable = Tb.distinct-removeAll Row Key key-dec (σ .deletion) (Tb.writeAll Row Key key-dec (σ .staging) (σ .deletion) (σ .table)) (Tb.distinct-write Row Key key-dec (σ .staging) (σ .deletion) (σ .table) (G .oneTable));
       capStaged = omega arith;
-      capShelved = omega (arith, ok, Tb.length-removeAll Row Key key-dec (σ .deletion) (Tb.writeAll Row Key key-dec (σ .staging) (σ .deletion) (σ .shelf)), Tb.length-write Row Key key-dec (σ .staging) (σ .deletion) (σ .shelf) (G .oneStaged));
+      capTable = omega (arith, ok, Tb.length-removeAll Row Key key-dec (σ .deletion) (Tb.writeAll Row Key key-dec (σ .staging) (σ .deletion) (σ .table)), Tb.length-write Row Key key-dec (σ .staging) (σ .deletion) (σ .table) (G .oneStaged));
       capDeleted = omega arith;
     };
     tidy = refl;
@@ -50,14 +50,14 @@ module _ (E : St.Env) (code : Coded E) (U : Series → ℕ → Type 0) (apart : 
 
   pub flush-ok : (σ τ : St.Store E) → Good σ → St.doFlush E σ ≡ done τ → Flushed σ τ
   flush-ok σ τ G e =
-      ite-cases (decLt shelfCap (length (σ .shelf) + Tb.fresh Row Key key-dec (σ .staging) (σ .deletion) (σ .shelf))) (refused 22) (done (St.flushed E σ)) (done τ) e
+      ite-cases (decLt tableCap (length (σ .table) + Tb.fresh Row Key key-dec (σ .staging) (σ .deletion) (σ .table))) (refused 22) (done (St.flushed E σ)) (done τ) e
       (λ a b. absurd (done≢refused (sym b))) (λ a b. let q : St.flushed E σ ≡ τ = cc in subst (Flushed σ) q (flush-good σ G a))
 
   -- "then deleted keys removed"
-  pub flush-deletes : (σ τ : St.Store E) → Good σ → St.doFlush E σ ≡ done τ → (k : Key) → Tb.In Row Key key-dec k (σ .deletion) → Tb.Absent Row Key key-dec k (τ .shelf)
+  pub flush-deletes : (σ τ : St.Store E) → Good σ → St.doFlush E σ ≡ done τ → (k : Key) → Tb.In Row Key key-dec k (σ .deletion) → Tb.Absent Row Key key-dec k (τ .table)
   flush-deletes σ τ G e k h =
-      ite-cases (decLt shelfCap (length (σ .shelf) + Tb.fresh Row Key key-dec (σ .staging) (σ .deletion) (σ .shelf))) (refused 22) (done (St.flushed E σ)) (done τ) e
+      ite-cases (decLt tableCap (length (σ .table) + Tb.fresh Row Key key-dec (σ .staging) (σ .deletion) (σ .table))) (refused 22) (done (St.flushed E σ)) (done τ) e
       (λ a b. absurd (done≢refused (sym b)))
       (λ a b. let q : St.flushed E σ ≡ τ = cc in
-      subst (λ (x : St.Store E). Tb.Absent Row Key key-dec k (x .shelf)) q (Tb.deleted-gone Row Key key-dec (σ .deletion) (Tb.writeAll Row Key key-dec (σ .staging) (σ .deletion) (σ .shelf)) k
-      (Tb.distinct-write Row Key key-dec (σ .staging) (σ .deletion) (σ .shelf) (G .oneShelved)) h))
+      subst (λ (x : St.Store E). Tb.Absent Row Key key-dec k (x .table)) q (Tb.deleted-gone Row Key key-dec (σ .deletion) (Tb.writeAll Row Key key-dec (σ .staging) (σ .deletion) (σ .table)) k
+      (Tb.distinct-write Row Key key-dec (σ .staging) (σ .deletion) (σ .table) (G .oneTable)) h))

@@ -59,7 +59,7 @@ pub record Coded (E : St.Env) : Type 0 where
   pub again : (ch : Series) (b : E .Row) (l new : List ℤ) → E .dec ch b ≡ done l → length new ≤ suc (E .r) → Small (E .lim) new → E .dec ch (E .redo ch b new) ≡ done new
 
 module _ (E : St.Env) (code : Coded E) where
-  open St.Env E using (r, lim, Key, key-dec, key, Row, enc, dec, redo, shelfCap, stagCap, delCap, maxCount)
+  open St.Env E using (r, lim, Key, key-dec, key, Row, enc, dec, redo, tableCap, stagCap, delCap, maxCount)
 
   abbrev pub Store : Type 0
   Store = St.Store E
@@ -135,10 +135,10 @@ module _ (E : St.Env) (code : Coded E) where
       pub fits : (ch : Series) → length (σ .heads ch) ≤ suc r
       pub small : (ch : Series) → Small lim (σ .heads ch)
       pub oneStaged : Distinct (σ .staging)
-      pub oneShelved : Distinct (σ .shelf)
+      pub oneTable : Distinct (σ .table)
       -- 25 never arises
       pub capStaged : length (σ .staging) ≤ stagCap
-      pub capShelved : length (σ .shelf) ≤ shelfCap
+      pub capTable : length (σ .table) ≤ tableCap
       pub capDeleted : length (σ .deletion) ≤ delCap
 
     abbrev pub Tidy : Store → Type 0
@@ -156,9 +156,9 @@ module _ (E : St.Env) (code : Coded E) where
       fits = λ d. ite-both (λ (x : List ℤ). length x ≤ suc r) (series-dec ch d) l (σ .heads d) h (G .fits d);
       small = λ d. ite-both (Small lim) (series-dec ch d) l (σ .heads d) sm (G .small d);
       oneStaged = G .oneStaged;
-      oneShelved = G .oneShelved;
+      oneTable = G .oneTable;
       capStaged = G .capStaged;
-      capShelved = G .capShelved;
+      capTable = G .capTable;
       capDeleted = G .capDeleted;
     }
 

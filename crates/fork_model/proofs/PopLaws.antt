@@ -71,23 +71,23 @@ module _ (E : St.Env) (code : Coded E) (U : Series → ℕ → Type 0) (apart : 
   pop-merged σ ch s l f v G hd c e q ok = record {
     good = record {
       full = λ d t h. let a = left σ ch d s t G c (series-dec ch d) h in let g = G .full d t (a .0) in
-          (g .0, view-remove (σ .staging) (σ .shelf) d (key ch s) (key d t) (G .oneStaged) (a .1) ∙ g .1, g .2, g .3);
+          (g .0, view-remove (σ .staging) (σ .table) d (key ch s) (key d t) (G .oneStaged) (a .1) ∙ g .1, g .2, g .3);
       used = λ d t h. G .used d t (left σ ch d s t G c (series-dec ch d) h .0);
       kept = λ d t h i. let a = left σ ch d s t G c (series-dec ch d) h in
           ⊎-elim (G .kept d t (a .0)) (a .1) (in-add (Tb.in-dec Row Key key-dec (key ch s) (σ .deletion)) (key d t) (key ch s) (σ .deletion) i);
       fits = λ d. ite-both (λ (x : List ℤ). length x ≤ suc r) (series-dec ch d) f (σ .heads d) short (G .fits d);
       small = λ d. ite-both (Small lim) (series-dec ch d) f (σ .heads d) little (G .small d);
       oneStaged = Tb.distinct-remove Row Key key-dec (σ .staging) (key ch s) (G .oneStaged);
-      oneShelved = G .oneShelved;
+      oneTable = G .oneTable;
       capStaged = omega (arith, G .capStaged, Tb.length-remove Row Key key-dec (σ .staging) (key ch s));
-      capShelved = G .capShelved;
+      capTable = G .capTable;
       capDeleted = add-size (key ch s) (σ .deletion) (G .capDeleted) ok (Tb.in-dec Row Key key-dec (key ch s) (σ .deletion));
     };
     last = (λ i. flat (St.rowAt E σ ch) (c i) ++ hd i) ∙ append-nil (flat (St.rowAt E σ ch) s ++ rowOr (St.rowAt E σ ch s)) ∙ ap (λ x. flat (St.rowAt E σ ch) s ++ rowOr x) e ∙ ap (λ x. flat (St.rowAt E σ ch) s ++ x) q
         ∙ sym (append-assoc (flat (St.rowAt E σ ch) s) f (v ∷ [])) ∙ ap (λ (x : List ℤ). x ++ (v ∷ [])) (sym after);
     beside = λ d n. (λ i. flat (St.rowAt E (St.merged E σ ch s f) d) (ite-no (series-dec ch d) s (σ .counts d) n i) ++ ite-no (series-dec ch d) f (σ .heads d) n i)
         ∙ ap (λ (x : List ℤ). x ++ σ .heads d) (Se.flat-cong (St.rowAt E (St.merged E σ ch s f) d) (St.rowAt E σ d) (σ .counts d)
-        (λ t h. view-remove (σ .staging) (σ .shelf) d (key ch s) (key d t) (G .oneStaged) (λ k. n (apart ch d s t (G .used ch s (omega arith)) (G .used d t h) k .0))));
+        (λ t h. view-remove (σ .staging) (σ .table) d (key ch s) (key d t) (G .oneStaged) (λ k. n (apart ch d s t (G .used ch s (omega arith)) (G .used d t h) k .0))));
   }
     where
       short : length f ≤ suc r
@@ -99,7 +99,7 @@ module _ (E : St.Env) (code : Coded E) (U : Series → ℕ → Type 0) (apart : 
       after : St.entries E (St.merged E σ ch s f) ch ≡ flat (St.rowAt E σ ch) s ++ f
       after = (λ i. flat (St.rowAt E (St.merged E σ ch s f) ch) (ite-yes (series-dec ch ch) s (σ .counts ch) refl i) ++ ite-yes (series-dec ch ch) f (σ .heads ch) refl i)
           ∙ ap (λ (x : List ℤ). x ++ f) (Se.flat-cong (St.rowAt E (St.merged E σ ch s f) ch) (St.rowAt E σ ch) s
-          (λ t h. view-remove (σ .staging) (σ .shelf) ch (key ch s) (key ch t) (G .oneStaged)
+          (λ t h. view-remove (σ .staging) (σ .table) ch (key ch s) (key ch t) (G .oneStaged)
           (λ k. let z : s ≡ t = apart ch ch s t (G .used ch s (omega arith)) (G .used ch t (omega arith)) k .1 in omega arith)))
 
   -- what pop answers

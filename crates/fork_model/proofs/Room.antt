@@ -24,18 +24,18 @@ done-is : {A : Type 0} {a b : A} → _≡_ {A = Res A} (done a) (done b) → a �
 done-is e = cc
 
 module _ (E : St.Env) (code : Gs.Coded E) where
-  open St.Env E using (r, lim, Key, key-dec, key, Row, enc, stagCap, shelfCap, delCap, maxCount)
+  open St.Env E using (r, lim, Key, key-dec, key, Row, enc, stagCap, tableCap, delCap, maxCount)
 
   abbrev Store : Type 0
   Store = St.Store E
 
   -- at most n records are staged or in the table, and at most n keys deleted
   pub record Room (n : ℕ) (σ : Store) : Type 0 where
-    pub rows : length (σ .staging) + length (σ .shelf) ≤ n
+    pub rows : length (σ .staging) + length (σ .table) ≤ n
     pub deleted : length (σ .deletion) ≤ n
 
   -- one staged record more, at most
-  more-staged : (n : ℕ) (σ τ : Store) → Room n σ → length (τ .staging) ≤ suc (length (σ .staging)) → τ .shelf ≡ σ .shelf → τ .deletion ≡ σ .deletion → Room (suc n) τ
+  more-staged : (n : ℕ) (σ τ : Store) → Room n σ → length (τ .staging) ≤ suc (length (σ .staging)) → τ .table ≡ σ .table → τ .deletion ≡ σ .deletion → Room (suc n) τ
   more-staged n σ τ R h p q = record { rows = omega (arith, R .rows, ap length p); deleted = omega (arith, R .deleted, ap length q) }
 
   stage-length : (σ : Store) (k : Key) (l : Row) (t : St.Table E) → St.stage E σ k l ≡ done t → length t ≤ suc (length (σ .staging))
@@ -128,18 +128,18 @@ module _ (E : St.Env) (code : Gs.Coded E) where
 
   module _ (σ : Store) (n : ℕ) (R : Room n σ) where
     abbrev new-rows : ℕ
-    new-rows = Tb.fresh Row Key key-dec (σ .staging) (σ .deletion) (σ .shelf)
+    new-rows = Tb.fresh Row Key key-dec (σ .staging) (σ .deletion) (σ .table)
 
-    pub flush-accepted : (k : ℕ) → n ≤ shelfCap → St.doFlush E σ ≡ refused k → ⊥
+    pub flush-accepted : (k : ℕ) → n ≤ tableCap → St.doFlush E σ ≡ refused k → ⊥
     flush-accepted k c e =
-        ite-cases (decLt shelfCap (length (σ .shelf) + new-rows)) (refused 22) (done (St.flushed E σ)) (refused k) e
-        (λ a b. omega (arith, R .rows, fresh-few (σ .staging) (σ .deletion) (σ .shelf))) (λ a b. done≢refused b)
+        ite-cases (decLt tableCap (length (σ .table) + new-rows)) (refused 22) (done (St.flushed E σ)) (refused k) e
+        (λ a b. omega (arith, R .rows, fresh-few (σ .staging) (σ .deletion) (σ .table))) (λ a b. done≢refused b)
 
     pub flush-room : (τ : Store) → Tb.Distinct Row Key key-dec (σ .staging) → St.doFlush E σ ≡ done τ → Room (suc n) τ
     flush-room τ d e =
-        ite-cases (decLt shelfCap (length (σ .shelf) + new-rows)) (refused 22) (done (St.flushed E σ)) (done τ) e
+        ite-cases (decLt tableCap (length (σ .table) + new-rows)) (refused 22) (done (St.flushed E σ)) (done τ) e
         (λ a b. absurd (done≢refused (sym b)))
         (λ a b. subst (Room (suc n)) (done-is b) (record {
-          rows = omega (arith, R .rows, fresh-few (σ .staging) (σ .deletion) (σ .shelf), Tb.length-write Row Key key-dec (σ .staging) (σ .deletion) (σ .shelf) d, Tb.length-removeAll Row Key key-dec (σ .deletion) (Tb.writeAll Row Key key-dec (σ .staging) (σ .deletion) (σ .shelf)));
+          rows = omega (arith, R .rows, fresh-few (σ .staging) (σ .deletion) (σ .table), Tb.length-write Row Key key-dec (σ .staging) (σ .deletion) (σ .table) d, Tb.length-removeAll Row Key key-dec (σ .deletion) (Tb.writeAll Row Key key-dec (σ .staging) (σ .deletion) (σ .table)));
           deleted = omega arith;
         }))

@@ -119,13 +119,13 @@ pub record Env : Type 1 where
   pub dec : Series → Row → Res (List ℤ)
   -- a row that was read, with other numbers of its kind
   pub redo : Series → Row → List ℤ → Row
-  pub shelfCap : ℕ
+  pub tableCap : ℕ
   pub stagCap : ℕ
   pub delCap : ℕ
   pub maxCount : ℕ
 
 module _ (E : Env) where
-  open Env E using (r, lim, Key, key-dec, key, Row, enc, dec, redo, shelfCap, stagCap, delCap, maxCount)
+  open Env E using (r, lim, Key, key-dec, key, Row, enc, dec, redo, tableCap, stagCap, delCap, maxCount)
 
   abbrev pub Table : Type 0
   Table = Tb.Table Row Key key-dec
@@ -134,7 +134,7 @@ module _ (E : Env) where
     pub heads : Series → List ℤ
     pub counts : Series → ℕ
     pub staging : Table
-    pub shelf : Table
+    pub table : Table
     pub deletion : List Key
 
   abbrev pub setC {ℓ} : {A : Type ℓ} → (Series → A) → Series → A → Series → A
@@ -149,13 +149,13 @@ module _ (E : Env) where
 
   -- a row as inspection shows it, read
   abbrev pub rowAt : Store → Series → ℕ → Res (List ℤ)
-  rowAt σ ch s = decoded ch (view (σ .staging) (σ .shelf) (key ch s))
+  rowAt σ ch s = decoded ch (view (σ .staging) (σ .table) (key ch s))
 
   abbrev pub entries : Store → Series → List ℤ
   entries σ ch = flat (rowAt σ ch) (σ .counts ch) ++ σ .heads ch
 
   abbrev pub noStore : Store
-  noStore = record { heads = λ ch. []; counts = λ ch. 0; staging = []; shelf = []; deletion = [] }
+  noStore = record { heads = λ ch. []; counts = λ ch. 0; staging = []; table = []; deletion = [] }
 
   abbrev pub StagingFull : Store → Type 0
   StagingFull σ = stagCap ≤ length (σ .staging)
@@ -168,10 +168,10 @@ module _ (E : Env) where
 
   -- APPEND
   abbrev pub withHead : Store → Series → List ℤ → Store
-  withHead σ ch l = record { heads = setC (σ .heads) ch l; counts = σ .counts; staging = σ .staging; shelf = σ .shelf; deletion = σ .deletion }
+  withHead σ ch l = record { heads = setC (σ .heads) ch l; counts = σ .counts; staging = σ .staging; table = σ .table; deletion = σ .deletion }
 
   abbrev pub spilled : Store → Series → ℤ → Table → Store
-  spilled σ ch n t = record { heads = setC (σ .heads) ch (n ∷ []); counts = setC (σ .counts) ch (suc (σ .counts ch)); staging = t; shelf = σ .shelf; deletion = σ .deletion }
+  spilled σ ch n t = record { heads = setC (σ .heads) ch (n ∷ []); counts = setC (σ .counts) ch (suc (σ .counts ch)); staging = t; table = σ .table; deletion = σ .deletion }
 
   abbrev pub doAppend : Store → Series → ℤ → Res Store
   doAppend σ ch (negsuc k) = refused 17
@@ -185,7 +185,7 @@ module _ (E : Env) where
   addKey k ks = ite (Tb.in-dec Row Key key-dec k ks) ks (ks ++ (k ∷ []))
 
   abbrev pub merged : Store → Series → ℕ → List ℤ → Store
-  merged σ ch s l = record { heads = setC (σ .heads) ch l; counts = setC (σ .counts) ch s; staging = Tb.remove Row Key key-dec (σ .staging) (key ch s); shelf = σ .shelf; deletion = addKey (key ch s) (σ .deletion) }
+  merged σ ch s l = record { heads = setC (σ .heads) ch l; counts = setC (σ .counts) ch s; staging = Tb.remove Row Key key-dec (σ .staging) (key ch s); table = σ .table; deletion = addKey (key ch s) (σ .deletion) }
 
   abbrev pub popMerged : Store → Series → ℕ → Ends → Res (Popped Store)
   popMerged σ ch s nothing = refused 20
@@ -209,10 +209,10 @@ module _ (E : Env) where
 
   -- FLUSH
   abbrev pub flushed : Store → Store
-  flushed σ = record { heads = σ .heads; counts = σ .counts; staging = []; shelf = Tb.removeAll Row Key key-dec (σ .deletion) (Tb.writeAll Row Key key-dec (σ .staging) (σ .deletion) (σ .shelf)); deletion = [] }
+  flushed σ = record { heads = σ .heads; counts = σ .counts; staging = []; table = Tb.removeAll Row Key key-dec (σ .deletion) (Tb.writeAll Row Key key-dec (σ .staging) (σ .deletion) (σ .table)); deletion = [] }
 
   abbrev pub doFlush : Store → Res Store
-  doFlush σ = ite (decLt shelfCap (length (σ .shelf) + Tb.fresh Row Key key-dec (σ .staging) (σ .deletion) (σ .shelf))) (refused 22) (done (flushed σ))
+  doFlush σ = ite (decLt tableCap (length (σ .table) + Tb.fresh Row Key key-dec (σ .staging) (σ .deletion) (σ .table))) (refused 22) (done (flushed σ))
 
   -- SPEND AND UNSPEND: e is the copy that is looked for
   abbrev pub checkRow : Res (List ℤ) → Res (List ℤ)
@@ -223,7 +223,7 @@ module _ (E : Env) where
   readRow σ ch s = checkRow (rowAt σ ch s)
 
   abbrev pub withStaging : Store → Table → Store
-  withStaging σ t = record { heads = σ .heads; counts = σ .counts; staging = t; shelf = σ .shelf; deletion = σ .deletion }
+  withStaging σ t = record { heads = σ .heads; counts = σ .counts; staging = t; table = σ .table; deletion = σ .deletion }
 
   abbrev pub redoFound : Series → Found Row → List ℤ → Row
   redoFound ch missing new = enc ch new
@@ -231,7 +231,7 @@ module _ (E : Env) where
 
   -- the row as inspection shows it, with other numbers
   abbrev pub redone : Store → Series → ℕ → List ℤ → Row
-  redone σ ch s new = redoFound ch (view (σ .staging) (σ .shelf) (key ch s)) new
+  redone σ ch s new = redoFound ch (view (σ .staging) (σ .table) (key ch s)) new
 
   abbrev pub flipRows : Store → Series → ℤ → Res Store
   flipRows σ ch e =

@@ -1,4 +1,4 @@
--- Tables of rows by key, as the shelf and staging are: a new key goes last, removal moves the last record into the gap.
+-- Tables of rows by key, as the table and staging are: a new key goes last, removal moves the last record into the gap.
 use Rattle.ledger.proofs.TestLaws.{ite-yes, ite-no}
 use mathlib.Core.Path.{_≡_, refl, sym, _∙_, ap, subst}
 use mathlib.Core.Logic.{_⊎_, inl, inr, ⊎-elim, _≢_}
@@ -188,25 +188,25 @@ module _ (Row : Type 0) (Key : Type 0) (key-dec : Discrete Key) where
   in-dec k (x ∷ ks) = in-step (key-dec x k) (in-dec k ks)
 
   abbrev pub writeAll : Table → List Key → Table → Table
-  writeAll [] ks shelf = shelf
-  writeAll (x ∷ t) ks shelf = writeAll t ks (ite (in-dec (x .name) ks) shelf (put shelf (x .name) (x .row)))
+  writeAll [] ks table = table
+  writeAll (x ∷ t) ks table = writeAll t ks (ite (in-dec (x .name) ks) table (put table (x .name) (x .row)))
 
   abbrev pub removeAll : List Key → Table → Table
-  removeAll [] shelf = shelf
-  removeAll (k ∷ ks) shelf = removeAll ks (remove shelf k)
+  removeAll [] table = table
+  removeAll (k ∷ ks) table = removeAll ks (remove table k)
 
-  write-distinct : {P : Type 0} (w : Dec P) (shelf : Table) (k : Key) (l : Row) → Distinct shelf → Distinct (ite w shelf (put shelf k l))
+  write-distinct : {P : Type 0} (w : Dec P) (table : Table) (k : Key) (l : Row) → Distinct table → Distinct (ite w table (put table k l))
   unfolding ite
-  write-distinct (yes e) shelf k l d = d
-  write-distinct (no q) shelf k l d = distinct-put shelf k l d
+  write-distinct (yes e) table k l d = d
+  write-distinct (no q) table k l d = distinct-put table k l d
 
-  pub distinct-write : (t : Table) (ks : List Key) (shelf : Table) → Distinct shelf → Distinct (writeAll t ks shelf)
-  distinct-write [] ks shelf d = d
-  distinct-write (x ∷ t) ks shelf d = distinct-write t ks (ite (in-dec (x .name) ks) shelf (put shelf (x .name) (x .row))) (write-distinct (in-dec (x .name) ks) shelf (x .name) (x .row) d)
+  pub distinct-write : (t : Table) (ks : List Key) (table : Table) → Distinct table → Distinct (writeAll t ks table)
+  distinct-write [] ks table d = d
+  distinct-write (x ∷ t) ks table d = distinct-write t ks (ite (in-dec (x .name) ks) table (put table (x .name) (x .row))) (write-distinct (in-dec (x .name) ks) table (x .name) (x .row) d)
 
-  pub distinct-removeAll : (ks : List Key) (shelf : Table) → Distinct shelf → Distinct (removeAll ks shelf)
-  distinct-removeAll [] shelf d = d
-  distinct-removeAll (k ∷ ks) shelf d = distinct-removeAll ks (remove shelf k) (distinct-remove shelf k d)
+  pub distinct-removeAll : (ks : List Key) (table : Table) → Distinct table → Distinct (removeAll ks table)
+  distinct-removeAll [] table d = d
+  distinct-removeAll (k ∷ ks) table d = distinct-removeAll ks (remove table k) (distinct-remove table k d)
 
   removed-at : (t : Table) (k : Key) (x : Rec) (w : Dec (x .name ≡ k)) → Distinct (x ∷ t) → Absent k (remove t k) → Absent k (ite w (gapped t) (x ∷ remove t k))
   unfolding ite
@@ -227,31 +227,31 @@ module _ (Row : Type 0) (Key : Type 0) (key-dec : Discrete Key) where
   deleted-gone (j ∷ ks) t k d (inl e) = absent-removeAll ks (remove t j) k (subst (λ (y : Key). Absent y (remove t j)) e (removed t j d))
   deleted-gone (j ∷ ks) t k d (inr h) = deleted-gone ks (remove t j) k (distinct-remove t j d) h
 
-  pub lookup-removeAll : (ks : List Key) (shelf : Table) (j : Key) → Distinct shelf → (In j ks → ⊥) → lookup (removeAll ks shelf) j ≡ lookup shelf j
-  lookup-removeAll [] shelf j d n = refl
-  lookup-removeAll (k ∷ ks) shelf j d n =
-      lookup-removeAll ks (remove shelf k) j (distinct-remove shelf k d) (λ h. n (inr h)) ∙ lookup-remove-other shelf k j d (λ e. n (inl e))
+  pub lookup-removeAll : (ks : List Key) (table : Table) (j : Key) → Distinct table → (In j ks → ⊥) → lookup (removeAll ks table) j ≡ lookup table j
+  lookup-removeAll [] table j d n = refl
+  lookup-removeAll (k ∷ ks) table j d n =
+      lookup-removeAll ks (remove table k) j (distinct-remove table k d) (λ h. n (inr h)) ∙ lookup-remove-other table k j d (λ e. n (inl e))
 
   -- one staged record x, then the others
-  write-one : (x : Rec) (shelf : Table) (ks : List Key) (j : Key) → (In j ks → ⊥) → (w : Dec (In (x .name) ks)) (v : Dec (x .name ≡ j))
-      → lookup (ite w shelf (put shelf (x .name) (x .row))) j ≡ ite v (found (x .row)) (lookup shelf j)
+  write-one : (x : Rec) (table : Table) (ks : List Key) (j : Key) → (In j ks → ⊥) → (w : Dec (In (x .name) ks)) (v : Dec (x .name ≡ j))
+      → lookup (ite w table (put table (x .name) (x .row))) j ≡ ite v (found (x .row)) (lookup table j)
   unfolding ite
-  write-one x shelf ks j n (yes h) (yes e) = absurd (n (subst (λ (y : Key). In y ks) e h))
-  write-one x shelf ks j n (yes h) (no q) = refl
-  write-one x shelf ks j n (no h) (yes e) = ap (lookup (put shelf (x .name) (x .row))) (sym e) ∙ lookup-put-same shelf (x .name) (x .row)
-  write-one x shelf ks j n (no h) (no q) = lookup-put-other shelf (x .name) j (x .row) q
+  write-one x table ks j n (yes h) (yes e) = absurd (n (subst (λ (y : Key). In y ks) e h))
+  write-one x table ks j n (yes h) (no q) = refl
+  write-one x table ks j n (no h) (yes e) = ap (lookup (put table (x .name) (x .row))) (sym e) ∙ lookup-put-same table (x .name) (x .row)
+  write-one x table ks j n (no h) (no q) = lookup-put-other table (x .name) j (x .row) q
 
   write-rest : (x : Rec) (r : Found Row) (t : Table) (j : Key) → Absent (x .name) t → (s : Found Row) → (v : Dec (x .name ≡ j)) → s ≡ ite v (found (x .row)) r → orElse (lookup t j) s ≡ orElse (ite v (found (x .row)) (lookup t j)) r
   unfolding ite
   write-rest x r t j a s (yes e) h = ap (λ z. orElse z s) (lookup-absent t j (subst (λ (y : Key). Absent y t) e a)) ∙ h
   write-rest x r t j a s (no q) h = ap (orElse (lookup t j)) h
 
-  pub lookup-write : (t : Table) (ks : List Key) (shelf : Table) (j : Key) → Distinct t → (In j ks → ⊥) → lookup (writeAll t ks shelf) j ≡ orElse (lookup t j) (lookup shelf j)
-  lookup-write [] ks shelf j d n = refl
-  lookup-write (x ∷ t) ks shelf j d n =
-      lookup-write t ks (ite (in-dec (x .name) ks) shelf (put shelf (x .name) (x .row))) j (d .1) n
-      ∙ write-rest x (lookup shelf j) t j (d .0) (lookup (ite (in-dec (x .name) ks) shelf (put shelf (x .name) (x .row))) j) (key-dec (x .name) j)
-      (write-one x shelf ks j n (in-dec (x .name) ks) (key-dec (x .name) j))
+  pub lookup-write : (t : Table) (ks : List Key) (table : Table) (j : Key) → Distinct t → (In j ks → ⊥) → lookup (writeAll t ks table) j ≡ orElse (lookup t j) (lookup table j)
+  lookup-write [] ks table j d n = refl
+  lookup-write (x ∷ t) ks table j d n =
+      lookup-write t ks (ite (in-dec (x .name) ks) table (put table (x .name) (x .row))) j (d .1) n
+      ∙ write-rest x (lookup table j) t j (d .0) (lookup (ite (in-dec (x .name) ks) table (put table (x .name) (x .row))) j) (key-dec (x .name) j)
+      (write-one x table ks j n (in-dec (x .name) ks) (key-dec (x .name) j))
 
   -- SIZES
   len-put : (t : Table) (k : Key) (l : Row) (x : Rec) (w : Dec (x .name ≡ k)) → length (put t k l) ≤ suc (length t) → length (ite w (record { name = k; row = l } ∷ t) (x ∷ put t k l)) ≤ suc (suc (length t))
@@ -302,7 +302,7 @@ module _ (Row : Type 0) (Key : Type 0) (key-dec : Discrete Key) where
   length-removeAll [] t = omega arith
   length-removeAll (k ∷ ks) t = omega (arith, length-removeAll ks (remove t k), length-remove t k)
 
-  -- staged keys, not deleted, that the shelf lacks
+  -- staged keys, not deleted, that the table lacks
   unfoldable pub lacks-dec : (f : Found Row) → Dec (Lacks f)
   lacks-dec missing = yes tt
   lacks-dec (found l) = no (λ h. h)
@@ -314,8 +314,8 @@ module _ (Row : Type 0) (Key : Type 0) (key-dec : Discrete Key) where
 
   unfoldable pub fresh : Table → List Key → Table → ℕ
   unfolding new-dec lacks-dec
-  fresh [] ks shelf = 0
-  fresh (x ∷ t) ks shelf = ite (new-dec (in-dec (x .name) ks) (lacks-dec (lookup shelf (x .name)))) (suc (fresh t ks shelf)) (fresh t ks shelf)
+  fresh [] ks table = 0
+  fresh (x ∷ t) ks table = ite (new-dec (in-dec (x .name) ks) (lacks-dec (lookup table (x .name)))) (suc (fresh t ks table)) (fresh t ks table)
 
   fresh-same : (t : Table) (ks : List Key) (a b : Table) (k : Key) → Absent k t → ((j : Key) → k ≢ j → lookup a j ≡ lookup b j) → fresh t ks a ≡ fresh t ks b
   unfolding fresh
@@ -323,25 +323,25 @@ module _ (Row : Type 0) (Key : Type 0) (key-dec : Discrete Key) where
   fresh-same (x ∷ t) ks a b k n h =
       (λ i. ite (new-dec (in-dec (x .name) ks) (lacks-dec (h (x .name) (λ e. n .0 (sym e)) i))) (suc (fresh-same t ks a b k (n .1) h i)) (fresh-same t ks a b k (n .1) h i))
 
-  write-len : (x : Rec) (shelf : Table) (ks : List Key) (f : ℕ) (w : Dec (In (x .name) ks)) (v : Dec (Lacks (lookup shelf (x .name))))
-      → length (ite w shelf (put shelf (x .name) (x .row))) + f ≤ length shelf + ite (new-dec w v) (suc f) f
+  write-len : (x : Rec) (table : Table) (ks : List Key) (f : ℕ) (w : Dec (In (x .name) ks)) (v : Dec (Lacks (lookup table (x .name))))
+      → length (ite w table (put table (x .name) (x .row))) + f ≤ length table + ite (new-dec w v) (suc f) f
   unfolding ite new-dec
-  write-len x shelf ks f (yes h) v = omega arith
-  write-len x shelf ks f (no h) (yes l) = omega (arith, length-put shelf (x .name) (x .row))
-  write-len x shelf ks f (no h) (no l) = omega (arith, length-put-has shelf (x .name) (x .row) l)
+  write-len x table ks f (yes h) v = omega arith
+  write-len x table ks f (no h) (yes l) = omega (arith, length-put table (x .name) (x .row))
+  write-len x table ks f (no h) (no l) = omega (arith, length-put-has table (x .name) (x .row) l)
 
-  write-look : (x : Rec) (shelf : Table) (ks : List Key) (w : Dec (In (x .name) ks)) (j : Key) → x .name ≢ j → lookup (ite w shelf (put shelf (x .name) (x .row))) j ≡ lookup shelf j
+  write-look : (x : Rec) (table : Table) (ks : List Key) (w : Dec (In (x .name) ks)) (j : Key) → x .name ≢ j → lookup (ite w table (put table (x .name) (x .row))) j ≡ lookup table j
   unfolding ite
-  write-look x shelf ks (yes h) j n = refl
-  write-look x shelf ks (no h) j n = lookup-put-other shelf (x .name) j (x .row) n
+  write-look x table ks (yes h) j n = refl
+  write-look x table ks (no h) j n = lookup-put-other table (x .name) j (x .row) n
 
-  pub length-write : (t : Table) (ks : List Key) (shelf : Table) → Distinct t → length (writeAll t ks shelf) ≤ length shelf + fresh t ks shelf
+  pub length-write : (t : Table) (ks : List Key) (table : Table) → Distinct t → length (writeAll t ks table) ≤ length table + fresh t ks table
   unfolding fresh
-  length-write [] ks shelf d = omega arith
-  length-write (x ∷ t) ks shelf d =
+  length-write [] ks table d = omega arith
+  length-write (x ∷ t) ks table d =
       omega (
         arith,
-        length-write t ks (ite (in-dec (x .name) ks) shelf (put shelf (x .name) (x .row))) (d .1),
-        fresh-same t ks (ite (in-dec (x .name) ks) shelf (put shelf (x .name) (x .row))) shelf (x .name) (d .0) (write-look x shelf ks (in-dec (x .name) ks)),
-        write-len x shelf ks (fresh t ks shelf) (in-dec (x .name) ks) (lacks-dec (lookup shelf (x .name))),
+        length-write t ks (ite (in-dec (x .name) ks) table (put table (x .name) (x .row))) (d .1),
+        fresh-same t ks (ite (in-dec (x .name) ks) table (put table (x .name) (x .row))) table (x .name) (d .0) (write-look x table ks (in-dec (x .name) ks)),
+        write-len x table ks (fresh t ks table) (in-dec (x .name) ks) (lacks-dec (lookup table (x .name))),
       )

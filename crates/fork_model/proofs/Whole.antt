@@ -68,7 +68,7 @@ module _ (E : St.Env) (B : Balances) where
     pub store-laws : (U : Series → ℕ → Type 0) → Mc.KeysApart machine U → Op.Laws machine U (Gs.Good E code U) (Gs.Tidy E code U) GoodB
     unfolding flat
     store-laws U apart = record {
-      empty-good = record { full = λ ch s h. absurd (omega arith); used = λ ch s h. absurd (omega arith); kept = λ ch s h i. i; fits = λ ch. omega arith; small = λ ch x t. absurd (List·Memᴰ·not-nil t); oneStaged = tt; oneShelved = tt; capStaged = omega arith; capShelved = omega arith; capDeleted = omega arith };
+      empty-good = record { full = λ ch s h. absurd (omega arith); used = λ ch s h. absurd (omega arith); kept = λ ch s h i. i; fits = λ ch. omega arith; small = λ ch x t. absurd (List·Memᴰ·not-nil t); oneStaged = tt; oneTable = tt; capStaged = omega arith; capTable = omega arith; capDeleted = omega arith };
       empty-tidy = refl;
       empty-entries = λ ch. refl;
       append-ok = Al.append-ok E code U apart;

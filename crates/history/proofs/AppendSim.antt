@@ -113,7 +113,7 @@ module _ (E : Edition) (L : EditionLaws E) (ids : Parent → List ℕ) (caps : C
         let v : Part = part (counts-of (len + 1) (p .head .spills)) (set (p .places) len n) in
         let heads = push-to head-of (b .parts) ch v (abs b .heads ch ++ n ∷ []) (grown (p .places) len n (omega (arith, hf .places-in))) in
         let counts = same-set spills-of (b .parts) ch v refl in
-        λ i. done (record { heads = heads i; counts = counts i; staging = abs b .staging; shelf = abs b .shelf; deletion = abs b .deletion })
+        λ i. done (record { heads = heads i; counts = counts i; staging = abs b .staging; table = abs b .table; deletion = abs b .deletion })
 
     -- a spill
     abbrev spill : ℤ → Appending
@@ -133,7 +133,7 @@ module _ (E : Edition) (L : EditionLaws E) (ids : Parent → List ℕ) (caps : C
         let rows : tab (records (E .size) (count-after (find-key key (keys (E .size) (c .count) l)) (c .count)) (bytes-with E key row c l)) ≡ put (abs b .staging) key (E .encode kind (abs b .heads ch))
         = put-table (E .size) (E .limit) c key row l (L .key-length kind (id-of E ids ch) (pos spills)) (omega (arith, L .wide)) (omega (arith, L .wide, L .short)) f (lf .in-staged)
         ∙ ap (λ (m : ℕ). put (abs b .staging) key (E .encode kind (take m (p .places)))) (sym e) in
-        λ i. done (record { heads = heads i; counts = counts i; staging = rows i; shelf = abs b .shelf; deletion = abs b .deletion })
+        λ i. done (record { heads = heads i; counts = counts i; staging = rows i; table = abs b .table; deletion = abs b .deletion })
 
     stage-is : (r : List ℕ) → St.stage W (abs b) key r ≡ cond (full-for (E .size) c key l) (refused 16) (done (put (abs b .staging) key r))
     stage-is r = full-is (E .size) c (caps .staged) key l (refused 16) (done (put (abs b .staging) key r)) (I .staged-at)

@@ -160,7 +160,7 @@ module _ (E : Edition) (L : EditionLaws E) (ids : Parent → List ℕ) (caps : C
         let hs = push-to head-of (b .parts) (boxes p) v (flipped-at (At i) heads) (turn-take (q .places) (q .head .len) i (omega arith)) in
         let cs = same-set spills-of (b .parts) (boxes p) v refl in
         record {
-          same = λ j. done (record { heads = hs j; counts = cs j; staging = abs b .staging; shelf = abs b .shelf; deletion = abs b .deletion });
+          same = λ j. done (record { heads = hs j; counts = cs j; staging = abs b .staging; table = abs b .table; deletion = abs b .deletion });
           keeps = λ d e.
               let y : Index = index (set-part (b .parts) (boxes p) v) (with-staged c (x .staged) x) in
               let z : y ≡ d = cc in
@@ -192,7 +192,7 @@ module _ (E : Edition) (L : EditionLaws E) (ids : Parent → List ℕ) (caps : C
           let ok : RecordsOk (E .size) (E .limit) (with-count (count-after f (c .count)) c) l
           = rw e (records-ok-after-put (E .size) (E .limit) c key row (x .staged) k (omega (arith, L .wide)) m (omega (arith, L .wide, L .short)) g (lf .in-staged)) in
           record {
-            same = λ j. done (record { heads = hs j; counts = cs j; staging = rs j; shelf = abs b .shelf; deletion = abs b .deletion });
+            same = λ j. done (record { heads = hs j; counts = cs j; staging = rs j; table = abs b .table; deletion = abs b .deletion });
             keeps = λ d u.
                 let y : Index = index (set-part (b .parts) (boxes p) v) (with-staged (with-count (count-after f (c .count)) c) l x) in
                 let z : y ≡ d = cc in

@@ -205,7 +205,7 @@ module _ (E : Edition) (L : EditionLaws E) (ids : Parent → List ℕ) (caps : C
     lf : ListsFit E x
     lf = lists-fit E x (I .lists-in)
 
-    fresh-same : length (abs b .shelf) + fresh (abs b .staging) (abs b .deletion) (abs b .shelf) ≡ x .table-counts .count + new
+    fresh-same : length (abs b .table) + fresh (abs b .staging) (abs b .deletion) (abs b .table) ≡ x .table-counts .count + new
     fresh-same = rw (
       length-table (E .size) (x .table-counts .count) (x .table),
       fresh-is (records (E .size) (x .staged-counts .count) (x .staged)) (deleted-keys E x) (records (E .size) (x .table-counts .count) (x .table)),
@@ -230,16 +230,16 @@ module _ (E : Edition) (L : EditionLaws E) (ids : Parent → List ℕ) (caps : C
     unfolding flushed records
     done-same h =
         let e = gone h .same ∙ ap (removeAll (deleted-keys E x)) (puts h .same) in
-        ap (λ (t : Table). done (record { heads = abs b .heads; counts = abs b .counts; staging = []; shelf = t; deletion = [] })) e
+        ap (λ (t : Table). done (record { heads = abs b .heads; counts = abs b .counts; staging = []; table = t; deletion = [] })) e
 
     by-room : (t : Bool) → leb new (x .table-counts .capacity - x .table-counts .count) ≡ t → mapRes abs (end (cond t (flushed E x) refuse)) ≡ St.doFlush W (abs b)
     by-room true e =
         let h = leb-true new (x .table-counts .capacity - x .table-counts .count) e in
-        done-same h ∙ sym (ite-no (decLt (caps .table) (length (abs b .shelf) + fresh (abs b .staging) (abs b .deletion) (abs b .shelf))) (refused 22) (done (St.flushed W (abs b)))
+        done-same h ∙ sym (ite-no (decLt (caps .table) (length (abs b .table) + fresh (abs b .staging) (abs b .deletion) (abs b .table))) (refused 22) (done (St.flushed W (abs b)))
         (λ g. omega (arith, fresh-same, I .table-at, lf .in-table .bounds .counted)))
     by-room false e =
         let h = leb-false new (x .table-counts .capacity - x .table-counts .count) e in
-        sym (ite-yes (decLt (caps .table) (length (abs b .shelf) + fresh (abs b .staging) (abs b .deletion) (abs b .shelf))) (refused 22) (done (St.flushed W (abs b)))
+        sym (ite-yes (decLt (caps .table) (length (abs b .table) + fresh (abs b .staging) (abs b .deletion) (abs b .table))) (refused 22) (done (St.flushed W (abs b)))
         (omega (arith, fresh-same, I .table-at, lf .in-table .bounds .counted)))
 
     pub flush-same : mapRes abs (do-flush E ids b) ≡ St.doFlush W (abs b)

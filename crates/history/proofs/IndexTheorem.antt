@@ -119,7 +119,7 @@ module _ (E : Edition) (L : EditionLaws E) (ids : Parent → List ℕ) (B : Borr
 
   -- after a flush the segments table has no row under a key that was deleted
   pub flush-deletes : (U : Series → ℕ → Type 0) → Mc.KeysApart M U → (b d : Index) → Inv b → Gs.Good W code U (abs b) → do-flush E ids b ≡ done d
-      → (k : List ℕ) → Gs.In W code k (abs b .deletion) → Tb.Absent (List ℕ) (List ℕ) id-dec k (abs d .shelf)
+      → (k : List ℕ) → Gs.In W code k (abs b .deletion) → Tb.Absent (List ℕ) (List ℕ) id-dec k (abs d .table)
   flush-deletes U apart b d I G e k h =
       Fl.flush-deletes W code U apart (abs b) (abs d) G (Sm.map-keeps-done abs (do-flush E ids b) d (St.doFlush W (abs b)) (sims U .flush b I G .same) e) k h
 

@@ -161,7 +161,7 @@ module _ (E : Edition) (L : EditionLaws E) (ids : Parent → List ℕ) (caps : C
         let heads = push-to head-of (b .parts) ch v (take (len - 1) (p .places)) (take-set-le (len - 1) (p .places) (len - 1) (pos 0) (omega arith)) in
         let counts = same-set spills-of (b .parts) ch v refl in
         let whole : mapRes (mapPop abs) (end last) ≡ St.popFrom W (abs b) ch (ends (take (len - 1) (p .places)) (getD (p .places) (len - 1) (pos 0)))
-        = λ i. done (record { left = record { heads = heads i; counts = counts i; staging = abs b .staging; shelf = abs b .shelf; deletion = abs b .deletion }; value = getD (p .places) (len - 1) (pos 0) }) in
+        = λ i. done (record { left = record { heads = heads i; counts = counts i; staging = abs b .staging; table = abs b .table; deletion = abs b .deletion }; value = getD (p .places) (len - 1) (pos 0) }) in
         whole ∙ ap (St.popFrom W (abs b) ch) (sym (unsnoc-take (p .places) len h (omega (arith, hf .len-in, hf .places-in))))
 
     abbrev Keeps : Popping → Type 0
@@ -206,7 +206,7 @@ module _ (E : Edition) (L : EditionLaws E) (ids : Parent → List ℕ) (caps : C
           let rows = remove-table (E .size) (E .limit) (x .staged-counts) key (x .staged) (lf .in-staged) in
           let dels = put-keys (x .deleted-counts) key (x .deleted) (L .key-length kind (id-of E ids ch) (pos s)) f (lf .in-deleted) in
           let value = last-row zs (p .places) (n - 1) (omega arith) in
-          λ i. done (record { left = record { heads = heads i; counts = counts i; staging = rows i; shelf = abs b .shelf; deletion = dels i }; value = value i })
+          λ i. done (record { left = record { heads = heads i; counts = counts i; staging = rows i; table = abs b .table; deletion = dels i }; value = value i })
 
       by-full : (zs : List ℤ) → 0 < length zs → length zs ≤ 512 → (t : Bool) → full ≡ t
           → mapRes (mapPop abs) (end (cond t (no-pop 21) (restore zs)))

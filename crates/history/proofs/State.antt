@@ -113,7 +113,7 @@ module _ (E : Edition) (ids : Parent → List ℕ) (caps : Capacities) where
     enc = λ ch l. E .encode (kind-of ch) l;
     dec = λ ch row. to-res (E .decode (kind-of ch) row);
     redo = redone;
-    shelfCap = caps .table;
+    tableCap = caps .table;
     stagCap = caps .staged;
     delCap = caps .deleted;
     maxCount = 2147483647;
@@ -124,7 +124,7 @@ module _ (E : Edition) (ids : Parent → List ℕ) (caps : Capacities) where
     heads = λ ch. head-of (b .parts ch);
     counts = λ ch. spills-of (b .parts ch);
     staging = tab (records (E .size) (b .lists .staged-counts .count) (b .lists .staged));
-    shelf = tab (records (E .size) (b .lists .table-counts .count) (b .lists .table));
+    table = tab (records (E .size) (b .lists .table-counts .count) (b .lists .table));
     deletion = keys 32 (b .lists .deleted-counts .count) (b .lists .deleted);
   }
 

@@ -203,13 +203,13 @@ add-is k ks = ite-in k ks (in-dec k ks) ks (ks ++ k ∷ []) ∙ by-case (put-cas
 
 -- ---- what a flush does
 abbrev pub writeAll : Table → List Bytes → Table → Table
-writeAll t ks shelf = Tb.writeAll Bytes Bytes id-dec t ks shelf
+writeAll t ks table = Tb.writeAll Bytes Bytes id-dec t ks table
 
 abbrev pub removeAll : List Bytes → Table → Table
 removeAll ks t = Tb.removeAll Bytes Bytes id-dec ks t
 
 abbrev pub fresh : Table → List Bytes → Table → ℕ
-fresh t ks shelf = Tb.fresh Bytes Bytes id-dec t ks shelf
+fresh t ks table = Tb.fresh Bytes Bytes id-dec t ks table
 
 new-one : {A B : Type 0} (x y : Bool) (w : Dec A) (v : Dec B) (n : ℕ) → ((a b : ℕ) → ite w a b ≡ cond x a b) → ((a b : ℕ) → ite v a b ≡ cond (not y) a b)
     → ite (Tb.new-dec Bytes Bytes id-dec w v) (suc n) n ≡ one-if (not x && not y) + n
@@ -230,11 +230,11 @@ lacks-opt Nothing rs g e a b = rw e
 pub ite-lacks : {A : Type 0} (rs : List Bytes) (k : Bytes) (a b : A) → ite (Tb.lacks-dec Bytes Bytes id-dec (lookup (tab rs) k)) a b ≡ cond (not (is-found (find-key k (map key-of rs)))) a b
 ite-lacks rs k a b = lacks-opt (find-key k (map key-of rs)) rs (lookup (tab rs) k) (lookup-is rs k) a b
 
-pub fresh-is : (rs : List Bytes) (ks shelf : List Bytes) → fresh (tab rs) ks (tab shelf) ≡ new-count (map key-of shelf) ks (map key-of rs)
+pub fresh-is : (rs : List Bytes) (ks table : List Bytes) → fresh (tab rs) ks (tab table) ≡ new-count (map key-of table) ks (map key-of rs)
 unfolding Tb.fresh new-count
-fresh-is [] ks shelf = refl
-fresh-is (r ∷ rs) ks shelf =
-    new-one (is-found (find-key (key-of r) ks)) (is-found (find-key (key-of r) (map key-of shelf))) (in-dec (key-of r) ks)
-    (Tb.lacks-dec Bytes Bytes id-dec (lookup (tab shelf) (key-of r))) (fresh (tab rs) ks (tab shelf))
-    (ite-in (key-of r) ks (in-dec (key-of r) ks)) (ite-lacks shelf (key-of r))
-    ∙ ap (λ (n : ℕ). one-if (not (is-found (find-key (key-of r) ks)) && not (is-found (find-key (key-of r) (map key-of shelf)))) + n) (fresh-is rs ks shelf)
+fresh-is [] ks table = refl
+fresh-is (r ∷ rs) ks table =
+    new-one (is-found (find-key (key-of r) ks)) (is-found (find-key (key-of r) (map key-of table))) (in-dec (key-of r) ks)
+    (Tb.lacks-dec Bytes Bytes id-dec (lookup (tab table) (key-of r))) (fresh (tab rs) ks (tab table))
+    (ite-in (key-of r) ks (in-dec (key-of r) ks)) (ite-lacks table (key-of r))
+    ∙ ap (λ (n : ℕ). one-if (not (is-found (find-key (key-of r) ks)) && not (is-found (find-key (key-of r) (map key-of table)))) + n) (fresh-is rs ks table)
