@@ -1,11 +1,14 @@
 # make run    the main job on a sample
 # make test   the gate: every crate proved from nothing, every must-fail edit refused, every program's output compared
+# make c-test    the C interface: proves and builds the archive, links a C program with it and compares what it prints
+# make bindings  the Rust crate over the archive: proves and builds the archive, then builds and tests the crate, offline
 # make fmt    the layout of all Rattle and antt files
 
 RT := $(shell command -v rt 2>/dev/null)
 NO_RT := the Rattle kit is missing: no command 'rt' on PATH (expected in /opt/rattle/bin)
+ARCHIVE := target/staticlib/libergo_index.a
 
-.PHONY: run test fmt
+.PHONY: run test c-test bindings fmt
 
 run:
 ifeq ($(RT),)
@@ -21,6 +24,24 @@ ifeq ($(RT),)
 else
 	@rt ci
 endif
+
+# The archive is proved and built again when a source has changed. The log of the proof is kept; only a failure shows it.
+$(ARCHIVE): crates.txt $(shell find crates -name '*.rt' -o -name '*.antt')
+ifeq ($(RT),)
+	@echo "$(NO_RT)" >&2; exit 2
+else
+	@mkdir -p target; rt staticlib ergo_index > target/archive.log 2>&1 || { tail -n 20 target/archive.log >&2; exit 1; }
+endif
+
+c-test: $(ARCHIVE)
+	@mkdir -p target/c
+	@$(CC) -std=c11 -Wall -Wextra -Werror -O1 -Iinclude tests/c/history.c $(ARCHIVE) -o target/c/history
+	@target/c/history > target/c/history.stdout
+	@diff -u tests/c/history.stdout target/c/history.stdout
+	@echo "c-test: ok"
+
+bindings: $(ARCHIVE)
+	@cd bindings/rust && ERGO_INDEX_LIB_DIR=$(CURDIR)/target/staticlib cargo test --offline --locked --quiet
 
 fmt:
 ifeq ($(RT),)

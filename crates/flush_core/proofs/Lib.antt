@@ -1,2 +1,3 @@
 -- Laws of the flush.
 pub mod FlushLaws
+pub mod KeepLaws

@@ -1,0 +1,248 @@
+//! Staged spills, the segments table and deleted spills: record lists in boxed buffers of a fixed capacity.
+
+use crate::ffi;
+use crate::refusal::{accepted, Refusal};
+
+/// The bytes of a record: 32 of the key, 2 of the row's length (high byte first), then the row and zeros.
+pub const RECORD_SIZE: usize = 10_288;
+
+/// The bytes of the longest segment row.
+pub const ROW_LIMIT: usize = 10_254;
+
+/// The bytes of a row key.
+pub const KEY_SIZE: usize = 32;
+
+/// A row key.
+pub type Key = [u8; KEY_SIZE];
+
+/// A list of records of `SIZE` bytes: the first `count` of the buffer, which has room for `capacity`.
+#[derive(Clone, Debug, PartialEq, Eq)]
+pub(crate) struct List<const SIZE: usize> {
+    pub(crate) count: usize,
+    pub(crate) bytes: Box<[u8]>,
+}
+
+impl<const SIZE: usize> List<SIZE> {
+    fn with_capacity(capacity: usize) -> Self {
+        let size = capacity.checked_mul(SIZE).expect("the list fits the address space");
+        List { count: 0, bytes: vec![0; size].into_boxed_slice() }
+    }
+
+    pub(crate) fn capacity(&self) -> usize {
+        self.bytes.len() / SIZE
+    }
+
+    fn records(&self) -> impl Iterator<Item = &[u8]> {
+        self.bytes.chunks_exact(SIZE).take(self.count)
+    }
+}
+
+fn key_of(record: &[u8]) -> Key {
+    let mut key = [0; KEY_SIZE];
+    key.copy_from_slice(&record[..KEY_SIZE]);
+    key
+}
+
+fn row_of(record: &[u8]) -> &[u8] {
+    let length = usize::from(u16::from_be_bytes([record[32], record[33]]));
+    &record[34..34 + length.min(ROW_LIMIT)]
+}
+
+macro_rules! record_list {
+    ($(#[$doc:meta])* $name:ident) => {
+        $(#[$doc])*
+        #[derive(Clone, Debug, PartialEq, Eq)]
+        pub struct $name {
+            pub(crate) list: List<RECORD_SIZE>,
+        }
+
+        impl $name {
+            /// An empty list with room for this many rows.
+            pub fn with_capacity(rows: usize) -> Self {
+                $name { list: List::with_capacity(rows) }
+            }
+
+            /// A list from its bytes, the first `count` records of which are in use. Its capacity is the number of whole records.
+            /// Nothing is tested here: every call that is given the list tests it first, and answers [`Refusal::Buffers`].
+            pub fn from_bytes(bytes: Vec<u8>, count: usize) -> Self {
+                $name { list: List { count, bytes: bytes.into_boxed_slice() } }
+            }
+
+            /// The bytes of the whole buffer.
+            pub fn as_bytes(&self) -> &[u8] {
+                &self.list.bytes
+            }
+
+            /// How many rows the list holds.
+            pub fn len(&self) -> usize {
+                self.list.count
+            }
+
+            /// Whether it holds none.
+            pub fn is_empty(&self) -> bool {
+                self.list.count == 0
+            }
+
+            /// How many rows it has room for.
+            pub fn capacity(&self) -> usize {
+                self.list.capacity()
+            }
+
+            /// The keys and rows, in the order of the list.
+            pub fn iter(&self) -> impl Iterator<Item = (Key, &[u8])> {
+                self.list.records().map(|record| (key_of(record), row_of(record)))
+            }
+        }
+    };
+}
+
+record_list! {
+    /// Spilled rows that are not written to the segments table yet.
+    ///
+    /// ```
+    /// use ergo_index::StagedSpills;
+    /// let staged = StagedSpills::with_capacity(4);
+    /// assert_eq!((staged.len(), staged.capacity()), (0, 4));
+    /// ```
+    StagedSpills
+}
+
+record_list! {
+    /// The segments table: the rows that were flushed.
+    ///
+    /// ```
+    /// use ergo_index::SegmentTable;
+    /// let table = SegmentTable::with_capacity(4);
+    /// assert!(table.iter().next().is_none());
+    /// ```
+    SegmentTable
+}
+
+/// The keys of rows that were merged back into a head and leave the table at the next flush.
+///
+/// ```
+/// use ergo_index::DeletedSpills;
+/// let deleted = DeletedSpills::with_capacity(4);
+/// assert!(deleted.is_empty());
+/// ```
+#[derive(Clone, Debug, PartialEq, Eq)]
+pub struct DeletedSpills {
+    pub(crate) list: List<KEY_SIZE>,
+}
+
+impl DeletedSpills {
+    /// An empty list with room for this many keys.
+    pub fn with_capacity(keys: usize) -> Self {
+        DeletedSpills { list: List::with_capacity(keys) }
+    }
+
+    /// A list from its bytes, the first `count` keys of which are in use; calls test it as [`StagedSpills::from_bytes`] says.
+    pub fn from_bytes(bytes: Vec<u8>, count: usize) -> Self {
+        DeletedSpills { list: List { count, bytes: bytes.into_boxed_slice() } }
+    }
+
+    /// How many keys the list holds.
+    pub fn len(&self) -> usize {
+        self.list.count
+    }
+
+    /// Whether it holds none.
+    pub fn is_empty(&self) -> bool {
+        self.list.count == 0
+    }
+
+    /// How many keys it has room for.
+    pub fn capacity(&self) -> usize {
+        self.list.capacity()
+    }
+
+    /// The keys, in the order of the list.
+    pub fn iter(&self) -> impl Iterator<Item = Key> + '_ {
+        self.list.records().map(key_of)
+    }
+}
+
+/// A row that was inspected, and the list that holds it.
+#[derive(Clone, Copy, Debug, PartialEq, Eq)]
+pub enum Spill<'a> {
+    /// The row is among the staged spills.
+    Staged(&'a [u8]),
+    /// The row is in the segments table.
+    Table(&'a [u8]),
+}
+
+impl<'a> Spill<'a> {
+    /// The row's bytes.
+    pub fn row(self) -> &'a [u8] {
+        match self {
+            Spill::Staged(row) | Spill::Table(row) => row,
+        }
+    }
+}
+
+/// The row under a key: from the staged spills if the key is there, otherwise from the table. Refused by 25.
+///
+/// ```
+/// use ergo_index::{box_segment_id, inspect_spill, SegmentTable, StagedSpills};
+/// let (staged, table) = (StagedSpills::with_capacity(1), SegmentTable::with_capacity(1));
+/// assert_eq!(inspect_spill(&staged, &table, &box_segment_id(&[0; 32], 0))?, None);
+/// # Ok::<(), ergo_index::Refusal>(())
+/// ```
+pub fn inspect_spill<'a>(staged: &'a StagedSpills, table: &'a SegmentTable, key: &Key) -> Result<Option<Spill<'a>>, Refusal> {
+    let (s, t) = (&staged.list, &table.list);
+    let (mut list, mut offset, mut length) = (0, 0, 0);
+    // SAFETY: each pointer comes from a live borrow, each length is that of its slice, and nothing that is written overlaps anything else.
+    accepted(unsafe {
+        ffi::ergo_index_inspect_spill(
+            s.count,
+            s.capacity(),
+            s.bytes.as_ptr(),
+            s.bytes.len(),
+            t.count,
+            t.capacity(),
+            t.bytes.as_ptr(),
+            t.bytes.len(),
+            key.as_ptr(),
+            &mut list,
+            &mut offset,
+            &mut length,
+        )
+    })?;
+    Ok(match list {
+        1 => Some(Spill::Staged(&s.bytes[offset..offset + length])),
+        2 => Some(Spill::Table(&t.bytes[offset..offset + length])),
+        _ => None,
+    })
+}
+
+/// Writes the staged rows whose key is not deleted to the table, then removes the deleted keys from it; staged and deleted spills end empty.
+/// Refused by 25, 22.
+///
+/// ```
+/// use ergo_index::{flush_staged_spills, DeletedSpills, SegmentTable, StagedSpills};
+/// let (mut staged, mut table) = (StagedSpills::with_capacity(1), SegmentTable::with_capacity(1));
+/// let mut deleted = DeletedSpills::with_capacity(1);
+/// flush_staged_spills(&mut staged, &mut table, &mut deleted)?;
+/// # Ok::<(), ergo_index::Refusal>(())
+/// ```
+pub fn flush_staged_spills(staged: &mut StagedSpills, table: &mut SegmentTable, deleted: &mut DeletedSpills) -> Result<(), Refusal> {
+    let (s, t, d) = (&mut staged.list, &mut table.list, &mut deleted.list);
+    let (s_capacity, t_capacity, d_capacity) = (s.capacity(), t.capacity(), d.capacity());
+    // SAFETY: as in `inspect_spill`; the three lists are borrowed apart.
+    accepted(unsafe {
+        ffi::ergo_index_flush_staged_spills(
+            &mut s.count,
+            s_capacity,
+            s.bytes.as_mut_ptr(),
+            s.bytes.len(),
+            &mut t.count,
+            t_capacity,
+            t.bytes.as_mut_ptr(),
+            t.bytes.len(),
+            &mut d.count,
+            d_capacity,
+            d.bytes.as_mut_ptr(),
+            d.bytes.len(),
+        )
+    })
+}

@@ -1,0 +1,328 @@
+//! A parent's segment: a head of boxes and a head of transactions, with the rows that each has spilled.
+
+use crate::codec::decode_segment;
+use crate::ffi;
+use crate::lists::{DeletedSpills, SegmentTable, StagedSpills};
+use crate::refusal::{accepted, Refusal};
+
+/// The numbers of a full head, and of a spilled row.
+pub const SEGMENT_THRESHOLD: usize = 512;
+
+/// The number of a box.
+#[derive(Clone, Copy, Debug, PartialEq, Eq, PartialOrd, Ord, Hash)]
+pub struct BoxNumber(pub i64);
+
+/// The number of a transaction.
+#[derive(Clone, Copy, Debug, PartialEq, Eq, PartialOrd, Ord, Hash)]
+pub struct TxNumber(pub i64);
+
+/// How many entries of a segment's boxes are unspent, and how many spent.
+#[derive(Clone, Copy, Debug, PartialEq, Eq)]
+pub struct Tally {
+    /// Entries that are not negative.
+    pub unspent: usize,
+    /// Negative entries.
+    pub spent: usize,
+}
+
+/// A head: up to 512 numbers, and how many rows it has spilled.
+#[derive(Clone, Debug)]
+pub(crate) struct Head {
+    pub(crate) len: usize,
+    pub(crate) spills: i32,
+    pub(crate) numbers: Box<[i64; SEGMENT_THRESHOLD]>,
+}
+
+impl Head {
+    fn empty() -> Self {
+        Head { len: 0, spills: 0, numbers: Box::new([0; SEGMENT_THRESHOLD]) }
+    }
+
+    pub(crate) fn entries(&self) -> &[i64] {
+        &self.numbers[..self.len]
+    }
+}
+
+impl PartialEq for Head {
+    fn eq(&self, other: &Self) -> bool {
+        self.spills == other.spills && self.entries() == other.entries()
+    }
+}
+
+impl Eq for Head {}
+
+/// The segment of one parent.
+///
+/// Its numbers are in the rows that it has spilled, oldest first, and then in its heads; a spent box is a negative entry. Rows lie outside, in
+/// [`StagedSpills`] and [`SegmentTable`], which parents may share. Every call tests what it is given, and a refused call changes nothing.
+///
+/// ```
+/// use ergo_index::{BoxNumber, DeletedSpills, Refusal, Segment, SegmentTable, StagedSpills};
+///
+/// let mut segment = Segment::new([7; 32]);
+/// let mut staged = StagedSpills::with_capacity(2);
+/// let table = SegmentTable::with_capacity(2);
+/// let mut deleted = DeletedSpills::with_capacity(2);
+///
+/// segment.append_box_entry(BoxNumber(5), &mut staged)?;
+/// segment.flip_box_segment_entry(BoxNumber(5), &mut staged, &table)?;
+/// assert_eq!(segment.boxes(), [-5]);
+/// assert_eq!(segment.flip_box_segment_entry(BoxNumber(5), &mut staged, &table), Err(Refusal::NoCopyOfThatSign));
+///
+/// segment.unflip_box_segment_entry(BoxNumber(5), &mut staged, &table)?;
+/// assert_eq!(segment.pop_box_entry(&mut staged, &table, &mut deleted)?, BoxNumber(5));
+/// # Ok::<(), Refusal>(())
+/// ```
+#[derive(Clone, Debug, PartialEq, Eq)]
+pub struct Segment {
+    pub(crate) parent: [u8; 32],
+    pub(crate) boxes: Head,
+    pub(crate) txs: Head,
+}
+
+type AppendCall = unsafe extern "C" fn(*const u8, *mut usize, *mut i32, *mut i64, usize, i64, *mut usize, usize, *mut u8, usize) -> u8;
+
+type PopCall = unsafe extern "C" fn(
+    *const u8,
+    *mut usize,
+    *mut i32,
+    *mut i64,
+    usize,
+    *mut usize,
+    usize,
+    *mut u8,
+    usize,
+    usize,
+    usize,
+    *const u8,
+    usize,
+    *mut usize,
+    usize,
+    *mut u8,
+    usize,
+    *mut i64,
+) -> u8;
+
+type FlipCall =
+    unsafe extern "C" fn(*const u8, usize, i32, *mut i64, usize, i64, *mut usize, usize, *mut u8, usize, usize, usize, *const u8, usize) -> u8;
+
+fn append(call: AppendCall, parent: &[u8; 32], head: &mut Head, number: i64, staged: &mut StagedSpills) -> Result<(), Refusal> {
+    let s = &mut staged.list;
+    let capacity = s.capacity();
+    // SAFETY: each pointer comes from a live borrow, each length is that of its slice, and nothing that is written overlaps anything else.
+    accepted(unsafe {
+        call(
+            parent.as_ptr(),
+            &mut head.len,
+            &mut head.spills,
+            head.numbers.as_mut_ptr(),
+            SEGMENT_THRESHOLD,
+            number,
+            &mut s.count,
+            capacity,
+            s.bytes.as_mut_ptr(),
+            s.bytes.len(),
+        )
+    })
+}
+
+fn pop(
+    call: PopCall,
+    parent: &[u8; 32],
+    head: &mut Head,
+    staged: &mut StagedSpills,
+    table: &SegmentTable,
+    deleted: &mut DeletedSpills,
+) -> Result<i64, Refusal> {
+    let (s, t, d) = (&mut staged.list, &table.list, &mut deleted.list);
+    let (s_capacity, d_capacity) = (s.capacity(), d.capacity());
+    let mut number = 0;
+    // SAFETY: as in `append`.
+    accepted(unsafe {
+        call(
+            parent.as_ptr(),
+            &mut head.len,
+            &mut head.spills,
+            head.numbers.as_mut_ptr(),
+            SEGMENT_THRESHOLD,
+            &mut s.count,
+            s_capacity,
+            s.bytes.as_mut_ptr(),
+            s.bytes.len(),
+            t.count,
+            t.capacity(),
+            t.bytes.as_ptr(),
+            t.bytes.len(),
+            &mut d.count,
+            d_capacity,
+            d.bytes.as_mut_ptr(),
+            d.bytes.len(),
+            &mut number,
+        )
+    })?;
+    Ok(number)
+}
+
+fn flip(call: FlipCall, parent: &[u8; 32], head: &mut Head, target: i64, staged: &mut StagedSpills, table: &SegmentTable) -> Result<(), Refusal> {
+    let (s, t) = (&mut staged.list, &table.list);
+    let capacity = s.capacity();
+    // SAFETY: as in `append`.
+    accepted(unsafe {
+        call(
+            parent.as_ptr(),
+            head.len,
+            head.spills,
+            head.numbers.as_mut_ptr(),
+            SEGMENT_THRESHOLD,
+            target,
+            &mut s.count,
+            capacity,
+            s.bytes.as_mut_ptr(),
+            s.bytes.len(),
+            t.count,
+            t.capacity(),
+            t.bytes.as_ptr(),
+            t.bytes.len(),
+        )
+    })
+}
+
+impl Segment {
+    /// An empty segment of a parent.
+    pub fn new(parent: [u8; 32]) -> Self {
+        Segment { parent, boxes: Head::empty(), txs: Head::empty() }
+    }
+
+    /// A parent's segment from its row, as [`Segment::to_row`] writes it. Refused by 25, 1 to 6, 8.
+    pub fn from_row(parent: [u8; 32], row: &[u8]) -> Result<Self, Refusal> {
+        let mut segment = Segment::new(parent);
+        decode_segment(row, &mut segment)?;
+        Ok(segment)
+    }
+
+    /// The segment's row: the numbers of both heads and both spill counts.
+    pub fn to_row(&self) -> Vec<u8> {
+        crate::codec::encode_segment(self)
+    }
+
+    /// The parent's id.
+    pub fn parent(&self) -> &[u8; 32] {
+        &self.parent
+    }
+
+    /// The entries of the head of boxes; a negative one is spent.
+    pub fn boxes(&self) -> &[i64] {
+        self.boxes.entries()
+    }
+
+    /// The numbers of the head of transactions.
+    pub fn txs(&self) -> &[i64] {
+        self.txs.entries()
+    }
+
+    /// How many rows of boxes were spilled.
+    pub fn box_spills(&self) -> i32 {
+        self.boxes.spills
+    }
+
+    /// How many rows of transactions were spilled.
+    pub fn tx_spills(&self) -> i32 {
+        self.txs.spills
+    }
+
+    /// Appends a box number; a full head is first staged as the next row. Refused by 25, 11, 17; at a full head 18, 16.
+    pub fn append_box_entry(&mut self, number: BoxNumber, staged: &mut StagedSpills) -> Result<(), Refusal> {
+        append(ffi::ergo_index_append_box_entry, &self.parent, &mut self.boxes, number.0, staged)
+    }
+
+    /// Appends a transaction number, as [`Segment::append_box_entry`] does a box number.
+    pub fn append_tx_entry(&mut self, number: TxNumber, staged: &mut StagedSpills) -> Result<(), Refusal> {
+        append(ffi::ergo_index_append_tx_entry, &self.parent, &mut self.txs, number.0, staged)
+    }
+
+    /// Takes the last box entry off; on an empty head the newest row becomes the head first. Refused by 25, 11; on an empty head 19, 12, 1 to 6, 8,
+    /// 20, 21.
+    pub fn pop_box_entry(&mut self, staged: &mut StagedSpills, table: &SegmentTable, deleted: &mut DeletedSpills) -> Result<BoxNumber, Refusal> {
+        pop(ffi::ergo_index_pop_box_entry, &self.parent, &mut self.boxes, staged, table, deleted).map(BoxNumber)
+    }
+
+    /// Takes the last transaction number off, as [`Segment::pop_box_entry`] does a box entry.
+    pub fn pop_tx_entry(&mut self, staged: &mut StagedSpills, table: &SegmentTable, deleted: &mut DeletedSpills) -> Result<TxNumber, Refusal> {
+        pop(ffi::ergo_index_pop_tx_entry, &self.parent, &mut self.txs, staged, table, deleted).map(TxNumber)
+    }
+
+    /// Marks one box as spent, in the head or else in a row, which is then staged. Refused by 25, 9, 10, 11, those of the rows that are read, 16, 14, 15.
+    pub fn flip_box_segment_entry(&mut self, target: BoxNumber, staged: &mut StagedSpills, table: &SegmentTable) -> Result<(), Refusal> {
+        flip(ffi::ergo_index_flip_box_segment_entry, &self.parent, &mut self.boxes, target.0, staged, table)
+    }
+
+    /// Takes a spend back. Refused as the spend is.
+    pub fn unflip_box_segment_entry(&mut self, target: BoxNumber, staged: &mut StagedSpills, table: &SegmentTable) -> Result<(), Refusal> {
+        flip(ffi::ergo_index_unflip_box_segment_entry, &self.parent, &mut self.boxes, target.0, staged, table)
+    }
+
+    /// How many entries of the boxes are unspent and how many spent, over all rows and the head. Refused by 25, 10, 11 and those of the rows.
+    ///
+    /// ```
+    /// use ergo_index::{BoxNumber, Segment, SegmentTable, StagedSpills};
+    /// let mut segment = Segment::new([7; 32]);
+    /// let (mut staged, table) = (StagedSpills::with_capacity(1), SegmentTable::with_capacity(1));
+    /// for n in [1, 2, 3] {
+    ///     segment.append_box_entry(BoxNumber(n), &mut staged)?;
+    /// }
+    /// segment.flip_box_segment_entry(BoxNumber(2), &mut staged, &table)?;
+    /// let tally = segment.tally(&staged, &table)?;
+    /// assert_eq!((tally.unspent, tally.spent), (2, 1));
+    /// # Ok::<(), ergo_index::Refusal>(())
+    /// ```
+    pub fn tally(&self, staged: &StagedSpills, table: &SegmentTable) -> Result<Tally, Refusal> {
+        let (s, t) = (&staged.list, &table.list);
+        let mut tally = Tally { unspent: 0, spent: 0 };
+        // SAFETY: as in `append`.
+        accepted(unsafe {
+            ffi::ergo_index_tally(
+                self.parent.as_ptr(),
+                self.boxes.len,
+                self.boxes.spills,
+                self.boxes.numbers.as_ptr(),
+                SEGMENT_THRESHOLD,
+                s.count,
+                s.capacity(),
+                s.bytes.as_ptr(),
+                s.bytes.len(),
+                t.count,
+                t.capacity(),
+                t.bytes.as_ptr(),
+                t.bytes.len(),
+                &mut tally.unspent,
+                &mut tally.spent,
+            )
+        })?;
+        Ok(tally)
+    }
+}
+
+/// What is left of the answer of a flip in a derived index.
+#[derive(Clone, Copy, Debug, PartialEq, Eq)]
+pub enum Tolerated {
+    /// The entry was flipped.
+    Flipped,
+    /// The target was not seen (15), which a derived index skips.
+    Skipped,
+}
+
+/// The drift rule of a derived index: a flip that did not see its target is skipped, any other answer passes. The caller counts the skips.
+///
+/// ```
+/// use ergo_index::{tolerate_secondary_drift, Refusal, Tolerated};
+/// assert_eq!(tolerate_secondary_drift(Err(Refusal::TargetNotSeen)), Ok(Tolerated::Skipped));
+/// assert_eq!(tolerate_secondary_drift(Ok(())), Ok(Tolerated::Flipped));
+/// assert_eq!(tolerate_secondary_drift(Err(Refusal::RowMissing)), Err(Refusal::RowMissing));
+/// ```
+pub fn tolerate_secondary_drift(flip: Result<(), Refusal>) -> Result<Tolerated, Refusal> {
+    let code = flip.map_or_else(Refusal::code, |()| 0);
+    let mut skipped = false;
+    // SAFETY: the out is a live local.
+    accepted(unsafe { ffi::ergo_index_tolerate_secondary_drift(code, &mut skipped) })?;
+    Ok(if skipped { Tolerated::Skipped } else { Tolerated::Flipped })
+}

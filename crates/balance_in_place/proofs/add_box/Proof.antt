@@ -1,0 +1,21 @@
+-- The walk of Walk.antt, at `balance::add_box`.
+use contract.Running.{givenOf, tables, tablesOf}
+use denote.Triple.Spec.{tripleOf}
+use denote.Triple.Table.{entered, cited}
+use Rattle.balance.specs.Boxes.{add-box}
+use Rattle.balance.proofs.add_box.Symbol as add-box-def
+use Rattle.balance.proofs.add_box.Symbol.{name as #balance·add-box}
+use Rattle.balance.proofs.add_box.Met as add-box-thm
+use Rattle.balance_in_place.proofs.Walk.{ByValue, meets}
+use Rattle.balance_in_place.proofs.add_box.Key.{name as #balance-in-place·add-box}
+use Rattle.balance_in_place.proofs.add_box as add-box
+use Rattle.balance_in_place.proofs.add_box.Statement as stated
+use Rattle.balance_in_place.proofs.add_box.Code as code
+
+pub add-box-spec : {M : Type 1} → stated.statement M
+unfolding code.routine tablesOf
+add-box-spec 𝓤 H 𝓜 𝓖 𝓡 =
+    entered 𝓤 H (tripleOf 𝓤 H (𝓖 .A) add-box.signature (add-box.spec 𝓤 H (𝓖 .A) (𝓜 .mem) (𝓡 .run)))
+    (tables 𝓤 H 𝓜 𝓡 code.env .C) (tables 𝓤 H 𝓜 𝓡 code.env .Λ) #balance-in-place·add-box code.function (code.unfolded 𝓤 H 𝓜 𝓡)
+    (meets 𝓤 H (𝓖 .A) (givenOf 𝓤 H 𝓜 𝓖) add-box #balance·add-box (tablesOf 𝓤 H 𝓜 (tables 𝓤 H 𝓜 𝓡 code.env))
+    (cited 𝓤 H (ByValue 𝓤 H (𝓖 .A) add-box) 𝓜 𝓡 code.env #balance·add-box add-box-def.routine code.calls-balance·add-box (add-box-thm.met 𝓤 H 𝓜 𝓖 𝓡)))

@@ -1,0 +1,21 @@
+-- The walk of Walk.antt, at `balance::subtract_box`.
+use contract.Running.{givenOf, tables, tablesOf}
+use denote.Triple.Spec.{tripleOf}
+use denote.Triple.Table.{entered, cited}
+use Rattle.balance.specs.Boxes.{subtract-box}
+use Rattle.balance.proofs.subtract_box.Symbol as subtract-box-def
+use Rattle.balance.proofs.subtract_box.Symbol.{name as #balance·subtract-box}
+use Rattle.balance.proofs.subtract_box.Met as subtract-box-thm
+use Rattle.balance_in_place.proofs.Walk.{ByValue, meets}
+use Rattle.balance_in_place.proofs.subtract_box.Key.{name as #balance-in-place·subtract-box}
+use Rattle.balance_in_place.proofs.subtract_box as subtract-box
+use Rattle.balance_in_place.proofs.subtract_box.Statement as stated
+use Rattle.balance_in_place.proofs.subtract_box.Code as code
+
+pub subtract-box-spec : {M : Type 1} → stated.statement M
+unfolding code.routine tablesOf
+subtract-box-spec 𝓤 H 𝓜 𝓖 𝓡 =
+    entered 𝓤 H (tripleOf 𝓤 H (𝓖 .A) subtract-box.signature (subtract-box.spec 𝓤 H (𝓖 .A) (𝓜 .mem) (𝓡 .run)))
+    (tables 𝓤 H 𝓜 𝓡 code.env .C) (tables 𝓤 H 𝓜 𝓡 code.env .Λ) #balance-in-place·subtract-box code.function (code.unfolded 𝓤 H 𝓜 𝓡)
+    (meets 𝓤 H (𝓖 .A) (givenOf 𝓤 H 𝓜 𝓖) subtract-box #balance·subtract-box (tablesOf 𝓤 H 𝓜 (tables 𝓤 H 𝓜 𝓡 code.env))
+    (cited 𝓤 H (ByValue 𝓤 H (𝓖 .A) subtract-box) 𝓜 𝓡 code.env #balance·subtract-box subtract-box-def.routine code.calls-balance·subtract-box (subtract-box-thm.met 𝓤 H 𝓜 𝓖 𝓡)))

@@ -1,0 +1,2 @@
+-- The definition that the contracts of `balance_in_place` cite beside those of `balance`.
+pub mod InPlace

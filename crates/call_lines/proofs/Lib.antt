@@ -1,0 +1,2 @@
+-- The laws of `call_lines`.
+pub mod LineLaws

@@ -1,0 +1,2 @@
+-- The definitions that the contracts of `call_lines` cite.
+pub mod Lines

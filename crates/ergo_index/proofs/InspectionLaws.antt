@@ -1,0 +1,34 @@
+-- The ways out of the exports on spill rows.
+use Prim.Native.Nat.{ℕ, _+_, _*_}
+use mathlib.Core.Path.{_≡_}
+use mathlib.Core.List.{List}
+use lib.ListN.{length}
+use Rattle.spills.specs.declared.Located.{Located}
+use Rattle.spills.specs.declared.Located.the-variants as located
+use Rattle.ergo_index.specs.Inspection.{locate-out, locate-export, inspect-out, inspect-export}
+
+module _ (r o : Located) (e : r ≡ o) (list index : ℕ) where
+  pub locate-staged : (i : ℕ) → r ≡ located.Staged i → locate-out 0 1 i ≡ locate-export list index o
+  locate-staged i f = rw (← e, f)
+
+  pub locate-table : (i : ℕ) → r ≡ located.Table i → locate-out 0 2 i ≡ locate-export list index o
+  locate-table i f = rw (← e, f)
+
+  pub locate-missing : r ≡ located.Missing → locate-out 0 0 0 ≡ locate-export list index o
+  locate-missing f = rw (← e, f)
+
+  pub locate-refused : (code : ℕ) → r ≡ located.Refused code → locate-out code list index ≡ locate-export list index o
+  locate-refused code f = rw (← e, f)
+
+module _ (r o : Located) (e : r ≡ o) (shown : List ℕ) (list offset size : ℕ) where
+  pub inspect-staged : (i : ℕ) → r ≡ located.Staged i → (row : List ℕ) → row ≡ shown → inspect-out 0 1 (i * 10288 + 34) (length row) ≡ inspect-export (length shown) list offset size o
+  inspect-staged i f row g = rw (← e, f, g)
+
+  pub inspect-table : (i : ℕ) → r ≡ located.Table i → (row : List ℕ) → row ≡ shown → inspect-out 0 2 (i * 10288 + 34) (length row) ≡ inspect-export (length shown) list offset size o
+  inspect-table i f row g = rw (← e, f, g)
+
+  pub inspect-missing : r ≡ located.Missing → inspect-out 0 0 0 0 ≡ inspect-export (length shown) list offset size o
+  inspect-missing f = rw (← e, f)
+
+  pub inspect-refused : (code : ℕ) → r ≡ located.Refused code → inspect-out code list offset size ≡ inspect-export (length shown) list offset size o
+  inspect-refused code f = rw (← e, f)

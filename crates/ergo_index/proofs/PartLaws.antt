@@ -1,0 +1,43 @@
+-- The bytes that the export of `inspect_spill` points at are the row that `inspect_spill` shows.
+use Prim.Native.Nat.{ℕ, zero, suc, _+_, _*_}
+use mathlib.Core.Path.{_≡_, refl, sym, ap, _∙_}
+use mathlib.Core.List.{List, [], _∷_, _++_}
+use lib.ListN.{length, take, drop, take-append-drop}
+use lib.Seq.{drop-drop}
+use Rattle.records.specs.declared.ListCounts.{ListCounts}
+use Rattle.records.specs.Records.{stored-length, stored-row}
+use Rattle.records.specs.Find.{row-at}
+use Rattle.spills.specs.declared.Located.the-variants.{Staged, Table}
+use Rattle.spills.specs.Inspection.{locate-row, inspect-row}
+use Rattle.spills.proofs.LocateLaws.{inspect-located}
+
+-- ---- a part of a front part lies at the same place in the whole
+front : (n : ℕ) (p r : List ℕ) → take (length (take n p)) (p ++ r) ≡ take n p
+front zero p r = refl
+front (suc n) [] r = refl
+front (suc n) (x ∷ p) r = ap (λ (s : List ℕ). x ∷ s) (front n p r)
+
+part : (n m : ℕ) (p r : List ℕ) → take (length (take n (drop m p))) (drop m (p ++ r)) ≡ take n (drop m p)
+part n zero p r = front n p r
+part zero (suc m) [] r = refl
+part (suc n) (suc m) [] r = refl
+part n (suc m) (x ∷ p) r = part n m p r
+
+-- the row of the record with index i, in the list
+part-of-row : (i : ℕ) (l : List ℕ) → take (length (row-at 10288 i l)) (drop (i * 10288 + 34) l) ≡ row-at 10288 i l
+unfolding stored-row
+part-of-row i l =
+    let rest = drop (i * 10288) l in
+    let r = take 10288 rest in
+    ap (λ (s : List ℕ). take (length (take (stored-length r) (drop 34 r))) s) (sym (drop-drop 34 (i * 10288) l) ∙ ap (λ (s : List ℕ). drop 34 s) (sym (take-append-drop 10288 rest)))
+    ∙ part (stored-length r) 34 r (drop 10288 rest)
+
+module _ (sc : ListCounts) (staged : List ℕ) (tc : ListCounts) (table key : List ℕ) (i : ℕ) where
+  abbrev shown : List ℕ
+  shown = inspect-row 10288 10254 sc staged tc table key
+
+  pub staged-part : locate-row 10288 10254 sc staged tc table key ≡ Staged i → take (length shown) (drop (i * 10288 + 34) staged) ≡ shown
+  staged-part e = rw (← (inspect-located 10288 10254 sc staged tc table key (Staged i) (Staged i) (sym e) refl)) (part-of-row i staged)
+
+  pub table-part : locate-row 10288 10254 sc staged tc table key ≡ Table i → take (length shown) (drop (i * 10288 + 34) table) ≡ shown
+  table-part e = rw (← (inspect-located 10288 10254 sc staged tc table key (Table i) (Table i) (sym e) refl)) (part-of-row i table)

@@ -1,0 +1,45 @@
+-- The public call writes, and its answer is told apart.
+use mir.Syntax.{w64}
+use denote.Ref.{now}
+use Rattle.signed.proofs.SignedLaws.{back}
+use Rattle.ergo_index.proofs.NumberLaws.{wrote-next, wrote-none}
+use borrow.Author.Needs.{needs}
+use Rattle.ergo_index.proofs.numbers.ergo_index_put_i64.Statement.{statement}
+use Rattle.ergo_index.proofs.numbers.ergo_index_put_i64.Tie as tie
+
+put-i64-requires : tie.Need-put-i64-requires
+put-i64-requires c κs = search needs
+
+enum-known-wrote : tie.Need-enum-known-wrote
+enum-known-wrote c = search needs
+
+enum-known-wrote-2 : tie.Need-enum-known-wrote-2
+enum-known-wrote-2 c = search needs
+
+same-length : tie.Need-same-length
+same-length c = search needs
+
+returns : tie.Need-returns
+returns c =
+    let a = c .before .before .before .before .before .before .before .before .before .args in
+    wrote-next _ _ _ (now (a .at)) (rw (back w64 (a .n) (search needs)) at (c .before .before .before .before .before .put-i64 .ensures)) _ (c .before .wrote .given .1)
+
+same-length-2 : tie.Need-same-length-2
+same-length-2 c = search needs
+
+returns-2 : tie.Need-returns-2
+returns-2 c =
+    let a = c .before .before .before .before .before .before .before .before .before .args in
+    wrote-none _ _ _ (now (a .at)) (rw (back w64 (a .n) (search needs)) at (c .before .before .before .before .before .put-i64 .ensures)) _ (c .before .wrote2 .given .1)
+
+pub ergo-index-put-i64-spec : {M : Type 1} → statement M
+ergo-index-put-i64-spec =
+    tie.close
+    (tie.spec
+    put-i64-requires
+    enum-known-wrote
+    enum-known-wrote-2
+    same-length
+    returns
+    same-length-2
+    returns-2)

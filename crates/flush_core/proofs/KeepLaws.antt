@@ -1,0 +1,192 @@
+-- An accepted flush keeps what refusal 25 tests: a flush that was accepted never makes the next call refuse 25.
+use Prim.Native.Nat.{ℕ, zero, suc, _+_, _*_, _-_, _≤_}
+use mathlib.Core.Path.{_≡_, refl}
+use mathlib.Core.Bool.{Bool, true, false, not, _&&_, cond}
+use mathlib.Core.List.{List, [], _∷_}
+use native.Mathlib.Omega.{arith}
+use lib.Dec.{leb}
+use lib.ListN.{length, take, drop, length-take, length-drop}
+use lib.Seq.{take-take}
+use borrow.Author.Tests.{leb-true, lt-leb}
+use Rattle.records.specs.declared.Found.{Found}
+use Rattle.records.specs.declared.Found.the-variants.{At, Nothing}
+use Rattle.records.specs.declared.ListCounts.{ListCounts}
+use Rattle.records.specs.Records.{records, keys, stored-length, stored-row}
+use Rattle.records.specs.Find.{find-key, is-found}
+use Rattle.records.specs.Changes.{with-count, full-for, clear-records}
+use Rattle.records.specs.Checks.{lengths-ok, records-ok, keys-ok, RecordsOk, KeysOk}
+use Rattle.records.proofs.TurnLaws.{found-in}
+use Rattle.records.proofs.RecordLaws.{row-room}
+use Rattle.records.proofs.CheckLaws.{and-left, and-right, records-ok-facts, records-ok-test, records-ok-after-put, records-ok-after-remove, records-ok-after-clear, keys-ok-facts, keys-ok-test, keys-ok-after-clear}
+use Rattle.buffer_core.specs.declared.Flushed.the-variants.{Done, Refused}
+use Rattle.buffer_core.specs.Edition.{edition-1}
+use Rattle.buffer_core.specs.Pop.{Lists, lists, count-without, bytes-without, lists-ok}
+use Rattle.buffer_core.specs.Flush.{one-if, new-count, new-keys, Listed, listed, put-staged, put-undeleted, remove-key, remove-keys, deleted-keys, table-after, Flushing, flushing, flushed, flush-core}
+use Rattle.flush_core.specs.Steps.{is-new, put-unless-deleted, FlushReady}
+use Rattle.flush_core.proofs.FlushLaws.{put-room}
+
+-- ---- the test as facts, and back
+
+module _ (b : Lists) where
+  pub record ListsOk : Type 0 where
+    pub staged : RecordsOk 10288 10254 (b .staged-counts) (b .staged)
+    pub table : RecordsOk 10288 10254 (b .table-counts) (b .table)
+    pub deleted : KeysOk (b .deleted-counts) (b .deleted)
+
+  pub lists-facts : lists-ok edition-1 b ≡ true → ListsOk
+  unfolding lists-ok
+  lists-facts t =
+      let s : Bool = records-ok 10288 10254 (b .staged-counts) (b .staged) in
+      let r : Bool = records-ok 10288 10254 (b .table-counts) (b .table) in
+      let k : Bool = keys-ok (b .deleted-counts) (b .deleted) in
+      let z = and-right s (r && k) t in
+      record {
+        staged = records-ok-facts 10288 10254 (b .staged-counts) (b .staged) (and-left s (r && k) t);
+        table = records-ok-facts 10288 10254 (b .table-counts) (b .table) (and-left r k z);
+        deleted = keys-ok-facts (b .deleted-counts) (b .deleted) (and-right r k z);
+      }
+
+  pub lists-test : ListsOk → lists-ok edition-1 b ≡ true
+  unfolding lists-ok
+  lists-test f =
+      rw (records-ok-test 10288 10254 (b .staged-counts) (b .staged) (f .staged), records-ok-test 10288 10254 (b .table-counts) (b .table) (f .table))
+      (keys-ok-test (b .deleted-counts) (b .deleted) (f .deleted))
+
+  -- what the core asks for
+  pub flush-ready : lists-ok edition-1 b ≡ true → FlushReady b
+  flush-ready t = let f = lists-facts t in record { in-table = f .table .bounds; in-staged = f .staged .bounds; in-deleted = f .deleted .bounds }
+
+-- ---- the table, record by record
+
+abbrev pub TableOk : Listed → Type 0
+TableOk t = RecordsOk 10288 10254 (t .counts) (t .bytes)
+
+-- a staged record whose key is new has a free place
+not-full : (deleted : List (List ℕ)) (c : ListCounts) (key l : List ℕ) → is-found (find-key key deleted) ≡ false
+    → c .count + one-if (is-new (keys 10288 (c .count) l) deleted key) ≤ c .capacity → full-for 10288 c key l ≡ false
+unfolding full-for
+not-full deleted c key l d h = by-test (is-found (find-key key (keys 10288 (c .count) l))) (rw d at h)
+  where
+    by-test : (f : Bool) → c .count + one-if (not f) ≤ c .capacity → not f && leb (c .capacity) (c .count) ≡ false
+    by-test true h = refl
+    by-test false h = lt-leb (c .capacity) (c .count) (omega arith)
+
+module _ (deleted : List (List ℕ)) (rec : List ℕ) (t : Listed) (long : length rec ≡ 10288) (fits : stored-length rec ≤ 10254) (ok : TableOk t)
+    (room : t .counts .count + one-if (is-new (keys 10288 (t .counts .count) (t .bytes)) deleted (take 32 rec)) ≤ t .counts .capacity) where
+  row-most : length (stored-row rec) ≤ 10254
+  unfolding stored-row
+  row-most = simp length-take (omega arith)
+
+  put-ok : TableOk (put-unless-deleted deleted rec t)
+  unfolding put-unless-deleted put-staged
+  put-ok = by-test (is-found (find-key (take 32 rec) deleted)) refl
+    where
+      by-test : (f : Bool) → is-found (find-key (take 32 rec) deleted) ≡ f → TableOk (cond f t (put-staged edition-1 rec t))
+      by-test true e = ok
+      by-test false e =
+          records-ok-after-put 10288 10254 (t .counts) (take 32 rec) (stored-row rec) (t .bytes) (simp length-take (omega arith))
+          (row-room 10288 rec (omega arith) long) row-most (omega (arith, row-most)) (not-full deleted (t .counts) (take 32 rec) (t .bytes) e room) ok
+
+put-capacity : (deleted : List (List ℕ)) (rec : List ℕ) (t : Listed) → put-unless-deleted deleted rec t .counts .capacity ≡ t .counts .capacity
+unfolding put-unless-deleted put-staged
+put-capacity deleted rec t = by-test (is-found (find-key (take 32 rec) deleted))
+  where
+    by-test : (f : Bool) → cond f t (put-staged edition-1 rec t) .counts .capacity ≡ t .counts .capacity
+    by-test true = refl
+    by-test false = refl
+
+-- the keys of ks that are still new have free places behind it
+room-next : (deleted : List (List ℕ)) (staged : List ℕ) (t : Listed) (ks : List (List ℕ)) → 10288 ≤ length staged → TableOk t
+    → t .counts .count + (one-if (is-new (keys 10288 (t .counts .count) (t .bytes)) deleted (take 32 (take 10288 staged)))
+    + new-count (keys 10288 (t .counts .count) (t .bytes)) deleted ks) ≤ t .counts .capacity
+    → put-unless-deleted deleted (take 10288 staged) t .counts .count
+    + new-count (keys 10288 (put-unless-deleted deleted (take 10288 staged) t .counts .count) (put-unless-deleted deleted (take 10288 staged) t .bytes)) deleted ks
+    ≤ put-unless-deleted deleted (take 10288 staged) t .counts .capacity
+room-next deleted staged t ks long ok room =
+    let n : ℕ = t .counts .count in
+    let l : List ℕ = t .bytes in
+    let q : n + (one-if (is-new (keys 10288 n l) deleted (take 32 staged)) + new-count (keys 10288 n l) deleted ks) ≤ t .counts .capacity
+    = rw (take-take 32 10288 staged (omega arith)) at room in
+    let p = put-room n 0 staged l deleted (t .counts) (omega arith) (omega (arith, ok .bounds .room)) ks in
+    rw (put-capacity deleted (take 10288 staged) t) (omega arith)
+
+-- the staged records are put in turn; the keys that are still new have free places
+puts-ok : (deleted : List (List ℕ)) (n : ℕ) (staged : List ℕ) (t : Listed) → n * 10288 ≤ length staged → lengths-ok 10254 (records 10288 n staged) ≡ true → TableOk t
+    → t .counts .count + new-count (keys 10288 (t .counts .count) (t .bytes)) deleted (keys 10288 n staged) ≤ t .counts .capacity
+    → TableOk (put-undeleted edition-1 deleted (records 10288 n staged) t)
+unfolding put-undeleted records lengths-ok new-count put-unless-deleted
+puts-ok deleted zero staged t h k ok room = ok
+puts-ok deleted (suc n) staged t h k ok room =
+    let rec : List ℕ = take 10288 staged in
+    let rest : List ℕ = drop 10288 staged in
+    let fits = leb-true (stored-length rec) 10254 (and-left (leb (stored-length rec) 10254) (lengths-ok 10254 (records 10288 n rest)) k) in
+    let left = and-right (leb (stored-length rec) 10254) (lengths-ok 10254 (records 10288 n rest)) k in
+    let now : t .counts .count + one-if (is-new (keys 10288 (t .counts .count) (t .bytes)) deleted (take 32 rec)) ≤ t .counts .capacity = omega arith in
+    puts-ok deleted n rest (put-unless-deleted deleted rec t) (simp length-drop (omega arith)) left
+    (put-ok deleted rec t (simp length-take (omega arith)) fits ok now)
+    (room-next deleted staged t (keys 10288 n rest) (omega arith) ok room)
+
+-- ---- removals
+
+-- a key's record leaves a table that passes
+remove-ok : (key : List ℕ) (t : Listed) → TableOk t → TableOk (remove-key edition-1 key t)
+unfolding remove-key
+remove-ok key t ok = by-found (find-key key (keys 10288 (t .counts .count) (t .bytes))) refl
+  where
+    by-found : (f : Found) → f ≡ find-key key (keys 10288 (t .counts .count) (t .bytes))
+        → RecordsOk 10288 10254 (count-without f (t .counts)) (bytes-without 10288 f (t .counts) (t .bytes))
+    by-found (At i) e = records-ok-after-remove 10288 10254 i (t .counts) (t .bytes) (found-in key 10288 (t .counts .count) (t .bytes) i (At i) e refl) ok
+    by-found Nothing e = ok
+
+removes-ok : (ks : List (List ℕ)) (t : Listed) → TableOk t → TableOk (remove-keys edition-1 ks t)
+unfolding remove-keys
+removes-ok [] t ok = ok
+removes-ok (k ∷ ks) t ok = removes-ok ks (remove-key edition-1 k t) (remove-ok k t ok)
+
+-- ---- an accepted flush
+
+-- where the answer gives counts, they pass with the lists at exit
+abbrev pub FlushKept : Flushing → Type 0
+FlushKept o = (t c d : ListCounts) → o .answer ≡ Done t c d → lists-ok edition-1 (lists c (o .staged) t (o .table) d (o .deleted)) ≡ true
+
+kept-refused : (code : ℕ) (table staged deleted : List ℕ) → FlushKept (flushing (Refused code) table staged deleted)
+kept-refused code table staged deleted t c d e = let z : _≡_ {A = ℕ} 0 1 = cc in absurd (omega arith)
+
+kept-done : (t c d : ListCounts) (table staged deleted : List ℕ) → ListsOk (lists c staged t table d deleted)
+    → FlushKept (flushing (Done t c d) table staged deleted)
+kept-done t c d table staged deleted ok t′ c′ d′ e =
+    let p : t ≡ t′ = cc in let q : c ≡ c′ = cc in let r : d ≡ d′ = cc in
+    rw (← p, ← q, ← r) (lists-test (lists c staged t table d deleted) ok)
+
+module _ (b : Lists) (ok : ListsOk b) where
+  table-ok : new-keys edition-1 b ≤ b .table-counts .capacity - b .table-counts .count → TableOk (table-after edition-1 b)
+  unfolding table-after
+  table-ok h =
+      removes-ok (deleted-keys edition-1 b) _
+      (puts-ok (deleted-keys edition-1 b) (b .staged-counts .count) (b .staged) (listed (b .table-counts) (b .table)) (ok .staged .bounds .within)
+      (ok .staged .lengths) (ok .table) (omega (arith, ok .table .bounds .counted)))
+
+  flushed-kept : new-keys edition-1 b ≤ b .table-counts .capacity - b .table-counts .count → FlushKept (flushed edition-1 b)
+  unfolding flushed
+  flushed-kept h =
+      kept-done (table-after edition-1 b .counts) (with-count 0 (b .staged-counts)) (with-count 0 (b .deleted-counts)) (table-after edition-1 b .bytes)
+      (clear-records 10288 (b .staged-counts .capacity) (b .staged)) (clear-records 32 (b .deleted-counts .capacity) (b .deleted))
+      (record {
+        staged = records-ok-after-clear 10288 10254 (b .staged-counts) (b .staged) (ok .staged .bounds .room);
+        table = table-ok h;
+        deleted = keys-ok-after-clear (b .deleted-counts) (b .deleted) (ok .deleted .bounds .room);
+      })
+
+  core-kept : FlushKept (flush-core edition-1 b)
+  unfolding flush-core
+  core-kept = by-test (leb (new-keys edition-1 b) (b .table-counts .capacity - b .table-counts .count)) refl
+    where
+      by-test : (a : Bool) → leb (new-keys edition-1 b) (b .table-counts .capacity - b .table-counts .count) ≡ a
+          → FlushKept (cond a (flushed edition-1 b) (flushing (Refused 22) (b .table) (b .staged) (b .deleted)))
+      by-test true e = flushed-kept (leb-true _ _ e)
+      by-test false e = kept-refused 22 (b .table) (b .staged) (b .deleted)
+
+-- an accepted flush keeps what 25 tests
+pub flush-keeps : (b : Lists) → lists-ok edition-1 b ≡ true → (t c d : ListCounts) → flush-core edition-1 b .answer ≡ Done t c d
+    → lists-ok edition-1 (lists c (flush-core edition-1 b .staged) t (flush-core edition-1 b .table) d (flush-core edition-1 b .deleted)) ≡ true
+flush-keeps b e = core-kept b (lists-facts b e)

@@ -1,0 +1,237 @@
+/* The C interface of the proved Ergo segment index. Link target/staticlib/libergo_index.a (`rt staticlib ergo_index`), x86-64 Linux.
+ *
+ * Conventions, the same for every function:
+ * - The result is a code: 0 where the call was accepted, otherwise the number of its refusal (ERGO_INDEX_*). Functions that refuse nothing return
+ *   what their comment says.
+ * - A refused call changes nothing: every out and every byte and number behind a pointer is as it was.
+ * - A slice is a pointer and a number of elements. Pointers are never null, also those of empty slices. What a call may change must not overlap
+ *   anything else that the call is given.
+ * - A head is a list of at least 512 numbers beside a length (0 to 512) and a spill count. The places behind its length may hold anything.
+ * - A record list (staged spills, segments table) is `count` records of ERGO_INDEX_RECORD_SIZE bytes in a buffer for `capacity` of them; deleted
+ *   spills are `count` keys of 32 bytes in a buffer for `capacity` of them. What stands behind the count may hold anything.
+ * - 25 is tested first everywhere, for all that the call is given: a head length above 512, a head shorter than 512 numbers, a count above its
+ *   capacity, a buffer too short for its capacity, a record that states a row above ERGO_INDEX_ROW_LIMIT bytes, a key that stands twice in one list,
+ *   more than 128 tokens, a row or record above its limit.
+ *
+ * The functions keep no state, allocate nothing and call nothing, so they may be called from any thread. */
+#ifndef ERGO_INDEX_H
+#define ERGO_INDEX_H
+
+#include <stdbool.h>
+#include <stddef.h>
+#include <stdint.h>
+
+#ifdef __cplusplus
+extern "C" {
+#endif
+
+/* ---- codes */
+#define ERGO_INDEX_ACCEPTED 0
+#define ERGO_INDEX_BYTES_END 1                   /* the bytes end inside a field */
+#define ERGO_INDEX_NUMBER_TOO_LARGE 2            /* a coded number does not fit its width */
+#define ERGO_INDEX_NEGATIVE_LENGTH 3             /* a list's length is negative */
+#define ERGO_INDEX_LIST_TOO_LONG 4               /* a list has more than 512 numbers */
+#define ERGO_INDEX_LENGTH_ABOVE_BYTES_LEFT 5     /* a length is above the bytes that are left */
+#define ERGO_INDEX_NEGATIVE_SPILL_COUNT_READ 6   /* a row's spill count is negative */
+#define ERGO_INDEX_BAD_FLAG 7                    /* an address record's flag is neither 00 nor 01 */
+#define ERGO_INDEX_BYTES_LEFT_OVER 8             /* bytes are left over behind a row or record */
+#define ERGO_INDEX_TARGET_IS_MINIMUM 9           /* the target is -2^63 */
+#define ERGO_INDEX_HEAD_OUT_OF_ORDER 10          /* the head holds -2^63, or its absolute values fall */
+#define ERGO_INDEX_NEGATIVE_SPILL_COUNT 11       /* the head's spill count is negative */
+#define ERGO_INDEX_ROW_MISSING 12                /* a row is neither staged nor in the table */
+#define ERGO_INDEX_ROW_OUT_OF_ORDER 13           /* a row has not 512 numbers, or is out of order as in 10 */
+#define ERGO_INDEX_NO_COPY_OF_THAT_SIGN 14       /* the target was seen, but no copy of the wanted sign */
+#define ERGO_INDEX_TARGET_NOT_SEEN 15            /* the target was not seen */
+#define ERGO_INDEX_STAGING_FULL 16               /* the staged spills are full, and the key is not among them */
+#define ERGO_INDEX_NEGATIVE_NUMBER 17            /* the number to append is negative */
+#define ERGO_INDEX_SPILL_COUNT_AT_LIMIT 18       /* the spill count is 2,147,483,647 */
+#define ERGO_INDEX_NOTHING_TO_POP 19             /* the head is empty and has spilled no row */
+#define ERGO_INDEX_ROW_WITHOUT_NUMBERS 20        /* the row to pop from has no number of that kind */
+#define ERGO_INDEX_DELETED_FULL 21               /* the deleted spills are full, and the key is not among them */
+#define ERGO_INDEX_TABLE_FULL 22                 /* the table has no room for the rows to be flushed */
+#define ERGO_INDEX_AMOUNT_OUT_OF_RANGE 23        /* a sum or difference leaves 64 signed bits */
+#define ERGO_INDEX_TOO_MANY_TOKENS 24            /* a 129th token */
+#define ERGO_INDEX_BUFFERS 25                    /* a buffer, count or capacity; see above */
+#define ERGO_INDEX_UNDO_ENTRY_EMPTY 26           /* an undo entry without a byte */
+#define ERGO_INDEX_UNDO_ENTRY_ID_CUT 27          /* an undo entry ends inside its header id */
+#define ERGO_INDEX_UNDO_ENTRY_TAG 28             /* an undo entry's tag is neither 00 nor 01 */
+#define ERGO_INDEX_UNDO_ENTRY_NUMBERS_CUT 29     /* an undo entry ends inside its numbers */
+#define ERGO_INDEX_UNDO_ENTRY_LEFT_OVER 30       /* bytes are left over behind an undo entry */
+#define ERGO_INDEX_OUTPUT_TOO_SHORT 32           /* the output is too short */
+
+/* ---- sizes */
+#define ERGO_INDEX_HEAD_LENGTH 512     /* numbers in a full head, and in a spilled row */
+#define ERGO_INDEX_ROW_LIMIT 10254     /* bytes of the longest segment row */
+#define ERGO_INDEX_RECORD_SIZE 10288   /* bytes of a record: 32 of the key, 2 of the length (high byte first), then the row and zeros */
+#define ERGO_INDEX_KEY_SIZE 32         /* bytes of a row key, a token id, a parent id */
+#define ERGO_INDEX_ADDRESS_LIMIT 15675 /* bytes of the longest address record */
+#define ERGO_INDEX_MAX_TOKENS 128      /* tokens of a balance */
+
+/* ---- the segment buffer */
+
+/* Appends a box number to the head. A head of 512 first becomes the staged row numbered by the spill count, which grows by 1.
+ * Refusals, in order: 25 (head, staged spills), 11, 17; at a head of 512 only: 18, 16.
+ * Changes: *len, *spills, head, *staged_count, staged. */
+uint8_t ergo_index_append_box_entry(const uint8_t parent[32], size_t *len, int32_t *spills, int64_t *head, size_t head_len, int64_t number,
+                                    size_t *staged_count, size_t staged_capacity, uint8_t *staged, size_t staged_len);
+
+/* The same for a transaction number, on the head of transactions. */
+uint8_t ergo_index_append_tx_entry(const uint8_t parent[32], size_t *len, int32_t *spills, int64_t *head, size_t head_len, int64_t number,
+                                   size_t *staged_count, size_t staged_capacity, uint8_t *staged, size_t staged_len);
+
+/* Takes the last box number off the head. On an empty head the newest row becomes the head first: it leaves the staged spills, and its key joins the
+ * deleted ones.
+ * Refusals, in order: 25 (head, all three lists), 11; on an empty head: 19, 12, 1 to 6, 8, 20, 21.
+ * Changes: *number, *len, *spills, head, *staged_count, staged, *deleted_count, deleted. */
+uint8_t ergo_index_pop_box_entry(const uint8_t parent[32], size_t *len, int32_t *spills, int64_t *head, size_t head_len,
+                                 size_t *staged_count, size_t staged_capacity, uint8_t *staged, size_t staged_len,
+                                 size_t table_count, size_t table_capacity, const uint8_t *table, size_t table_len,
+                                 size_t *deleted_count, size_t deleted_capacity, uint8_t *deleted, size_t deleted_len, int64_t *number);
+
+/* The same for a transaction number, on the head of transactions. */
+uint8_t ergo_index_pop_tx_entry(const uint8_t parent[32], size_t *len, int32_t *spills, int64_t *head, size_t head_len,
+                                size_t *staged_count, size_t staged_capacity, uint8_t *staged, size_t staged_len,
+                                size_t table_count, size_t table_capacity, const uint8_t *table, size_t table_len,
+                                size_t *deleted_count, size_t deleted_capacity, uint8_t *deleted, size_t deleted_len, int64_t *number);
+
+/* Marks one box as spent: an entry of the target's absolute value that is not negative is negated, in the head or else in a row, which is staged.
+ * Refusals, in order: 25 (head, staged spills, table), 9, 10, 11; per row read: 12, 1 to 6, 8, 13; 16 at a match in the table; 14, 15.
+ * Changes: head, *staged_count, staged. */
+uint8_t ergo_index_flip_box_segment_entry(const uint8_t parent[32], size_t len, int32_t spills, int64_t *head, size_t head_len, int64_t target,
+                                          size_t *staged_count, size_t staged_capacity, uint8_t *staged, size_t staged_len,
+                                          size_t table_count, size_t table_capacity, const uint8_t *table, size_t table_len);
+
+/* Takes a spend back: a negative entry of the target's absolute value is negated. Refusals and changes as for the spend. */
+uint8_t ergo_index_unflip_box_segment_entry(const uint8_t parent[32], size_t len, int32_t spills, int64_t *head, size_t head_len, int64_t target,
+                                            size_t *staged_count, size_t staged_capacity, uint8_t *staged, size_t staged_len,
+                                            size_t table_count, size_t table_capacity, const uint8_t *table, size_t table_len);
+
+/* Counts the entries of the boxes that are not negative and those that are negative, over all rows and the head.
+ * Refusals, in order: 25 (head, staged spills, table), 10, 11; per row from spill 0 up: 12, 1 to 6, 8, 13.
+ * Changes: *unspent, *spent. */
+uint8_t ergo_index_tally(const uint8_t parent[32], size_t len, int32_t spills, const int64_t *head, size_t head_len,
+                         size_t staged_count, size_t staged_capacity, const uint8_t *staged, size_t staged_len,
+                         size_t table_count, size_t table_capacity, const uint8_t *table, size_t table_len, size_t *unspent, size_t *spent);
+
+/* Writes the staged rows whose key is not deleted to the table, then removes the deleted keys from it; staged and deleted spills end empty, all zero
+ * to their capacity. A row that was staged again after its key was deleted is lost.
+ * Refusals, in order: 25 (all three lists), 22.
+ * Changes: all three counts and lists. */
+uint8_t ergo_index_flush_staged_spills(size_t *staged_count, size_t staged_capacity, uint8_t *staged, size_t staged_len,
+                                       size_t *table_count, size_t table_capacity, uint8_t *table, size_t table_len,
+                                       size_t *deleted_count, size_t deleted_capacity, uint8_t *deleted, size_t deleted_len);
+
+/* ---- spill rows */
+
+/* Which list holds the row under a key: *list is 1 for the staged spills, 2 for the table, 0 for neither; *index is the index of its record, or 0.
+ * Refusals: 25 (staged spills, table).
+ * Changes: *list, *index. */
+uint8_t ergo_index_locate_spill(size_t staged_count, size_t staged_capacity, const uint8_t *staged, size_t staged_len,
+                                size_t table_count, size_t table_capacity, const uint8_t *table, size_t table_len, const uint8_t key[32],
+                                uint8_t *list, size_t *index);
+
+/* Where the row under a key stands: *list as above, and the row is the *length bytes from *offset on in that list; both 0 where it is missing.
+ * Refusals: 25 (staged spills, table).
+ * Changes: *list, *offset, *length. */
+uint8_t ergo_index_inspect_spill(size_t staged_count, size_t staged_capacity, const uint8_t *staged, size_t staged_len,
+                                 size_t table_count, size_t table_capacity, const uint8_t *table, size_t table_len, const uint8_t key[32],
+                                 uint8_t *list, size_t *offset, size_t *length);
+
+/* ---- digests and row keys; these refuse nothing */
+
+/* The BLAKE2b-256 digest (RFC 7693, unkeyed) of s goes to out. */
+void ergo_index_blake2b256(const uint8_t *s, size_t s_len, uint8_t out[32]);
+
+/* The key of the parent's row of boxes, or of transactions, with this spill number goes to out. */
+void ergo_index_box_segment_id(const uint8_t parent[32], int32_t number, uint8_t out[32]);
+void ergo_index_tx_segment_id(const uint8_t parent[32], int32_t number, uint8_t out[32]);
+
+/* ---- coded numbers */
+
+/* Writes n from *at on and moves *at behind it. Refusals: 32. Changes: out, *at. */
+uint8_t ergo_index_put_i64(int64_t n, uint8_t *out, size_t out_len, size_t *at);
+uint8_t ergo_index_put_i32(int32_t n, uint8_t *out, size_t out_len, size_t *at);
+
+/* Reads the number at *at and moves *at behind it. Refusals, byte by byte: 1, 2. Changes: *at, *n. */
+uint8_t ergo_index_get_i64(const uint8_t *src, size_t src_len, size_t *at, int64_t *n);
+uint8_t ergo_index_get_i32(const uint8_t *src, size_t src_len, size_t *at, int32_t *n);
+
+/* ---- segment rows and address records */
+
+/* Writes the first n_txs transactions and the first n_boxes boxes with their spill counts as a row from *at on, and moves *at behind it.
+ * Refusals, in order: 25 (either number above 512 or above its list), 32.
+ * Changes: out, *at. */
+uint8_t ergo_index_write_segment(const int64_t *txs, size_t txs_len, size_t n_txs, const int64_t *boxes, size_t boxes_len, size_t n_boxes,
+                                 int32_t box_segment_count, int32_t tx_segment_count, uint8_t *out, size_t out_len, size_t *at);
+
+/* Reads a row that takes up all its bytes into two lists of at least 512 numbers; zeros follow the numbers up to 512.
+ * Refusals, in order: 25 (row above 10,254 bytes, a list shorter than 512), 1 to 6, 8.
+ * Changes: txs, *n_txs, boxes, *n_boxes, *box_segment_count, *tx_segment_count. */
+uint8_t ergo_index_read_persisted_segment(const uint8_t *row, size_t row_len, int64_t *txs, size_t txs_len, size_t *n_txs,
+                                          int64_t *boxes, size_t boxes_len, size_t *n_boxes,
+                                          int32_t *box_segment_count, int32_t *tx_segment_count);
+
+/* Writes an address record from *at on: the hash, the flag, the balance if has_balance, and the segment; moves *at behind it. The id of token i is
+ * ids[32 * i .. 32 * i + 32], its amount amounts[i].
+ * Refusals, in order: 25 (either number above 512 or above its list, count above 128), 32.
+ * Changes: out, *at. */
+uint8_t ergo_index_write_indexed_address(const uint8_t hash[32], bool has_balance, const uint8_t ids[4096], const int64_t amounts[128],
+                                         size_t count, int64_t nanos, const int64_t *txs, size_t txs_len, size_t n_txs,
+                                         const int64_t *boxes, size_t boxes_len, size_t n_boxes,
+                                         int32_t box_segment_count, int32_t tx_segment_count, uint8_t *out, size_t out_len, size_t *at);
+
+/* Reads an address record that takes up all its bytes. Zeros follow the tokens up to 128 and the numbers up to 512.
+ * Refusals, in order: 25 (record above 15,675 bytes, a list shorter than 512), then 1 to 8 and 24 as the record is read.
+ * Changes: every out and both lists. */
+uint8_t ergo_index_read_indexed_address(const uint8_t *row, size_t row_len, uint8_t hash[32], bool *has_balance, uint8_t ids[4096],
+                                        int64_t amounts[128], size_t *count, int64_t *nanos, int64_t *txs, size_t txs_len, size_t *n_txs,
+                                        int64_t *boxes, size_t boxes_len, size_t *n_boxes,
+                                        int32_t *box_segment_count, int32_t *tx_segment_count);
+
+/* ---- balances: 128 ids of 32 bytes, their amounts, how many are in use, and the nanoErgs */
+
+/* Adds a box of `count` tokens: its nanoErgs, then its tokens in list order; a new id goes last.
+ * Refusals: 25 (held_count above 128, fewer ids or amounts than count), then in list order, nanoErgs first: 23, 24.
+ * Changes: the four held parts. */
+uint8_t ergo_index_add_box(uint8_t held_ids[4096], int64_t held_amounts[128], size_t *held_count, int64_t *held_nanos, int64_t nanos,
+                           const uint8_t *ids, size_t ids_len, const int64_t *amounts, size_t amounts_len, size_t count);
+
+/* Subtracts a box: its nanoErgs, which stop at 0, then its tokens in list order; a token at 0 or below is dropped, an unknown id is ignored.
+ * Refusals: 25 as above, then in list order, nanoErgs first: 23.
+ * Changes: the four held parts. */
+uint8_t ergo_index_subtract_box(uint8_t held_ids[4096], int64_t held_amounts[128], size_t *held_count, int64_t *held_nanos, int64_t nanos,
+                                const uint8_t *ids, size_t ids_len, const int64_t *amounts, size_t amounts_len, size_t count);
+
+/* ---- undo entries */
+
+/* Writes an undo entry at the front of out, 49 bytes with a header id and 17 without, and their number to *written. The header id counts only if known.
+ * Refusals: 32.
+ * Changes: out, *written. */
+uint8_t ergo_index_encode_undo_entry(bool known, const uint8_t header[32], uint64_t txs, uint64_t boxes, uint8_t *out, size_t out_len,
+                                     size_t *written);
+
+/* Reads an undo entry that takes up all its bytes; without a header id, *known is false and header all zero.
+ * Refusals, in order: 26, 28, 27, 29, 30.
+ * Changes: *known, header, *txs, *boxes. */
+uint8_t ergo_index_decode_undo_entry(const uint8_t *bytes, size_t bytes_len, bool *known, uint8_t header[32], uint64_t *txs, uint64_t *boxes);
+
+/* Keeps those of the first *count heights that are at least current - window if current is above the window, else all; zeros follow up to the
+ * capacity. The window is window_heights if window_named, else 200.
+ * Refusals: 25 (count above the capacity, list shorter than the capacity).
+ * Changes: heights, *count. */
+uint8_t ergo_index_prune_below_window(uint64_t *heights, size_t heights_len, size_t *count, size_t capacity, uint64_t current,
+                                      bool window_named, uint64_t window_heights);
+
+/* ---- answers and figures */
+
+/* The drift rule of a derived index, on the code of a flip: 15 gives 0 and sets *skipped, 0 gives 0 and clears it, any other code is given back. */
+uint8_t ergo_index_tolerate_secondary_drift(uint8_t flip, bool *skipped);
+
+/* The milliErgs of an amount of nanoErgs, rounded to the nearest, the half upward. */
+int64_t ergo_index_statement_milli_ergs(int64_t nano_ergs);
+
+#ifdef __cplusplus
+}
+#endif
+
+#endif

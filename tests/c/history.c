@@ -1,0 +1,238 @@
+/* One parent's history over the C interface: 513 appends, a spend in the row that spilled, a flush, the unspend, and pops across the row; then a
+ * balance, an address record and an undo entry. Every answer is asserted; the lines that are printed are compared with tests/c/history.stdout. */
+#include "ergo_index.h"
+
+#include <stdio.h>
+#include <stdlib.h>
+#include <string.h>
+
+#define CAPACITY 2
+
+#define EXPECT(cond)                                                        \
+    do {                                                                    \
+        if (!(cond)) {                                                      \
+            fprintf(stderr, "%s:%d: %s\n", __FILE__, __LINE__, #cond);      \
+            exit(1);                                                        \
+        }                                                                   \
+    } while (0)
+
+struct head {
+    size_t len;
+    int32_t spills;
+    int64_t numbers[ERGO_INDEX_HEAD_LENGTH];
+};
+
+struct records {
+    size_t count;
+    uint8_t bytes[CAPACITY * ERGO_INDEX_RECORD_SIZE];
+};
+
+struct keys {
+    size_t count;
+    uint8_t bytes[CAPACITY * ERGO_INDEX_KEY_SIZE];
+};
+
+static const uint8_t parent[32] = {7, 7, 7};
+static struct head boxes, txs;
+static struct records staged, table;
+static struct keys deleted;
+
+static uint8_t append_box(int64_t number) {
+    return ergo_index_append_box_entry(parent, &boxes.len, &boxes.spills, boxes.numbers, ERGO_INDEX_HEAD_LENGTH, number,
+                                       &staged.count, CAPACITY, staged.bytes, sizeof staged.bytes);
+}
+
+static uint8_t append_tx(int64_t number) {
+    return ergo_index_append_tx_entry(parent, &txs.len, &txs.spills, txs.numbers, ERGO_INDEX_HEAD_LENGTH, number,
+                                      &staged.count, CAPACITY, staged.bytes, sizeof staged.bytes);
+}
+
+static uint8_t pop_box(int64_t *number) {
+    return ergo_index_pop_box_entry(parent, &boxes.len, &boxes.spills, boxes.numbers, ERGO_INDEX_HEAD_LENGTH,
+                                    &staged.count, CAPACITY, staged.bytes, sizeof staged.bytes,
+                                    table.count, CAPACITY, table.bytes, sizeof table.bytes,
+                                    &deleted.count, CAPACITY, deleted.bytes, sizeof deleted.bytes, number);
+}
+
+static uint8_t pop_tx(int64_t *number) {
+    return ergo_index_pop_tx_entry(parent, &txs.len, &txs.spills, txs.numbers, ERGO_INDEX_HEAD_LENGTH,
+                                   &staged.count, CAPACITY, staged.bytes, sizeof staged.bytes,
+                                   table.count, CAPACITY, table.bytes, sizeof table.bytes,
+                                   &deleted.count, CAPACITY, deleted.bytes, sizeof deleted.bytes, number);
+}
+
+static uint8_t spend(int64_t target) {
+    return ergo_index_flip_box_segment_entry(parent, boxes.len, boxes.spills, boxes.numbers, ERGO_INDEX_HEAD_LENGTH, target,
+                                             &staged.count, CAPACITY, staged.bytes, sizeof staged.bytes,
+                                             table.count, CAPACITY, table.bytes, sizeof table.bytes);
+}
+
+static uint8_t unspend(int64_t target) {
+    return ergo_index_unflip_box_segment_entry(parent, boxes.len, boxes.spills, boxes.numbers, ERGO_INDEX_HEAD_LENGTH, target,
+                                               &staged.count, CAPACITY, staged.bytes, sizeof staged.bytes,
+                                               table.count, CAPACITY, table.bytes, sizeof table.bytes);
+}
+
+static uint8_t flush(void) {
+    return ergo_index_flush_staged_spills(&staged.count, CAPACITY, staged.bytes, sizeof staged.bytes,
+                                          &table.count, CAPACITY, table.bytes, sizeof table.bytes,
+                                          &deleted.count, CAPACITY, deleted.bytes, sizeof deleted.bytes);
+}
+
+/* how many boxes are spent */
+static size_t spent_boxes(void) {
+    size_t unspent = 0, spent = 0;
+    EXPECT(ergo_index_tally(parent, boxes.len, boxes.spills, boxes.numbers, ERGO_INDEX_HEAD_LENGTH,
+                            staged.count, CAPACITY, staged.bytes, sizeof staged.bytes,
+                            table.count, CAPACITY, table.bytes, sizeof table.bytes, &unspent, &spent) == ERGO_INDEX_ACCEPTED);
+    EXPECT(unspent + spent == boxes.len + (size_t)boxes.spills * ERGO_INDEX_HEAD_LENGTH);
+    return spent;
+}
+
+static void say(const char *what) {
+    printf("%s: head %zu, spills %d, staged %zu, table %zu, deleted %zu\n", what, boxes.len, (int)boxes.spills, staged.count, table.count,
+           deleted.count);
+}
+
+/* the sign of the box at a place of the row under spill number 0, and the list that holds the row */
+static int64_t box_in_row(size_t place, uint8_t *list) {
+    uint8_t key[32];
+    size_t offset = 1, length = 1, n_txs = 0, n_boxes = 0;
+    int32_t box_spills = -1, tx_spills = -1;
+    static int64_t row_txs[ERGO_INDEX_HEAD_LENGTH], row_boxes[ERGO_INDEX_HEAD_LENGTH];
+    ergo_index_box_segment_id(parent, 0, key);
+    EXPECT(ergo_index_inspect_spill(staged.count, CAPACITY, staged.bytes, sizeof staged.bytes, table.count, CAPACITY, table.bytes,
+                                    sizeof table.bytes, key, list, &offset, &length) == ERGO_INDEX_ACCEPTED);
+    EXPECT(*list == 1 || *list == 2);
+    EXPECT(ergo_index_read_persisted_segment((*list == 1 ? staged.bytes : table.bytes) + offset, length, row_txs, ERGO_INDEX_HEAD_LENGTH,
+                                             &n_txs, row_boxes, ERGO_INDEX_HEAD_LENGTH, &n_boxes, &box_spills, &tx_spills)
+           == ERGO_INDEX_ACCEPTED);
+    EXPECT(n_txs == 0 && n_boxes == ERGO_INDEX_HEAD_LENGTH && box_spills == 0 && tx_spills == 0);
+    return row_boxes[place];
+}
+
+static void history(void) {
+    int64_t number = 0;
+    uint8_t list = 0;
+
+    for (int64_t n = 1; n <= 513; n++) EXPECT(append_box(n) == ERGO_INDEX_ACCEPTED);
+    EXPECT(append_tx(9) == ERGO_INDEX_ACCEPTED && txs.len == 1 && txs.numbers[0] == 9);
+    say("513 appends");
+    EXPECT(boxes.len == 1 && boxes.spills == 1 && staged.count == 1);
+    EXPECT(boxes.numbers[0] == 513 && boxes.numbers[1] == 0 && boxes.numbers[511] == 0);
+
+    EXPECT(flush() == ERGO_INDEX_ACCEPTED);
+    say("flush");
+    EXPECT(staged.count == 0 && table.count == 1 && deleted.count == 0);
+
+    EXPECT(spend(100) == ERGO_INDEX_ACCEPTED && box_in_row(99, &list) == -100 && list == 1 && spent_boxes() == 1);
+    say("spend 100");
+    EXPECT(spend(100) == ERGO_INDEX_NO_COPY_OF_THAT_SIGN);
+    EXPECT(spend(1000) == ERGO_INDEX_TARGET_NOT_SEEN);
+    EXPECT(append_box(-1) == ERGO_INDEX_NEGATIVE_NUMBER && boxes.len == 1);
+
+    EXPECT(flush() == ERGO_INDEX_ACCEPTED && box_in_row(99, &list) == -100 && list == 2);
+    EXPECT(unspend(100) == ERGO_INDEX_ACCEPTED && box_in_row(99, &list) == 100 && list == 1 && spent_boxes() == 0);
+    say("unspend 100");
+
+    for (int64_t n = 513; n >= 1; n--) {
+        EXPECT(pop_box(&number) == ERGO_INDEX_ACCEPTED);
+        EXPECT(number == n);
+        if (n == 512) {
+            say("two pops");
+            EXPECT(boxes.len == 511 && boxes.spills == 0 && staged.count == 0 && deleted.count == 1);
+        }
+    }
+    number = 77;
+    EXPECT(pop_box(&number) == ERGO_INDEX_NOTHING_TO_POP && number == 77);
+    EXPECT(pop_tx(&number) == ERGO_INDEX_ACCEPTED && number == 9 && txs.len == 0);
+    EXPECT(flush() == ERGO_INDEX_ACCEPTED);
+    say("513 pops and a flush");
+    EXPECT(boxes.len == 0 && boxes.spills == 0 && staged.count == 0 && table.count == 0 && deleted.count == 0);
+
+    boxes.len = ERGO_INDEX_HEAD_LENGTH + 1;
+    EXPECT(append_box(1) == ERGO_INDEX_BUFFERS && boxes.len == ERGO_INDEX_HEAD_LENGTH + 1);
+    boxes.len = 0;
+}
+
+static void balances_and_records(void) {
+    static uint8_t held_ids[4096], read_ids[4096], id[32] = {1}, other[32] = {2};
+    static int64_t held_amounts[128], read_amounts[128], read_txs[512], read_boxes[512];
+    size_t held = 0, count = 0, n_txs = 9, n_boxes = 9, at = 0;
+    int64_t nanos = 0, read_nanos = 0, amount = 5;
+    int32_t box_spills = 9, tx_spills = 9;
+    uint8_t hash[32] = {3}, read_hash[32], out[256];
+    bool has = false;
+
+    EXPECT(ergo_index_add_box(held_ids, held_amounts, &held, &nanos, 1500000, id, 32, &amount, 1, 1) == ERGO_INDEX_ACCEPTED);
+    EXPECT(held == 1 && held_amounts[0] == 5 && nanos == 1500000 && held_ids[0] == 1);
+    EXPECT(ergo_index_add_box(held_ids, held_amounts, &held, &nanos, INT64_MAX, id, 32, &amount, 1, 1) == ERGO_INDEX_AMOUNT_OUT_OF_RANGE);
+    EXPECT(held == 1 && held_amounts[0] == 5 && nanos == 1500000);
+    EXPECT(ergo_index_add_box(held_ids, held_amounts, &held, &nanos, 0, id, 31, &amount, 1, 1) == ERGO_INDEX_BUFFERS);
+    EXPECT(ergo_index_subtract_box(held_ids, held_amounts, &held, &nanos, 1, other, 32, &amount, 1, 1) == ERGO_INDEX_ACCEPTED && held == 1);
+    printf("balance: %lld nanoErgs, %lld milliErgs, %zu token\n", (long long)nanos, (long long)ergo_index_statement_milli_ergs(nanos), held);
+
+    EXPECT(ergo_index_write_indexed_address(hash, true, held_ids, held_amounts, held, nanos, txs.numbers, 512, 0, boxes.numbers, 512, 0, 1, 0,
+                                            out, sizeof out, &at) == ERGO_INDEX_ACCEPTED);
+    EXPECT(ergo_index_read_indexed_address(out, at, read_hash, &has, read_ids, read_amounts, &count, &read_nanos, read_txs, 512, &n_txs,
+                                           read_boxes, 512, &n_boxes, &box_spills, &tx_spills) == ERGO_INDEX_ACCEPTED);
+    EXPECT(has && count == 1 && read_nanos == nanos && n_txs == 0 && n_boxes == 0 && box_spills == 1 && tx_spills == 0);
+    EXPECT(memcmp(hash, read_hash, 32) == 0 && memcmp(held_ids, read_ids, 4096) == 0 && memcmp(held_amounts, read_amounts, 1024) == 0);
+    printf("address record: %zu bytes\n", at);
+    out[32] = 2;
+    n_txs = 9;
+    EXPECT(ergo_index_read_indexed_address(out, at, read_hash, &has, read_ids, read_amounts, &count, &read_nanos, read_txs, 512, &n_txs,
+                                           read_boxes, 512, &n_boxes, &box_spills, &tx_spills) == ERGO_INDEX_BAD_FLAG && n_txs == 9);
+
+    EXPECT(ergo_index_subtract_box(held_ids, held_amounts, &held, &nanos, 2000000, id, 32, &amount, 1, 1) == ERGO_INDEX_ACCEPTED);
+    EXPECT(held == 0 && nanos == 0 && held_ids[0] == 0 && held_amounts[0] == 0);
+}
+
+static void codecs(void) {
+    static const int64_t one[1] = {1}, minus_one[1] = {-1};
+    static const uint8_t row[6] = {2, 2, 2, 1, 0, 2};
+    uint8_t out[64], header[32] = {8}, read_header[32], digest[32];
+    size_t at = 0, written = 0, count = 3;
+    int64_t n = 0;
+    int32_t m = 0;
+    uint64_t undo_txs = 0, undo_boxes = 0, heights[4] = {1, 400, 399, 5};
+    bool known = false, skipped = false;
+
+    EXPECT(ergo_index_put_i64(INT64_MIN, out, sizeof out, &at) == ERGO_INDEX_ACCEPTED && at == 10 && out[8] == 0xFF && out[9] == 1);
+    EXPECT(ergo_index_put_i32(-65, out, sizeof out, &at) == ERGO_INDEX_ACCEPTED && at == 12 && out[10] == 0x81 && out[11] == 1);
+    EXPECT(ergo_index_put_i32(64, out, 13, &at) == ERGO_INDEX_OUTPUT_TOO_SHORT && at == 12);
+    at = 0;
+    EXPECT(ergo_index_get_i64(out, 12, &at, &n) == ERGO_INDEX_ACCEPTED && n == INT64_MIN && at == 10);
+    EXPECT(ergo_index_get_i32(out, 12, &at, &m) == ERGO_INDEX_ACCEPTED && m == -65 && at == 12);
+    EXPECT(ergo_index_get_i64(out, 12, &at, &n) == ERGO_INDEX_BYTES_END && n == INT64_MIN && at == 12);
+
+    at = 0;
+    EXPECT(ergo_index_write_segment(one, 1, 1, minus_one, 1, 1, 0, 1, out, sizeof out, &at) == ERGO_INDEX_ACCEPTED);
+    EXPECT(at == 6 && memcmp(out, row, 6) == 0);
+    EXPECT(ergo_index_write_segment(one, 1, 2, minus_one, 1, 1, 0, 1, out, sizeof out, &at) == ERGO_INDEX_BUFFERS && at == 6);
+
+    EXPECT(ergo_index_encode_undo_entry(true, header, 3, 4, out, sizeof out, &written) == ERGO_INDEX_ACCEPTED && written == 49);
+    EXPECT(ergo_index_decode_undo_entry(out, 49, &known, read_header, &undo_txs, &undo_boxes) == ERGO_INDEX_ACCEPTED);
+    EXPECT(known && memcmp(header, read_header, 32) == 0 && undo_txs == 3 && undo_boxes == 4);
+    EXPECT(ergo_index_decode_undo_entry(out, 48, &known, read_header, &undo_txs, &undo_boxes) == ERGO_INDEX_UNDO_ENTRY_NUMBERS_CUT);
+
+    EXPECT(ergo_index_prune_below_window(heights, 4, &count, 3, 600, false, 0) == ERGO_INDEX_ACCEPTED);
+    EXPECT(count == 1 && heights[0] == 400 && heights[1] == 0 && heights[2] == 0 && heights[3] == 5);
+
+    EXPECT(ergo_index_tolerate_secondary_drift(15, &skipped) == ERGO_INDEX_ACCEPTED && skipped);
+    EXPECT(ergo_index_tolerate_secondary_drift(14, &skipped) == ERGO_INDEX_NO_COPY_OF_THAT_SIGN && skipped);
+    EXPECT(ergo_index_tolerate_secondary_drift(0, &skipped) == ERGO_INDEX_ACCEPTED && !skipped);
+
+    ergo_index_blake2b256((const uint8_t *)"abc", 3, digest);
+    printf("blake2b256(abc): ");
+    for (int i = 0; i < 32; i++) printf("%02x", digest[i]);
+    printf("\n");
+}
+
+int main(void) {
+    history();
+    balances_and_records();
+    codecs();
+    printf("ok\n");
+    return 0;
+}
