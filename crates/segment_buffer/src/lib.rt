@@ -124,7 +124,7 @@ pub fn append_tx_entry(
 // ---- pop
 
 // Refusal 25 of the three lists.
-fn lists_ok(
+pub fn lists_ok(
     staged_counts: ListCounts,
     staged: &[u8],
     table_counts: ListCounts,

@@ -1,0 +1,5 @@
+-- Laws and proofs of `call_steps`.
+pub mod StateLaws
+pub mod StepLaws
+pub mod RefusedLaws
+pub mod KeepLaws

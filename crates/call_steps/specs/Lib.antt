@@ -1,0 +1,3 @@
+-- The definitions that the contracts of `call_steps` cite.
+pub mod State
+pub mod Steps

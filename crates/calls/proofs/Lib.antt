@@ -1,0 +1,2 @@
+-- Laws and proofs of `calls`.
+pub mod CallLaws

@@ -1,0 +1,204 @@
+-- The test of refusal 25 as facts, and the turns of a run.
+use Prim.Native.Nat.{ℕ, zero, suc, _+_, _*_, _-_, _/_, _≤_, _<_}
+use mathlib.Core.Path.{_≡_, refl, sym, ap, _∙_}
+use mathlib.Core.Bool.{Bool, true, false, cond, _&&_}
+use mathlib.Core.List.{List}
+use native.Mathlib.Omega.{arith}
+use native.Mathlib.Decide.{ℕ-discrete}
+use lib.Dec.{eqb, leb, ltb}
+use lib.IntN.{ℤ}
+use lib.ListN.{length, getD}
+use borrow.Author.Tests.{leb-true, ltb-true, eq-eqb, ne-eqb}
+use Rattle.segment_id.specs.declared.Kind.{Kind}
+use Rattle.segment_id.specs.declared.Kind.the-variants.{Box, Tx}
+use Rattle.records.proofs.CheckLaws.{and-left, and-right}
+use Rattle.buffer_core.specs.Edition.{edition-1}
+use Rattle.buffer_core.specs.Pop.{lists-ok}
+use Rattle.calls.specs.Calls.{call-at, size-of, end-of}
+use Rattle.calls.specs.declared.Call.{Call}
+use Rattle.calls.proofs.CallLaws.{call-sound}
+use Rattle.call_steps.specs.State.{State, length-at, counts-ok, lengths-ok, blocks-ok, state-ok, Blocks, Ready}
+use Rattle.call_steps.specs.Steps.{Stepping, step-of, StepReady}
+use Rattle.call_steps.proofs.KeepLaws.{step-kept, step-ready}
+use Rattle.runner.specs.Run.{Run, run-at, with-code, with-number, may-go, ended, answered, called, turn-of, runs, start, run-of, TurnReady}
+
+-- a test in front that passes, and one that does not
+pub and-on : (a b : Bool) → a ≡ true → b ≡ a && b
+and-on a b e = sym (ap (λ (x : Bool). x && b) e)
+
+pub and-off : (a b : Bool) → a ≡ false → false ≡ a && b
+and-off a b e = sym (ap (λ (x : Bool). x && b) e)
+
+-- ---- refusal 25 of the state
+
+-- the definition at one parent more
+more : (p : ℕ) (l : List ℕ) → lengths-ok (suc p) l ≡ counts-ok p l && lengths-ok p l
+unfolding lengths-ok
+more p l = refl
+
+pub lengths-step : (p : ℕ) (l : List ℕ) → 0 < p → lengths-ok p l ≡ counts-ok (p - 1) l && lengths-ok (p - 1) l
+lengths-step zero l h = absurd (omega arith)
+lengths-step (suc p) l h =
+    let e : p ≡ suc p - 1 = omega arith in
+    more p l ∙ (λ i. counts-ok (e i) l && lengths-ok (e i) l)
+
+few-of : (l : List ℕ) (p : ℕ) → counts-ok p l ≡ true → (k : Kind) → getD l (length-at k p) 0 ≤ 512
+few-of l p t Box =
+    let e : p * 3 + 0 ≡ p * 3 = omega arith in
+    omega (arith, ap (λ (j : ℕ). getD l j 0) e, leb-true (getD l (p * 3) 0) 512 (and-left _ _ t))
+few-of l p t Tx = leb-true (getD l (p * 3 + 1) 0) 512 (and-left _ _ (and-right (leb (getD l (p * 3) 0) 512) _ t))
+
+few-in : (n : ℕ) (l : List ℕ) → lengths-ok n l ≡ true → (p : ℕ) → p < n → (k : Kind) → getD l (length-at k p) 0 ≤ 512
+few-in zero l e p h k = absurd (omega arith)
+few-in (suc n) l e p h k = by-place (ℕ-discrete p n) (λ q. few-in n l (and-right (counts-ok n l) _ (sym (more n l) ∙ e)) p q k)
+  where
+    by-place : Dec (p ≡ n) → (p < n → getD l (length-at k p) 0 ≤ 512) → getD l (length-at k p) 0 ≤ 512
+    by-place (yes q) below = few-of l p (ap (λ (j : ℕ). counts-ok j l) q ∙ and-left (counts-ok n l) _ (sym (more n l) ∙ e)) k
+    by-place (no q) below = below (omega (arith, q))
+
+module _ (parents : ℕ) (s : State) where
+  pub ready-when : state-ok edition-1 parents s ≡ true → Ready parents s
+  unfolding state-ok blocks-ok
+  ready-when e =
+      let a : Bool = leb parents (length (s .ids) / 4128) in
+      let b : Bool = leb parents (length (s .numbers) / 1153) in
+      let c : Bool = leb parents (length (s .lengths) / 3) in
+      let d : Bool = leb parents (length (s .spills) / 2) in
+      let l : Bool = lengths-ok parents (s .lengths) in
+      let t = and-left (a && (b && (c && d))) _ e in
+      let u = and-right (a && (b && (c && d))) _ e in
+      let v = and-right a (b && (c && d)) t in
+      let w = and-right b (c && d) v in
+      let i = leb-true parents (length (s .ids) / 4128) (and-left a _ t) in
+      let j = leb-true parents (length (s .numbers) / 1153) (and-left b _ v) in
+      let k = leb-true parents (length (s .lengths) / 3) (and-left c _ w) in
+      let m = leb-true parents (length (s .spills) / 2) (and-right c d w) in
+      record {
+        blocks = record { ids-in = omega (arith, i); numbers-in = omega (arith, j); lengths-in = omega (arith, k); spills-in = omega (arith, m) };
+        few = few-in parents (s .lengths) (and-left l _ u);
+        listed = and-right l _ u;
+      }
+
+pub lengths-there : (parents : ℕ) (ids : List ℕ) (numbers : List ℤ) (lengths : List ℕ) (spills : List ℤ) → blocks-ok parents ids numbers lengths spills ≡ true
+    → parents * 3 ≤ length lengths
+unfolding blocks-ok
+lengths-there parents ids numbers lengths spills t =
+    let v = and-right (leb parents (length ids / 4128)) _ t in
+    let w = and-right (leb parents (length numbers / 1153)) _ v in
+    let k = leb-true parents (length lengths / 3) (and-left (leb parents (length lengths / 3)) _ w) in
+    omega (arith, k)
+
+-- ---- the turns
+
+module _ (parents : ℕ) (input : List ℕ) where
+  -- what a turn asks holds where the test of room passes
+  pub turn-ready : (r : Run) → Ready parents (r .now) → r .at ≤ length input → may-go r ≡ true → TurnReady parents input r
+  turn-ready r k h e =
+      let t = and-right (eqb (r .end) 0) _ e in
+      record {
+        ready = k;
+        within = h;
+        few = ltb-true (r .made) (length (r .popped)) (and-left _ _ t);
+        room = leb-true (r .made * 2 + 2) (length (r .answers)) (and-right (ltb (r .made) (length (r .popped))) _ t);
+      }
+
+  module _ (r : Run) (f : TurnReady parents input r) where
+    abbrev c : Call
+    c = call-at parents input (r .at)
+
+    pub call-ready : StepReady c (r .now)
+    call-ready = step-ready parents (r .now) (f .ready) c (call-sound parents input (r .at) .among)
+
+    pub call-within : r .at + size-of c ≤ length input
+    call-within = omega (arith, call-sound parents input (r .at) .fits, f .within)
+
+    -- a turn keeps them
+    pub turn-kept : Ready parents (turn-of edition-1 parents input r .now) × (turn-of edition-1 parents input r .at ≤ length input)
+    unfolding turn-of
+    turn-kept = by-size (eqb (size-of c) 0)
+      where
+        by-size : (b : Bool)
+            → Ready parents (cond b (ended c r) (answered (size-of c) (step-of edition-1 c (r .now)) r) .now)
+            × (cond b (ended c r) (answered (size-of c) (step-of edition-1 c (r .now)) r) .at ≤ length input)
+        by-size true = (f .ready, f .within)
+        by-size false = (step-kept parents (r .now) (f .ready) c (call-sound parents input (r .at) .among), call-within)
+
+  -- the run of n + 1 calls by its first turn
+  pub runs-more : (n : ℕ) (r : Run) → 0 < n → may-go r ≡ true → runs edition-1 parents input (n - 1) (turn-of edition-1 parents input r) ≡ runs edition-1 parents input n r
+  unfolding runs
+  runs-more zero r h e = absurd (omega arith)
+  runs-more (suc n) r h e =
+      let p : suc n - 1 ≡ n = omega arith in
+      ap (λ (j : ℕ). runs edition-1 parents input j (turn-of edition-1 parents input r)) p
+      ∙ sym (ap (λ (b : Bool). cond b (runs edition-1 parents input n (turn-of edition-1 parents input r)) r) e)
+
+  pub runs-stop : (n : ℕ) (r : Run) → may-go r ≡ false → r ≡ runs edition-1 parents input n r
+  unfolding runs
+  runs-stop zero r e = refl
+  runs-stop (suc n) r e = sym (ap (λ (b : Bool). cond b (runs edition-1 parents input n (turn-of edition-1 parents input r)) r) e)
+
+  pub runs-end : (n : ℕ) (r : Run) → n ≤ 0 → r ≡ runs edition-1 parents input n r
+  unfolding runs
+  runs-end zero r h = refl
+  runs-end (suc n) r h = absurd (omega arith)
+
+-- what the code has done is a turn: x is the call it read, n its bytes
+module _ (parents : ℕ) (input : List ℕ) (r : Run) where
+  pub turn-ended : (x : Call) (n e : ℕ) → x ≡ call-at parents input (r .at) → n ≡ size-of x → n ≡ 0 → e ≡ end-of x
+      → run-at (r .now) (r .at) (r .made) e (r .answers) (r .popped) ≡ turn-of edition-1 parents input r
+  unfolding turn-of
+  turn-ended x n e q s z w =
+      ap (λ (k : ℕ). run-at (r .now) (r .at) (r .made) k (r .answers) (r .popped)) w
+      ∙ sym (ap (λ (b : Bool). cond b (ended x r) (answered (size-of x) (step-of edition-1 x (r .now)) r)) (eq-eqb (size-of x) 0 (sym s ∙ z)))
+      ∙ ap (λ (c : Call). called edition-1 c r) q
+
+  pub turn-answered : (x : Call) (n : ℕ) (y : Stepping) (answers : List ℕ) (popped : List ℤ) → x ≡ call-at parents input (r .at) → n ≡ size-of x → (n ≡ 0 → ⊥)
+      → y ≡ step-of edition-1 x (r .now) → answers ≡ with-code (y .said) (r .made) (r .answers) → popped ≡ with-number (y .said) (r .made) (r .popped)
+      → run-at (y .after) (r .at + n) (r .made + 1) 0 answers popped ≡ turn-of edition-1 parents input r
+  unfolding turn-of
+  turn-answered x n y answers popped q s z w a p =
+      (λ i. run-at (y .after) (r .at + s i) (r .made + 1) 0 (a i) (p i))
+      ∙ ap (λ (k : Stepping). answered (size-of x) k r) w
+      ∙ sym (ap (λ (b : Bool). cond b (ended x r) (answered (size-of x) (step-of edition-1 x (r .now)) r)) (ne-eqb (size-of x) 0 (λ k. z (s ∙ k))))
+      ∙ ap (λ (c : Call). called edition-1 c r) q
+
+-- ---- the loop: the slices keep their lengths, the state what 25 tests, and what is left to run ends where the whole run ends
+pub record Kept (sizes : Type 0) (parents : ℕ) (input : List ℕ) (left : ℕ) (r r₀ : Run) : Type 0 where
+  pub same : sizes
+  pub ready : Ready parents (r .now)
+  pub within : r .at ≤ length input
+  pub rest : runs edition-1 parents input left r ≡ runs edition-1 parents input (length input + 1) r₀
+
+module _ (sizes : Type 0) (parents : ℕ) (input : List ℕ) where
+  pub kept-start : (r : Run) → sizes → Ready parents (r .now) → r .at ≡ 0 → Kept sizes parents input (length input + 1) r r
+  kept-start r k f e = record { same = k; ready = f; within = omega (arith, e); rest = refl }
+
+  module _ (left : ℕ) (r r₀ : Run) (k : Kept sizes parents input left r r₀) where
+    pub kept-ready : may-go r ≡ true → TurnReady parents input r
+    kept-ready e = turn-ready parents input r (k .ready) (k .within) e
+
+    pub kept-turn : (sizes′ : Type 0) (r′ : Run) → 0 < left → may-go r ≡ true → sizes′ → r′ ≡ turn-of edition-1 parents input r → Kept sizes′ parents input (left - 1) r′ r₀
+    kept-turn sizes′ r′ h e s q =
+        let t = turn-kept parents input r (kept-ready e) in
+        record {
+          same = s;
+          ready = rw q (t .0);
+          within = rw q (t .1);
+          rest = ap (runs edition-1 parents input (left - 1)) q ∙ runs-more parents input left r h e ∙ k .rest;
+        }
+
+    pub kept-stop : may-go r ≡ false → r ≡ runs edition-1 parents input (length input + 1) r₀
+    kept-stop e = runs-stop parents input left r e ∙ k .rest
+
+    pub kept-end : left ≤ 0 → r ≡ runs edition-1 parents input (length input + 1) r₀
+    kept-end h = runs-end parents input left r h ∙ k .rest
+
+-- ---- refusal 25, or the run
+module _ (parents : ℕ) (input : List ℕ) (s : State) (answers : List ℕ) (popped : List ℤ) where
+  pub run-passed : state-ok edition-1 parents s ≡ true → runs edition-1 parents input (length input + 1) (start s answers popped) ≡ run-of edition-1 parents input s answers popped
+  unfolding run-of
+  run-passed e = sym (ap (λ (b : Bool). cond b (runs edition-1 parents input (length input + 1) (start s answers popped)) (run-at s 0 0 25 answers popped)) e)
+
+  pub run-refused : state-ok edition-1 parents s ≡ false → run-at s 0 0 25 answers popped ≡ run-of edition-1 parents input s answers popped
+  unfolding run-of
+  run-refused e = sym (ap (λ (b : Bool). cond b (runs edition-1 parents input (length input + 1) (start s answers popped)) (run-at s 0 0 25 answers popped)) e)
