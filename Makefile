@@ -2,13 +2,18 @@
 # make test   the gate: every crate proved from nothing, every must-fail edit refused, every program's output compared
 # make c-test    the C interface: proves and builds the archive, links a C program with it and compares what it prints
 # make bindings  the Rust crate over the archive: proves and builds the archive, then builds and tests the crate, offline
+# make compare         the reference Rust (ERGO_REFERENCE, or ../shared/docs/src) and this index side by side, under a minute
+# make compare-full    the same with at least 10 million calls and 100,000 histories
+# make compare-sample  the fixed list of the reference's answers, made anew
+# make bench           both sides timed in one run; plots go to docs/
+# make all-checks      the gate, the Rust crate and the short comparison
 # make fmt    the layout of all Rattle and antt files
 
 RT := $(shell command -v rt 2>/dev/null)
 NO_RT := the Rattle kit is missing: no command 'rt' on PATH (expected in /opt/rattle/bin)
 ARCHIVE := target/staticlib/libergo_index.a
 
-.PHONY: run test c-test bindings fmt
+.PHONY: run test c-test bindings compare compare-full compare-sample compare-build bench all-checks fmt
 
 run:
 ifeq ($(RT),)
@@ -49,3 +54,32 @@ ifeq ($(RT),)
 else
 	@rt fmt
 endif
+
+
+CARGO := $(shell command -v cargo 2>/dev/null)
+NO_CARGO := cargo is missing: the comparison builds Rust
+
+compare-build: $(ARCHIVE)
+ifeq ($(CARGO),)
+	@echo "$(NO_CARGO)" >&2; exit 2
+else
+	@cd compare && cargo build --offline --locked --release --quiet
+endif
+
+compare: compare-build
+	@compare/target/release/compare --small
+
+compare-full: compare-build
+	@compare/target/release/compare
+
+compare-sample: compare-build
+	@compare/target/release/compare --sample > target/sample.txt && mv target/sample.txt compare/sample.txt
+
+bench: compare-build
+	@cd compare && target/release/bench ../docs
+
+all-checks:
+	@$(MAKE) test
+	@$(MAKE) c-test
+	@$(MAKE) bindings
+	@$(MAKE) compare

@@ -1,0 +1,97 @@
+//! Digests, row keys and segment rows.
+
+use reference::segment::Segment;
+
+use super::{Id, Kind, HEAD};
+use crate::ffi::*;
+
+pub fn row_key(kind: Kind, parent: &Id, number: i32) -> Id {
+    let mut key = [0; 32];
+    match kind {
+        Kind::Box => unsafe { ergo_index_box_segment_id(parent.as_ptr(), number, key.as_mut_ptr()) },
+        Kind::Tx => unsafe { ergo_index_tx_segment_id(parent.as_ptr(), number, key.as_mut_ptr()) },
+    }
+    key
+}
+
+pub fn blake2b256(input: &[u8]) -> Id {
+    let mut digest = [0; 32];
+    unsafe { ergo_index_blake2b256(input.as_ptr(), input.len(), digest.as_mut_ptr()) };
+    digest
+}
+
+/// Writes a segment at the front of a buffer: the bytes that it took, or the refusal.
+pub fn write_segment(segment: &Segment, out: &mut [u8]) -> Result<usize, u8> {
+    let mut at = 0;
+    let (txs, boxes) = (&segment.txs, &segment.boxes);
+    let code = unsafe {
+        ergo_index_write_segment(
+            txs.as_ptr(),
+            txs.len(),
+            txs.len(),
+            boxes.as_ptr(),
+            boxes.len(),
+            boxes.len(),
+            segment.box_segment_count,
+            segment.tx_segment_count,
+            out.as_mut_ptr(),
+            out.len(),
+            &mut at,
+        )
+    };
+    match code {
+        0 => Ok(at),
+        refused => Err(refused),
+    }
+}
+
+/// Where a row is read to.
+pub struct ReadLists {
+    pub txs: Vec<i64>,
+    pub boxes: Vec<i64>,
+    pub n_txs: usize,
+    pub n_boxes: usize,
+    pub box_segment_count: i32,
+    pub tx_segment_count: i32,
+}
+
+impl Default for ReadLists {
+    fn default() -> Self {
+        Self {
+            txs: vec![0; HEAD],
+            boxes: vec![0; HEAD],
+            n_txs: 0,
+            n_boxes: 0,
+            box_segment_count: 0,
+            tx_segment_count: 0,
+        }
+    }
+}
+
+impl ReadLists {
+    pub fn read_segment(&mut self, row: &[u8]) -> u8 {
+        unsafe {
+            ergo_index_read_persisted_segment(
+                row.as_ptr(),
+                row.len(),
+                self.txs.as_mut_ptr(),
+                self.txs.len(),
+                &mut self.n_txs,
+                self.boxes.as_mut_ptr(),
+                self.boxes.len(),
+                &mut self.n_boxes,
+                &mut self.box_segment_count,
+                &mut self.tx_segment_count,
+            )
+        }
+    }
+
+    pub fn holds(&self, segment: &Segment) -> bool {
+        self.txs[..self.n_txs] == segment.txs
+            && self.boxes[..self.n_boxes] == segment.boxes
+            && self.box_segment_count == segment.box_segment_count
+            && self.tx_segment_count == segment.tx_segment_count
+            && self.txs[self.n_txs..].iter().all(|&n| n == 0)
+            && self.boxes[self.n_boxes..].iter().all(|&n| n == 0)
+    }
+}

@@ -1,0 +1,307 @@
+//! The index's side: owned buffers, and a method for each call of its C interface.
+
+mod balance;
+mod codec;
+
+pub use balance::Balance;
+pub use codec::{blake2b256, row_key, write_segment, ReadLists};
+
+use crate::ffi::*;
+
+pub const HEAD: usize = 512;
+pub const ROW_LIMIT: usize = 10_254;
+pub const RECORD: usize = 10_288;
+pub const ADDRESS_LIMIT: usize = 15_675;
+pub const TOKENS: usize = 128;
+
+pub type Id = [u8; 32];
+
+#[derive(Clone, Copy, PartialEq, Eq, Debug)]
+pub enum Kind {
+    Box,
+    Tx,
+}
+
+#[derive(Clone, Copy, PartialEq, Eq, Debug)]
+pub enum Direction {
+    Spend,
+    Unspend,
+}
+
+#[derive(Clone, PartialEq)]
+pub struct Head {
+    pub len: usize,
+    pub spills: i32,
+    pub numbers: Vec<i64>,
+}
+
+impl Head {
+    pub fn new(numbers: &[i64], spills: i32) -> Self {
+        let mut all = numbers.to_vec();
+        all.resize(HEAD.max(all.len()), 0);
+        Self {
+            len: numbers.len(),
+            spills,
+            numbers: all,
+        }
+    }
+
+    pub fn used(&self) -> &[i64] {
+        &self.numbers[..self.len]
+    }
+}
+
+/// Staged spills or the segments table.
+#[derive(Clone, PartialEq)]
+pub struct Records {
+    pub count: usize,
+    pub capacity: usize,
+    pub bytes: Vec<u8>,
+}
+
+impl Records {
+    pub fn new(capacity: usize) -> Self {
+        Self {
+            count: 0,
+            capacity,
+            bytes: vec![0; capacity * RECORD],
+        }
+    }
+
+    /// Puts a row behind the last record.
+    pub fn push(&mut self, key: &Id, row: &[u8]) {
+        let record = &mut self.bytes[self.count * RECORD..][..RECORD];
+        record.fill(0);
+        record[..32].copy_from_slice(key);
+        record[32..34].copy_from_slice(&(row.len() as u16).to_be_bytes());
+        record[34..34 + row.len()].copy_from_slice(row);
+        self.count += 1;
+    }
+
+    pub fn rows(&self) -> impl Iterator<Item = (&[u8], &[u8])> {
+        self.bytes.chunks_exact(RECORD).take(self.count).map(|record| {
+            let len = usize::from(u16::from_be_bytes([record[32], record[33]]));
+            (&record[..32], &record[34..34 + len])
+        })
+    }
+
+    pub fn holds(&self, key: &Id) -> bool {
+        self.rows().any(|(k, _)| k == key)
+    }
+
+    pub fn full(&self) -> bool {
+        self.count == self.capacity
+    }
+}
+
+/// Deleted spills.
+#[derive(Clone, PartialEq)]
+pub struct Keys {
+    pub count: usize,
+    pub capacity: usize,
+    pub bytes: Vec<u8>,
+}
+
+impl Keys {
+    pub fn new(capacity: usize) -> Self {
+        Self {
+            count: 0,
+            capacity,
+            bytes: vec![0; capacity * 32],
+        }
+    }
+
+    pub fn push(&mut self, key: &Id) {
+        self.bytes[self.count * 32..][..32].copy_from_slice(key);
+        self.count += 1;
+    }
+
+    pub fn keys(&self) -> impl Iterator<Item = &[u8]> {
+        self.bytes.chunks_exact(32).take(self.count)
+    }
+
+    pub fn holds(&self, key: &Id) -> bool {
+        self.keys().any(|k| k == key)
+    }
+
+    pub fn full(&self) -> bool {
+        self.count == self.capacity
+    }
+}
+
+#[derive(Clone, PartialEq)]
+pub struct Lists {
+    pub staged: Records,
+    pub table: Records,
+    pub deleted: Keys,
+}
+
+impl Lists {
+    pub fn new(staged: usize, table: usize, deleted: usize) -> Self {
+        Self {
+            staged: Records::new(staged),
+            table: Records::new(table),
+            deleted: Keys::new(deleted),
+        }
+    }
+
+    pub fn append(&mut self, kind: Kind, parent: &Id, head: &mut Head, number: i64) -> u8 {
+        let call = match kind {
+            Kind::Box => ergo_index_append_box_entry,
+            Kind::Tx => ergo_index_append_tx_entry,
+        };
+        let (h, s) = (&mut head.numbers, &mut self.staged);
+        unsafe {
+            call(
+                parent.as_ptr(),
+                &mut head.len,
+                &mut head.spills,
+                h.as_mut_ptr(),
+                h.len(),
+                number,
+                &mut s.count,
+                s.capacity,
+                s.bytes.as_mut_ptr(),
+                s.bytes.len(),
+            )
+        }
+    }
+
+    pub fn pop(&mut self, kind: Kind, parent: &Id, head: &mut Head) -> Result<i64, u8> {
+        let call = match kind {
+            Kind::Box => ergo_index_pop_box_entry,
+            Kind::Tx => ergo_index_pop_tx_entry,
+        };
+        let (h, s, t, d) = (&mut head.numbers, &mut self.staged, &self.table, &mut self.deleted);
+        let mut number = 0;
+        let code = unsafe {
+            call(
+                parent.as_ptr(),
+                &mut head.len,
+                &mut head.spills,
+                h.as_mut_ptr(),
+                h.len(),
+                &mut s.count,
+                s.capacity,
+                s.bytes.as_mut_ptr(),
+                s.bytes.len(),
+                t.count,
+                t.capacity,
+                t.bytes.as_ptr(),
+                t.bytes.len(),
+                &mut d.count,
+                d.capacity,
+                d.bytes.as_mut_ptr(),
+                d.bytes.len(),
+                &mut number,
+            )
+        };
+        match code {
+            0 => Ok(number),
+            refused => Err(refused),
+        }
+    }
+
+    pub fn flip(&mut self, direction: Direction, parent: &Id, head: &mut Head, target: i64) -> u8 {
+        let call = match direction {
+            Direction::Spend => ergo_index_flip_box_segment_entry,
+            Direction::Unspend => ergo_index_unflip_box_segment_entry,
+        };
+        let (h, s, t) = (&mut head.numbers, &mut self.staged, &self.table);
+        unsafe {
+            call(
+                parent.as_ptr(),
+                head.len,
+                head.spills,
+                h.as_mut_ptr(),
+                h.len(),
+                target,
+                &mut s.count,
+                s.capacity,
+                s.bytes.as_mut_ptr(),
+                s.bytes.len(),
+                t.count,
+                t.capacity,
+                t.bytes.as_ptr(),
+                t.bytes.len(),
+            )
+        }
+    }
+
+    /// Unspent and spent entries.
+    pub fn tally(&self, parent: &Id, head: &Head) -> Result<(usize, usize), u8> {
+        let (h, s, t) = (&head.numbers, &self.staged, &self.table);
+        let (mut unspent, mut spent) = (0, 0);
+        let code = unsafe {
+            ergo_index_tally(
+                parent.as_ptr(),
+                head.len,
+                head.spills,
+                h.as_ptr(),
+                h.len(),
+                s.count,
+                s.capacity,
+                s.bytes.as_ptr(),
+                s.bytes.len(),
+                t.count,
+                t.capacity,
+                t.bytes.as_ptr(),
+                t.bytes.len(),
+                &mut unspent,
+                &mut spent,
+            )
+        };
+        match code {
+            0 => Ok((unspent, spent)),
+            refused => Err(refused),
+        }
+    }
+
+    pub fn flush(&mut self) -> u8 {
+        let (s, t, d) = (&mut self.staged, &mut self.table, &mut self.deleted);
+        unsafe {
+            ergo_index_flush_staged_spills(
+                &mut s.count,
+                s.capacity,
+                s.bytes.as_mut_ptr(),
+                s.bytes.len(),
+                &mut t.count,
+                t.capacity,
+                t.bytes.as_mut_ptr(),
+                t.bytes.len(),
+                &mut d.count,
+                d.capacity,
+                d.bytes.as_mut_ptr(),
+                d.bytes.len(),
+            )
+        }
+    }
+
+    /// The row under a key.
+    pub fn inspect(&self, key: &Id) -> Result<Option<&[u8]>, u8> {
+        let (s, t) = (&self.staged, &self.table);
+        let (mut list, mut offset, mut length) = (0, 0, 0);
+        let code = unsafe {
+            ergo_index_inspect_spill(
+                s.count,
+                s.capacity,
+                s.bytes.as_ptr(),
+                s.bytes.len(),
+                t.count,
+                t.capacity,
+                t.bytes.as_ptr(),
+                t.bytes.len(),
+                key.as_ptr(),
+                &mut list,
+                &mut offset,
+                &mut length,
+            )
+        };
+        match (code, list) {
+            (0, 1) => Ok(Some(&s.bytes[offset..offset + length])),
+            (0, 2) => Ok(Some(&t.bytes[offset..offset + length])),
+            (0, _) => Ok(None),
+            (refused, _) => Err(refused),
+        }
+    }
+}

@@ -1,0 +1,13 @@
+//! What the comparison and the benchmarks share: both sides, inputs, and the report.
+
+pub mod call;
+pub mod checks;
+pub mod codes;
+pub mod ffi;
+pub mod hashlib;
+pub mod index;
+pub mod measure;
+pub mod random;
+pub mod report;
+pub mod sample;
+pub mod sides;
