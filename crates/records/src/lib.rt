@@ -366,11 +366,14 @@ fn keys_differ_many(list: &[u8], size: usize, count: usize) -> bool
     keys_differ_chained(list, size, count, &mut first, &mut link)
 }
 
-// Whether no key stands twice. The time is about linear in the count up to 8,192 records, as long as keys are spread evenly.
+// Whether no key stands twice. The time is about linear in the count up to 8,192 records, as long as keys are spread evenly; a few are compared in pairs.
 pub fn keys_differ(list: &[u8], size: usize, count: usize) -> bool
     requires { ⌜ (32 ≤ size) × (count * size ≤ length (now list)) ⌝ }
     ensures { λ r. ⌜ r ≡ distinct (keys size count (now (list .entry))) ⌝ }
 {
+    if count <= 8 {
+        return keys_differ_pairwise(list, size, count);
+    }
     if count <= 128 {
         return keys_differ_few(list, size, count);
     }
