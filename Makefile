@@ -1,4 +1,4 @@
-# make run    the main job on a sample
+# make run    proves the call runner and runs it on a sample history that forks across a full row
 # make test   the gate: every crate proved from nothing, every must-fail edit refused, every program's output compared
 # make c-test    the C interface: proves and builds the archive, links a C program with it and compares what it prints
 # make bindings  the Rust crate over the archive: proves and builds the archive, then builds and tests the crate, offline
@@ -19,8 +19,8 @@ run:
 ifeq ($(RT),)
 	@echo "$(NO_RT)" >&2; exit 2
 else
-	@mkdir -p target; rt check row_keys > target/run.log 2>&1 || { tail -n 20 target/run.log >&2; exit 1; }
-	@target/bin/row_keys
+	@mkdir -p target; rt check call_runner > target/run.log 2>&1 || { tail -n 20 target/run.log >&2; exit 1; }
+	@target/bin/call_runner < sample/fork.calls
 endif
 
 test:

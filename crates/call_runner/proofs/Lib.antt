@@ -1,0 +1,3 @@
+-- Laws and proofs of `call_runner`.
+pub mod LineRoom
+pub mod RunRoom

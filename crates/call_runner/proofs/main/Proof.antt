@@ -1,0 +1,89 @@
+-- The measure is the turns left. A turn makes at most 1,024 calls, so that calls made and calls to come stay below 2^63.
+use Prim.Native.Nat.{_+_, _*_, _-_, _≤_}
+use native.Mathlib.Omega.{arith}
+use borrow.Author.Needs.{needs}
+use Rattle.call_runner.proofs.main.Statement.{statement}
+use Rattle.call_runner.proofs.main.Tie as tie
+
+abbrev Inv-loop : tie.InvT-loop
+Inv-loop input₀ out₀ ids₀ numbers₀ lengths₀ spills₀ staged₀ table₀ deleted₀ answers₀ popped₀ s₀ turns₀ input out ids numbers lengths spills staged table deleted answers popped s turns =
+    (s .at ≤ s .have) × (s .have ≤ 65536) × (s .made + turns * 1024 ≤ 9223372036854775808)
+
+abbrev μ-loop : tie.MeasureT-loop
+μ-loop input₀ out₀ ids₀ numbers₀ lengths₀ spills₀ staged₀ table₀ deleted₀ answers₀ popped₀ s₀ turns₀ input out ids numbers lengths spills staged table deleted answers popped s turns =
+    turns
+
+large-buffer-requires : tie.Need-large-buffer-requires Inv-loop μ-loop
+large-buffer-requires c κs = search needs
+
+large-buffer-requires-2 : tie.Need-large-buffer-requires-2 Inv-loop μ-loop
+large-buffer-requires-2 c κs = search needs
+
+parent-ids-requires : tie.Need-parent-ids-requires Inv-loop μ-loop
+parent-ids-requires c κs = search needs
+
+start-requires : tie.Need-start-requires Inv-loop μ-loop
+start-requires c κs = search needs
+
+loop-holds : tie.Need-loop-holds Inv-loop μ-loop
+loop-holds c = omega arith
+
+turn-requires : tie.Need-turn-requires Inv-loop μ-loop
+turn-requires c κs = search needs
+
+goes-on-requires : tie.Need-goes-on-requires Inv-loop μ-loop
+goes-on-requires c κs = search needs
+
+sub-turns : tie.Need-sub-turns Inv-loop μ-loop
+sub-turns c = omega arith
+
+loop-less : tie.Need-loop-less Inv-loop μ-loop
+loop-less c = omega arith
+
+loop-again : tie.Need-loop-again Inv-loop μ-loop
+loop-again c =
+    let t = c .before .before .turn in
+    let test = c .before .before .before .before .before .before .before .before .before .before .before .before .before .before .loop-test in
+    let l = c .before .before .before .before .before .before .before .before .before .before .before .before .before .before .before .loop in
+    let e : t .result .made ≤ l .s .made + 1024 = t .ensures .2 in
+    let few : t .result .made + (l .turns - 1) * 1024 ≤ 9223372036854775808 = omega (arith, e, l .inv .2, test .taken) in
+    (t .ensures .0, t .ensures .1, few)
+
+loop-less-2 : tie.Need-loop-less-2 Inv-loop μ-loop
+loop-less-2 c = omega arith
+
+loop-again-2 : tie.Need-loop-again-2 Inv-loop μ-loop
+loop-again-2 c =
+    let t = c .before .before .turn in
+    let test = c .before .before .before .before .before .before .before .before .before .before .before .before .before .before .loop-test in
+    let l = c .before .before .before .before .before .before .before .before .before .before .before .before .before .before .before .loop in
+    let e : t .result .made ≤ l .s .made + 1024 = t .ensures .2 in
+    let few : t .result .made + 0 * 1024 ≤ 9223372036854775808 = omega (arith, e, l .inv .2, test .taken) in
+    (t .ensures .0, t .ensures .1, few)
+
+finish-requires : tie.Need-finish-requires Inv-loop μ-loop
+finish-requires c κs = search needs
+
+returns : tie.Need-returns Inv-loop μ-loop
+returns c = search needs
+
+pub main-spec : {M : Type 1} → statement M
+main-spec =
+    tie.close
+    (tie.spec
+    Inv-loop
+    μ-loop
+    large-buffer-requires
+    large-buffer-requires-2
+    parent-ids-requires
+    start-requires
+    loop-holds
+    turn-requires
+    goes-on-requires
+    sub-turns
+    loop-less
+    loop-again
+    loop-less-2
+    loop-again-2
+    finish-requires
+    returns)
