@@ -57,6 +57,7 @@ extern "C" {
 #define ERGO_INDEX_UNDO_ENTRY_TAG 28             /* an undo entry's tag is neither 00 nor 01 */
 #define ERGO_INDEX_UNDO_ENTRY_NUMBERS_CUT 29     /* an undo entry ends inside its numbers */
 #define ERGO_INDEX_UNDO_ENTRY_LEFT_OVER 30       /* bytes are left over behind an undo entry */
+#define ERGO_INDEX_UNKNOWN_CALL 31               /* a call of a batch is unknown */
 #define ERGO_INDEX_OUTPUT_TOO_SHORT 32           /* the output is too short */
 
 /* ---- sizes */
@@ -66,6 +67,10 @@ extern "C" {
 #define ERGO_INDEX_KEY_SIZE 32         /* bytes of a row key, a token id, a parent id */
 #define ERGO_INDEX_ADDRESS_LIMIT 15675 /* bytes of the longest address record */
 #define ERGO_INDEX_MAX_TOKENS 128      /* tokens of a balance */
+#define ERGO_INDEX_PARENT_IDS 4128     /* bytes of a parent's block in a batch: its id, then the ids of 128 tokens */
+#define ERGO_INDEX_PARENT_NUMBERS 1153 /* numbers of its block: 512 places of boxes, 512 of transactions, 128 token amounts, the nanoErgs */
+#define ERGO_INDEX_PARENT_LENGTHS 3    /* lengths of its block: of the head of boxes, of the head of transactions, and the number of tokens */
+#define ERGO_INDEX_PARENT_SPILLS 2     /* spill counts of its block: of boxes, of transactions */
 
 /* ---- the segment buffer */
 
@@ -120,6 +125,29 @@ uint8_t ergo_index_tally(const uint8_t parent[32], size_t len, int32_t spills, c
 uint8_t ergo_index_flush_staged_spills(size_t *staged_count, size_t staged_capacity, uint8_t *staged, size_t staged_len,
                                        size_t *table_count, size_t table_capacity, uint8_t *table, size_t table_len,
                                        size_t *deleted_count, size_t deleted_capacity, uint8_t *deleted, size_t deleted_len);
+
+/* ---- the batch */
+
+/* Tests 25 once, then makes the calls of the input from its front, over the state of so many parents. Parent p has block p of ids, numbers, lengths and
+ * spills (ERGO_INDEX_PARENT_*); all share the three lists.
+ * A call is a byte of kind and a body; numbers are 8 bytes, signed, high byte first:
+ *   1 append box, 2 append transaction, 3 spend, 4 unspend   a parent byte, the number
+ *   5 pop box, 6 pop transaction                             a parent byte
+ *   7 flush                                                  nothing
+ *   8 credit, 9 debit                                        a parent byte, nanoErgs, a token byte (the id is that byte 32 times), its amount
+ * Call i answers as its single function: its refusal or 0 at answers[2 * i], 1 at answers[2 * i + 1] where a number was popped and else 0, and that
+ * number or 0 at popped[i]. A call that is refused changes nothing else, and the next one is made.
+ * *at is the byte behind the last call that was made, *made the number of calls made, *end why there was no further one: 0 no room for another answer,
+ * 1 the end of the input, 2 the input ends inside a call, 31 no call stands there (unknown kind, or a parent that is not below parents).
+ * Refusals: 25 (a buffer too short for the parents, a head above 512, more than 128 tokens, the three lists). The result is 31 if *end is: the calls
+ * before *at were made, and answered as above.
+ * Changes: ids, numbers, lengths, spills, all three counts and lists, answers, popped, *at, *made, *end. */
+uint8_t ergo_index_run_calls(const uint8_t *input, size_t input_len, size_t parents, uint8_t *ids, size_t ids_len, int64_t *numbers, size_t numbers_len,
+                             size_t *lengths, size_t lengths_len, int32_t *spills, size_t spills_len,
+                             size_t *staged_count, size_t staged_capacity, uint8_t *staged, size_t staged_len,
+                             size_t *table_count, size_t table_capacity, uint8_t *table, size_t table_len,
+                             size_t *deleted_count, size_t deleted_capacity, uint8_t *deleted, size_t deleted_len,
+                             uint8_t *answers, size_t answers_len, int64_t *popped, size_t popped_len, size_t *at, size_t *made, uint8_t *end);
 
 /* ---- spill rows */
 

@@ -1,5 +1,5 @@
 /* One parent's history over the C interface: 513 appends, a spend in the row that spilled, a flush, the unspend, and pops across the row; then a
- * balance, an address record and an undo entry. Every answer is asserted; the lines that are printed are compared with tests/c/history.stdout. */
+ * balance, an address record, a batch and an undo entry. Every answer is asserted; the lines that are printed are compared with tests/c/history.stdout. */
 #include "ergo_index.h"
 
 #include <stdio.h>
@@ -188,6 +188,40 @@ static void balances_and_records(void) {
     EXPECT(held == 0 && nanos == 0 && held_ids[0] == 0 && held_amounts[0] == 0);
 }
 
+/* A batch over two parents: appends, a spend, a credit and pops; then each way in which reading ends, and a refused state. */
+static void batch(void) {
+    static uint8_t ids[2 * ERGO_INDEX_PARENT_IDS];
+    static int64_t numbers[2 * ERGO_INDEX_PARENT_NUMBERS];
+    static size_t lengths[2 * ERGO_INDEX_PARENT_LENGTHS];
+    static int32_t spills[2 * ERGO_INDEX_PARENT_SPILLS];
+    static const uint8_t calls[] = {1, 0, 0, 0, 0, 0, 0, 0, 0, 5, 3, 0, 0, 0, 0, 0, 0, 0, 0, 5, 3, 0, 0, 0, 0, 0, 0, 0, 0, 6, 5, 0,
+                                    2, 1, 0, 0, 0, 0, 0, 0, 0, 9, 8, 1, 0, 0, 0, 0, 0, 0, 0, 2, 4, 0, 0, 0, 0, 0, 0, 0, 7, 7, 5, 2};
+    uint8_t answers[14], end = 9;
+    int64_t popped[7];
+    size_t at = 99, made = 99;
+
+#define RUN(from, to, room)                                                                                                         \
+    ergo_index_run_calls(calls + (from), (to) - (from), 2, ids, sizeof ids, numbers, 2 * ERGO_INDEX_PARENT_NUMBERS, lengths,        \
+                         2 * ERGO_INDEX_PARENT_LENGTHS, spills, 2 * ERGO_INDEX_PARENT_SPILLS, &staged.count, CAPACITY, staged.bytes, \
+                         sizeof staged.bytes, &table.count, CAPACITY, table.bytes, sizeof table.bytes, &deleted.count, CAPACITY,    \
+                         deleted.bytes, sizeof deleted.bytes, answers, 2 * (room), popped, (room), &at, &made, &end)
+
+    lengths[3] = 513;
+    EXPECT(RUN(0, sizeof calls, 7) == ERGO_INDEX_BUFFERS && at == 99 && made == 99 && end == 9 && lengths[0] == 0 && lengths[3] == 513);
+    lengths[3] = 0;
+    EXPECT(RUN(0, 35, 7) == ERGO_INDEX_ACCEPTED && at == 32 && made == 4 && end == 2 && lengths[0] == 0);
+    EXPECT(answers[0] == 0 && answers[2] == 0 && answers[4] == ERGO_INDEX_TARGET_NOT_SEEN && answers[5] == 0);
+    EXPECT(answers[6] == 0 && answers[7] == 1 && popped[3] == -5);
+    EXPECT(RUN(0, sizeof calls, 2) == ERGO_INDEX_ACCEPTED && at == 20 && made == 2 && end == 0 && lengths[0] == 1 && numbers[0] == -5);
+    EXPECT(RUN(20, sizeof calls, 7) == ERGO_INDEX_UNKNOWN_CALL && at == sizeof calls - 22 && made == 5 && end == 31);
+    EXPECT(lengths[0] == 0 && lengths[4] == 1 && numbers[ERGO_INDEX_PARENT_NUMBERS + 512] == 9);
+    EXPECT(lengths[5] == 1 && numbers[2 * ERGO_INDEX_PARENT_NUMBERS - 1] == 2 && numbers[ERGO_INDEX_PARENT_NUMBERS + 1024] == 7);
+    EXPECT(ids[ERGO_INDEX_PARENT_IDS + 32] == 4 && ids[ERGO_INDEX_PARENT_IDS + 63] == 4);
+    EXPECT(RUN(sizeof calls - 3, sizeof calls - 2, 7) == ERGO_INDEX_ACCEPTED && at == 1 && made == 1 && end == 1);
+    printf("batch: ok\n");
+#undef RUN
+}
+
 static void codecs(void) {
     static const int64_t one[1] = {1}, minus_one[1] = {-1};
     static const uint8_t row[6] = {2, 2, 2, 1, 0, 2};
@@ -232,6 +266,7 @@ static void codecs(void) {
 int main(void) {
     history();
     balances_and_records();
+    batch();
     codecs();
     printf("ok\n");
     return 0;

@@ -3,7 +3,7 @@
 //! Every call of this crate runs a function of `libergo_index.a`, which is proved to answer as its definition says for every input, to stay inside the
 //! buffers that it borrows and to end. This crate adds owned buffers, types for numbers and refusals, and nothing else.
 //!
-//! A call that is refused changes nothing and answers a [`Refusal`], whose number is [`Refusal::code`].
+//! A call that is refused changes nothing and answers a [`Refusal`], whose number is [`Refusal::code`]. [`Batch`] makes many calls at once.
 //!
 //! ```
 //! use ergo_index::*;
@@ -36,6 +36,7 @@
 #![deny(unsafe_op_in_unsafe_fn)]
 
 mod balance;
+mod batch;
 mod codec;
 mod ffi;
 mod lists;
@@ -44,6 +45,7 @@ mod refusal;
 mod segment;
 
 pub use balance::{statement_milli_ergs, Balance, Token, MAX_TOKENS};
+pub use batch::{Batch, BatchAnswer, MAX_PARENTS};
 pub use codec::{blake2b256, box_segment_id, tx_segment_id, VlqReader, VlqWriter};
 pub use lists::{flush_staged_spills, inspect_spill, DeletedSpills, Key, SegmentTable, Spill, StagedSpills, KEY_SIZE, RECORD_SIZE, ROW_LIMIT};
 pub use records::{prune_below_window, IndexedAddress, UndoEntry, ADDRESS_LIMIT};

@@ -2,6 +2,7 @@
 // borrowed outs. A refused call leaves every out and every borrowed element as it was.
 pub mod answers;
 pub mod balances;
+pub mod batch;
 pub mod buffer;
 pub mod inspection;
 pub mod keys;

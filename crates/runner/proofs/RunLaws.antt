@@ -12,7 +12,7 @@ use borrow.Author.Tests.{leb-true, ltb-true, eq-eqb, ne-eqb}
 use Rattle.segment_id.specs.declared.Kind.{Kind}
 use Rattle.segment_id.specs.declared.Kind.the-variants.{Box, Tx}
 use Rattle.records.proofs.CheckLaws.{and-left, and-right}
-use Rattle.buffer_core.specs.Edition.{edition-1}
+use Rattle.buffer_core.specs.Edition.{Edition, edition-1}
 use Rattle.buffer_core.specs.Pop.{lists-ok}
 use Rattle.calls.specs.Calls.{call-at, size-of, end-of}
 use Rattle.calls.specs.declared.Call.{Call}
@@ -132,10 +132,10 @@ module _ (parents : ℕ) (input : List ℕ) where
       ap (λ (j : ℕ). runs edition-1 parents input j (turn-of edition-1 parents input r)) p
       ∙ sym (ap (λ (b : Bool). cond b (runs edition-1 parents input n (turn-of edition-1 parents input r)) r) e)
 
-  pub runs-stop : (n : ℕ) (r : Run) → may-go r ≡ false → r ≡ runs edition-1 parents input n r
+  pub runs-stop : (E : Edition) (n : ℕ) (r : Run) → may-go r ≡ false → r ≡ runs E parents input n r
   unfolding runs
-  runs-stop zero r e = refl
-  runs-stop (suc n) r e = sym (ap (λ (b : Bool). cond b (runs edition-1 parents input n (turn-of edition-1 parents input r)) r) e)
+  runs-stop E zero r e = refl
+  runs-stop E (suc n) r e = sym (ap (λ (b : Bool). cond b (runs E parents input n (turn-of E parents input r)) r) e)
 
   pub runs-end : (n : ℕ) (r : Run) → n ≤ 0 → r ≡ runs edition-1 parents input n r
   unfolding runs
@@ -188,7 +188,7 @@ module _ (sizes : Type 0) (parents : ℕ) (input : List ℕ) where
         }
 
     pub kept-stop : may-go r ≡ false → r ≡ runs edition-1 parents input (length input + 1) r₀
-    kept-stop e = runs-stop parents input left r e ∙ k .rest
+    kept-stop e = runs-stop parents input edition-1 left r e ∙ k .rest
 
     pub kept-end : left ≤ 0 → r ≡ runs edition-1 parents input (length input + 1) r₀
     kept-end h = runs-end parents input left r h ∙ k .rest

@@ -1,0 +1,251 @@
+-- The runner's state goes on holding what the machine of the fork-undo theorem holds, so that the theorem speaks of what the runner does.
+use mathlib.Core.Path.{_≡_, sym, ap, _∙_, subst}
+use mathlib.Core.Logic.{inl, inr}
+use mathlib.Core.Bool.{Bool, true, false}
+use mathlib.Core.List.{List, [], _∷_, _++_, map}
+use Prim.Native.Nat.{ℕ, _<_, _≤_}
+use lib.IntN.{ℤ, natAbs}
+use lib.ListN.{take}
+use Rattle.balance.specs.declared.Balance.{Balance}
+use Rattle.buffer_core.specs.declared.Direction.{Direction}
+use Rattle.buffer_core.specs.declared.Direction.the-variants.{Spend, Unspend}
+use Rattle.buffer_core.specs.Edition.{edition-1}
+use Rattle.buffer_core.specs.Pop.{Lists}
+use Rattle.buffer_core.specs.Spills.{sources, spill-read}
+use Rattle.calls.specs.declared.Call.{Call}
+use Rattle.calls.specs.declared.Call.the-variants.{Append, Flip, Pop, Flush, Change}
+use Rattle.call_steps.specs.State.{State, Ready}
+use Rattle.call_steps.specs.Steps.{Stepping, accepted, number-popped, step-of}
+use Rattle.call_steps.specs.Steps as steps
+use Rattle.call_steps.proofs.KeepLaws.{step-kept}
+use Rattle.ledger.specs.Ledger.{Parent, parent-dec, Series, boxes, parentOf, Tokens, ite, append, spend, credit, debit, absℤ, amount-in}
+use Rattle.ledger.specs.Ledger as ledger
+use Rattle.ledger.specs.Run.{Res, done, refused, Step, call, undo, flush, flat, negs}
+use Rattle.ledger.specs.Run as Run
+use Rattle.balance_laws.specs.Calls.{tokens-in}
+use Rattle.history.specs.Index.{Index, kind-of, to-res, entries-of, do-append, do-pop, do-flip, do-flush}
+use Rattle.history.specs.Machine.{Borrowed}
+use Rattle.history.specs.ForkUndo.{Places}
+use Rattle.history.proofs.ForkUndoLaw.{fork-undo}
+use Rattle.history_runs.specs.View.{ids-in, view, balance-in, Same, SamePop, SameBalance, changed, one-token}
+use Rattle.history_runs.specs.Runs.{made, says, Changes, Makes, Unmakes, UnmakesNewest, M, Holds, Tells, Spells, UndoSaid, StepSaid, StepsSaid, Agrees}
+use Rattle.history_runs.proofs.ViewLaws.{append-same, pop-same, flip-same, flush-same}
+use Rattle.history_runs.proofs.BalanceLaws.{change-same}
+use Rattle.history_runs.proofs.NearLaws.{Near, NearRes, NearPop, append-near, pop-near, flip-near, flush-near}
+
+module _ (parents : ℕ) (ids : Parent → List ℕ) (B : Borrowed edition-1) (places : Places) where
+  abbrev W : Run.Machine
+  W = M parents ids B places
+
+  abbrev H : Run.State W → State → Type 0
+  H σ s = Holds parents ids B places σ s
+
+  -- what the runner says and holds after a call, an undo or a flush
+  abbrev After : Run.State W → Stepping → Res (Run.State W) → Type 0
+  After σ x (done τ) = (x .said ≡ accepted) × H τ (x .after)
+  After σ x (refused k) = (x .said ≡ steps.refused k) × H σ (x .after)
+
+  abbrev AfterUndo : Run.State W → Stepping → Res (Run.Undone W) → Type 0
+  AfterUndo σ x (done u) = (x .said ≡ says (u .answer)) × H (u .after) (x .after)
+  AfterUndo σ x (refused k) = (x .said ≡ steps.refused k) × H σ (x .after)
+
+  quiet-after : (σ : Run.State W) (x : Stepping) (R : Res (Run.State W)) → After σ x R → AfterUndo σ x (Run.quiet W R)
+  quiet-after σ x (done τ) a = a
+  quiet-after σ x (refused k) a = a
+
+  module _ (σ : Run.State W) (s : State) (h : H σ s) where
+    near : Near parents (view s) (σ .store)
+    near = record { parts = h .parts; lists = h .lists }
+
+    store-after : (x : Stepping) → Ready parents (x .after) → (R Q : Res Index) → Same s x R → NearRes parents R Q → After σ x (Run.withStore W σ Q)
+    store-after x r (done b) (done c) e n =
+        let v : view (x .after) ≡ b = e .1 in
+        let w : balance-in (x .after) ≡ balance-in s = e .2 in
+        let i : ids-in (x .after) ≡ ids-in s = e .3 in (
+          e .0,
+          record {
+            ready = r;
+            names = λ p l. ap (λ (f : Parent → List ℕ). f p) i ∙ h .names p l;
+            parts = λ ch l. ap (λ (y : Index). y .parts ch) v ∙ n .parts ch l;
+            lists = ap (λ (y : Index). y .lists) v ∙ n .lists;
+            balances = λ p l. ap (λ (f : Parent → Balance). f p) w ∙ h .balances p l;
+          },
+        )
+    store-after x r (done b) (refused k) e n = absurd n
+    store-after x r (refused j) (done c) e n = absurd n
+    store-after x r (refused j) (refused k) e n = (e .0 ∙ ap steps.refused n, subst (H σ) (sym (e .1)) h)
+
+    pop-after : (x : Stepping) → Ready parents (x .after) → (R Q : Res (Run.Popped Index)) → SamePop s x R → NearPop parents R Q → AfterUndo σ x (Run.popped W σ Q)
+    pop-after x r (done b) (done c) e n =
+        let v : view (x .after) ≡ b .left = e .1 in
+        let w : balance-in (x .after) ≡ balance-in s = e .2 in
+        let i : ids-in (x .after) ≡ ids-in s = e .3 in (
+          e .0 ∙ ap number-popped (n .0),
+          record {
+            ready = r;
+            names = λ p l. ap (λ (f : Parent → List ℕ). f p) i ∙ h .names p l;
+            parts = λ ch l. ap (λ (y : Index). y .parts ch) v ∙ n .1 .parts ch l;
+            lists = ap (λ (y : Index). y .lists) v ∙ n .1 .lists;
+            balances = λ p l. ap (λ (f : Parent → Balance). f p) w ∙ h .balances p l;
+          },
+        )
+    pop-after x r (done b) (refused k) e n = absurd n
+    pop-after x r (refused j) (done c) e n = absurd n
+    pop-after x r (refused j) (refused k) e n = (e .0 ∙ ap steps.refused n, subst (H σ) (sym (e .1)) h)
+
+    balance-after : (p : Parent) (x : Stepping) → Ready parents (x .after) → (R : Res Balance) → SameBalance s p x R → After σ x (Run.withBal W σ p R)
+    balance-after p x r (done b) e =
+        let w = e .1 in
+        let v : view (x .after) ≡ view s = e .2 in
+        let i : ids-in (x .after) ≡ ids-in s = e .3 in (
+          e .0,
+          record {
+            ready = r;
+            names = λ p l. ap (λ (f : Parent → List ℕ). f p) i ∙ h .names p l;
+            parts = λ ch l. ap (λ (y : Index). y .parts ch) v ∙ h .parts ch l;
+            lists = ap (λ (y : Index). y .lists) v ∙ h .lists;
+            balances = λ q l. ap (λ (f : Parent → Balance). f q) w ∙ ap (λ (y : Balance). ite (parent-dec p q) b y) (h .balances q l);
+          },
+        )
+    balance-after p x r (refused k) e = (e .0, subst (H σ) (sym (e .1)) h)
+
+    changes : (adding : Bool) (p : Parent) (n : ℤ) (ts : Tokens) (x : Call) → Changes parents adding p n ts x
+        → After σ (step-of edition-1 x s) (Run.withBal W σ p (changed adding (σ .bals p) n ts))
+    changes adding p n ts x c =
+        let y = Change adding p n (c .token) (c .amount) in
+        let a = balance-after p (step-of edition-1 y s) (step-kept parents s (h .ready) y (c .among)) (changed adding (balance-in s p) n (one-token (c .token) (c .amount)))
+        (change-same parents s (h .ready) adding p (c .among) n (c .token) (c .amount) (c .small)) in
+        subst (λ (z : Call). After σ (step-of edition-1 z s) (Run.withBal W σ p (changed adding (σ .bals p) n ts))) (sym (c .is))
+        (subst (λ (R : Res Balance). After σ (step-of edition-1 y s) (Run.withBal W σ p R)) (λ i. changed adding (h .balances p (c .among) i) n (sym (c .one) i)) a)
+
+    abbrev did : Call → Stepping
+    did x = step-of edition-1 x s
+
+    appends : (ch : Series) → parentOf ch < parents → (n : ℤ) → After σ (did (Append (kind-of ch) (parentOf ch) n)) (Run.runCall W σ (append ch n))
+    appends ch l n =
+        let x = Append (kind-of ch) (parentOf ch) n in
+        store-after (did x) (step-kept parents s (h .ready) x l) (do-append edition-1 (ids-in s) (view s) ch n) (do-append edition-1 ids (σ .store) ch n)
+        (append-same parents s (h .ready) ch l n) (append-near parents (ids-in s) ids (view s) (σ .store) near ch l (h .names (parentOf ch) l) n)
+
+    flips : (d : Direction) (p : Parent) → p < parents → (t : ℤ) → After σ (did (Flip d p t)) (Run.withStore W σ (do-flip edition-1 ids d (σ .store) p t))
+    flips d p l t =
+        store-after (did (Flip d p t)) (step-kept parents s (h .ready) (Flip d p t) l) (do-flip edition-1 (ids-in s) d (view s) p t)
+        (do-flip edition-1 ids d (σ .store) p t) (flip-same parents s (h .ready) d p l t)
+        (flip-near parents (ids-in s) ids (view s) (σ .store) near p l (h .names p l) d t)
+
+    pops : (ch : Series) → parentOf ch < parents → (n : ℤ) → AfterUndo σ (did (Pop (kind-of ch) (parentOf ch))) (Run.runUndo W σ (append ch n))
+    pops ch l n =
+        let x = Pop (kind-of ch) (parentOf ch) in
+        pop-after (did x) (step-kept parents s (h .ready) x l) (do-pop edition-1 (ids-in s) (view s) ch) (do-pop edition-1 ids (σ .store) ch)
+        (pop-same parents s (h .ready) ch l) (pop-near parents (ids-in s) ids (view s) (σ .store) near ch l (h .names (parentOf ch) l))
+
+    pub call-after : (a : ledger.Call) (x : Call) → Makes parents a x → After σ (did x) (Run.runCall W σ a)
+    call-after (append ch n) x m = subst (λ (z : Call). After σ (did z) (Run.runCall W σ (append ch n))) (sym (m .1)) (appends ch (m .0) n)
+    call-after (spend p t) x m = subst (λ (z : Call). After σ (did z) (Run.runCall W σ (spend p t))) (sym (m .1)) (flips Spend p (m .0) t)
+    call-after (credit p n ts) x m = changes true p n ts x m
+    call-after (debit p n ts) x m = changes false p n ts x m
+
+    pub undo-after : (a : ledger.Call) (x : Call) → Unmakes parents a x → AfterUndo σ (did x) (Run.runUndo W σ a)
+    undo-after (append ch n) x m = subst (λ (z : Call). AfterUndo σ (did z) (Run.runUndo W σ (append ch n))) (sym (m .1)) (pops ch (m .0) n)
+    undo-after (spend p t) x m =
+        subst (λ (z : Call). AfterUndo σ (did z) (Run.runUndo W σ (spend p t))) (sym (m .1))
+        (quiet-after σ (did (Flip Unspend p t)) (Run.withStore W σ (do-flip edition-1 ids Unspend (σ .store) p t)) (flips Unspend p (m .0) t))
+    undo-after (credit p n ts) x m = quiet-after σ (did x) (Run.withBal W σ p (changed false (σ .bals p) n ts)) (changes false p n ts x m)
+    undo-after (debit p n ts) x m = quiet-after σ (did x) (Run.withBal W σ p (changed true (σ .bals p) n ts)) (changes true p n ts x m)
+
+    pub flush-after : After σ (did Flush) (Run.withStore W σ (do-flush edition-1 ids (σ .store)))
+    flush-after =
+        store-after (did Flush) (step-kept parents s (h .ready) Flush tt) (do-flush edition-1 (ids-in s) (view s)) (do-flush edition-1 ids (σ .store)) (flush-same s)
+        (flush-near parents (ids-in s) ids (view s) (σ .store) near)
+
+  -- ---- a step of the list
+
+  call-holds : (c : Run.Conf W) (a : ledger.Call) (x : Stepping) (R : Res (Run.State W)) → After (c .now) x R → H (Run.afterCall W c a R .now) (x .after)
+  call-holds c a x (done τ) e = e .1
+  call-holds c a x (refused k) e = e .1
+
+  undo-holds : (c : Run.Conf W) (cs : List ledger.Call) (x : Stepping) (R : Res (Run.Undone W)) → AfterUndo (c .now) x R → H (Run.afterUndo W c cs R .now) (x .after)
+  undo-holds c cs x (done u) e = e .1
+  undo-holds c cs x (refused k) e = e .1
+
+  flush-holds : (c : Run.Conf W) (x : Stepping) (R : Res (Run.State W)) → After (c .now) x R → H (Run.afterFlush W c R .now) (x .after)
+  flush-holds c x (done τ) e = e .1
+  flush-holds c x (refused k) e = e .1
+
+  newest-holds : (c : Run.Conf W) (s : State) → H (c .now) s → (l : List ledger.Call) (x : Call) → UnmakesNewest parents l x
+      → H (Run.undoNewest W c l .now) (step-of edition-1 x s .after)
+  newest-holds c s h [] x m = absurd m
+  newest-holds c s h (a ∷ cs) x m = undo-holds c cs (step-of edition-1 x s) (Run.runUndo W (c .now) a) (undo-after (c .now) s h a x m)
+
+  pub step-holds : (c : Run.Conf W) (s : State) → H (c .now) s → (t : Step) (x : Call) → Tells parents ids B places c t x
+      → H (Run.step W c t .now) (step-of edition-1 x s .after)
+  step-holds c s h (call a) x m = call-holds c a (step-of edition-1 x s) (Run.runCall W (c .now) a) (call-after (c .now) s h a x m)
+  step-holds c s h undo x m = newest-holds c s h (c .standing) x m
+  step-holds c s h flush x m =
+      subst (λ (z : Call). H (Run.step W c flush .now) (step-of edition-1 z s .after)) (sym m)
+      (flush-holds c (step-of edition-1 Flush s) (Run.withStore W (c .now) (do-flush edition-1 ids (c .now .store))) (flush-after (c .now) s h))
+
+  -- ---- the list
+  pub run-holds : (ts : List Step) (xs : List Call) (c : Run.Conf W) (s : State) → H (c .now) s → Spells parents ids B places c ts xs → H (Run.run W c ts .now) (made xs s)
+  unfolding Spells made Run.run
+  run-holds [] [] c s h m = h
+  run-holds [] (x ∷ xs) c s h m = absurd m
+  run-holds (t ∷ ts) [] c s h m = absurd m
+  run-holds (t ∷ ts) (x ∷ xs) c s h m = run-holds ts xs (Run.step W c t) (step-of edition-1 x s .after) (step-holds c s h t x (m .0)) (m .1)
+
+  -- ---- what an undo says
+  undo-said : (σ : Run.State W) (s : State) → H σ s → (a : ledger.Call) (cs : List ledger.Call) (x : Stepping) (R : Res (Run.Undone W)) → AfterUndo σ x R
+      → Run.UndoAnswer W σ a R → UndoSaid parents ids B places (a ∷ cs) s (x .said)
+  undo-said σ s h a cs x (done u) e k = inl (e .0 ∙ ap says k)
+  undo-said σ s h a cs x (refused n) e (inl k) =
+      inr (inl (e .0 ∙ ap steps.refused (k .0), subst (λ (b : Lists). b .staged-counts .capacity ≤ b .staged-counts .count) (sym (h .lists)) (k .1)))
+  undo-said σ s h a cs x (refused n) e (inr k) =
+      inr (inr (e .0 ∙ ap steps.refused (k .0), subst (λ (b : Lists). b .deleted-counts .capacity ≤ b .deleted-counts .count) (sym (h .lists)) (k .1)))
+
+  newest-said : (c : Run.Conf W) (s : State) → H (c .now) s → (l : List ledger.Call) (x : Call) → UnmakesNewest parents l x → Run.NewestOk W c l
+      → UndoSaid parents ids B places l s (step-of edition-1 x s .said)
+  newest-said c s h [] x m k = tt
+  newest-said c s h (a ∷ cs) x m k = undo-said (c .now) s h a cs (step-of edition-1 x s) (Run.runUndo W (c .now) a) (undo-after (c .now) s h a x m) k
+
+  step-said : (c : Run.Conf W) (s : State) → H (c .now) s → (t : Step) (x : Call) → Tells parents ids B places c t x → Run.StepOk W c t
+      → StepSaid parents ids B places c t s (step-of edition-1 x s .said)
+  step-said c s h (call a) x m k = tt
+  step-said c s h undo x m k = newest-said c s h (c .standing) x m k
+  step-said c s h flush x m k = tt
+
+  pub run-said : (ts : List Step) (xs : List Call) (c : Run.Conf W) (s : State) → H (c .now) s → Spells parents ids B places c ts xs → Run.StepsOk W c ts
+      → StepsSaid parents ids B places c s ts xs
+  unfolding Spells StepsSaid Run.StepsOk
+  run-said [] xs c s h m k = tt
+  run-said (t ∷ ts) [] c s h m k = tt
+  run-said (t ∷ ts) (x ∷ xs) c s h m k =
+      (step-said c s h t x (m .0) (k .0), run-said ts xs (Run.step W c t) (step-of edition-1 x s .after) (step-holds c s h t x (m .0)) (m .1) (k .1))
+
+  -- ---- what the state holds
+  entries-same : (σ : Run.State W) (s : State) → H σ s → (ch : Series) → parentOf ch < parents
+      → entries-of edition-1 (ids-in s) (view s) ch ≡ entries-of edition-1 ids (σ .store) ch
+  entries-same σ s h ch l =
+      let n = h .names (parentOf ch) l in
+      let q = h .parts ch l in
+      let b = h .lists in
+      λ i.
+      flat (λ k. to-res (spill-read edition-1 (kind-of ch) (sources (n i) (b i .staged) (b i .staged-counts .count) (b i .table) (b i .table-counts .count)) k)) (natAbs (q i .head .spills))
+      ++ take (q i .head .len) (q i .places)
+
+  agrees : (c : Run.Conf W) (s : State) → H (c .now) s → Run.Agrees W c → Agrees parents (c .standing) s
+  agrees c s h a =
+      record {
+        numbers = λ ch l. ap (map absℤ) (entries-same (c .now) s h ch l) ∙ a .numbers ch;
+        copies = λ p l n k. ap (negs n) (entries-same (c .now) s h (boxes p) l) ∙ a .copies p n k;
+        nanoErgs = λ p l. ap (λ (b : Balance). b .nanos) (h .balances p l) ∙ a .nanoErgs p;
+        amounts = λ p l t. ap (λ (b : Balance). amount-in (tokens-in b) t) (h .balances p l) ∙ a .amounts p t;
+      }
+
+  -- the fork-undo theorem of what the runner does: from a state that holds what the machine starts with, calls that spell a legal list of steps in which no
+  -- two row keys in use are equal: every undo says what it should, and at the end the state agrees with the standing calls
+  pub fork-undo-runs : (s : State) → H (Run.start W .now) s → (ts : List Step) (xs : List Call) → Spells parents ids B places (Run.start W) ts xs → Run.Legal W (Run.start W) ts
+      → Run.KeysApart W (Run.InUse W (Run.start W) ts)
+      → StepsSaid parents ids B places (Run.start W) s ts xs × Agrees parents (Run.run W (Run.start W) ts .standing) (made xs s)
+  fork-undo-runs s h ts xs m l k =
+      let f = fork-undo ids B places ts l k in
+      (run-said ts xs (Run.start W) s h m (f .0), agrees (Run.run W (Run.start W) ts) (made xs s) (run-holds ts xs (Run.start W) s h m) (f .1))

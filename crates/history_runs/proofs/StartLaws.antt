@@ -1,0 +1,79 @@
+-- The fork-undo theorem of what the runner does, from an empty state.
+use mathlib.Core.Path.{_≡_, refl, sym}
+use mathlib.Core.List.{List}
+use Prim.Native.Nat.{ℕ, _≤_, _<_}
+use native.Mathlib.Omega.{arith}
+use native.Mathlib.Decide.{decLt}
+use lib.IntN.{ℤ, pos}
+use lib.ListN.{length, replicate, length-replicate}
+use Rattle.records.specs.declared.ListCounts.{ListCounts}
+use Rattle.buffer_core.specs.Edition.{edition-1}
+use Rattle.buffer_core.specs.Pop.{lists}
+use Rattle.flush_core.proofs.KeepLaws.{lists-facts}
+use Rattle.calls.specs.declared.Call.{Call}
+use Rattle.call_steps.specs.State.{State}
+use Rattle.call_steps.proofs.KeepLaws.{within}
+use Rattle.ledger.specs.Ledger.{Series, parentOf, ite}
+use Rattle.ledger.specs.Run.{Step}
+use Rattle.ledger.specs.Run as Run
+use Rattle.ledger.proofs.TestLaws.{ite-yes}
+use Rattle.history.specs.Index.{part}
+use Rattle.history.specs.Machine.{Borrowed, none-of}
+use Rattle.history.specs.ForkUndo.{Places}
+use Rattle.history_runs.specs.View.{ids-in, part-in}
+use Rattle.history_runs.specs.Runs.{made, M, Holds, Spells, StepsSaid, Agrees, Empty, lent}
+use Rattle.history_runs.proofs.ViewLaws.{head-long}
+use Rattle.history_runs.proofs.HoldLaws.{fork-undo-runs}
+
+module _ (parents : ℕ) (places : Places) (s : State) (E : Empty parents places s) where
+  pub lent-long : (ch : Series) → 512 ≤ length (lent parents s ch)
+  unfolding ite
+  lent-long ch = by-parent (decLt (parentOf ch) parents)
+    where
+      by-parent : (t : Dec (parentOf ch < parents)) → 512 ≤ length (ite t (part-in s ch .places) (replicate 512 (pos 0)))
+      by-parent (yes h) = omega (arith, head-long s ch (within parents s (E .ready) (parentOf ch) h))
+      by-parent (no h) = omega (arith, length-replicate {A = ℤ} 512 (pos 0))
+
+  -- what the machine of the theorem borrows is what the state lends
+  unfoldable pub borrowed : Borrowed edition-1
+  borrowed =
+      let f = lists-facts (s .lists) (E .ready .listed) in
+      record {
+        table-cap = s .lists .table-counts .capacity;
+        staged-cap = s .lists .staged-counts .capacity;
+        deleted-cap = s .lists .deleted-counts .capacity;
+        places = lent parents s;
+        table = s .lists .table;
+        staged = s .lists .staged;
+        deleted = s .lists .deleted;
+        places-in = lent-long;
+        table-in = f .table .bounds .room;
+        staged-in = f .staged .bounds .room;
+        deleted-in = f .deleted .bounds .room;
+      }
+
+  none : (c : ListCounts) → c .count ≡ 0 → c ≡ none-of (c .capacity)
+  none c e = λ i. record { count = e i; capacity = c .capacity }
+
+  pub start-holds : Holds parents (ids-in s) borrowed places (Run.start (M parents (ids-in s) borrowed places) .now) s
+  unfolding borrowed
+  start-holds =
+      let b = s .lists in
+      record {
+        ready = E .ready;
+        names = λ p h. refl;
+        parts = λ ch h. (λ i. part (E .parts ch h i) (sym (ite-yes (decLt (parentOf ch) parents) (part-in s ch .places) (replicate 512 (pos 0)) h) i));
+        lists = λ i. lists (none (b .staged-counts) (E .staged) i) (b .staged) (none (b .table-counts) (E .table) i) (b .table) (none (b .deleted-counts) (E .deleted) i) (b .deleted);
+        balances = E .balances;
+      }
+
+  -- the machine whose parents' ids and buffers are those of the state
+  abbrev pub W : Run.Machine
+  W = M parents (ids-in s) borrowed places
+
+  -- for every empty state and all calls that spell a legal list of steps in which no two row keys in use are equal: every undo says what it should, and
+  -- afterwards the state holds exactly what the standing calls alone give
+  pub fork-undo-from-empty : (ts : List Step) (xs : List Call) → Spells parents (ids-in s) borrowed places (Run.start W) ts xs → Run.Legal W (Run.start W) ts
+      → Run.KeysApart W (Run.InUse W (Run.start W) ts)
+      → StepsSaid parents (ids-in s) borrowed places (Run.start W) s ts xs × Agrees parents (Run.run W (Run.start W) ts .standing) (made xs s)
+  fork-undo-from-empty = fork-undo-runs parents (ids-in s) borrowed places s start-holds
