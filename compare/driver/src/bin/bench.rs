@@ -293,7 +293,7 @@ fn buffers(curve: &mut Vec<(f64, f64)>) {
 
 /// The runner's program on appends and spends of two parents, if it is built.
 fn runner() {
-    let path = env::var("ERGO_RUNNER").unwrap_or_else(|_| "../target/bin/runner".into());
+    let path = env::var("ERGO_RUNNER").unwrap_or_else(|_| "../target/bin/call_runner".into());
     if !fs::exists(&path).unwrap_or(false) {
         eprintln!("no {path}: the runner is not measured (name it by ERGO_RUNNER)");
         return;
