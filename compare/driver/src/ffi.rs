@@ -33,6 +33,12 @@ interface! {
     fn ergo_index_flush_staged_spills(staged_count: &mut usize, staged_capacity: usize, staged: *mut u8, staged_len: usize,
         table_count: &mut usize, table_capacity: usize, table: *mut u8, table_len: usize,
         deleted_count: &mut usize, deleted_capacity: usize, deleted: *mut u8, deleted_len: usize) -> u8;
+    fn ergo_index_run_calls(input: *const u8, input_len: usize, parents: usize, ids: *mut u8, ids_len: usize, numbers: *mut i64, numbers_len: usize,
+        lengths: *mut usize, lengths_len: usize, spills: *mut i32, spills_len: usize,
+        staged_count: &mut usize, staged_capacity: usize, staged: *mut u8, staged_len: usize,
+        table_count: &mut usize, table_capacity: usize, table: *mut u8, table_len: usize,
+        deleted_count: &mut usize, deleted_capacity: usize, deleted: *mut u8, deleted_len: usize,
+        answers: *mut u8, answers_len: usize, popped: *mut i64, popped_len: usize, at: &mut usize, made: &mut usize, end: &mut u8) -> u8;
     fn ergo_index_inspect_spill(staged_count: usize, staged_capacity: usize, staged: *const u8, staged_len: usize,
         table_count: usize, table_capacity: usize, table: *const u8, table_len: usize, key: *const u8,
         list: &mut u8, offset: &mut usize, length: &mut usize) -> u8;

@@ -10,7 +10,9 @@ use std::time::Instant;
 use std::{env, fs};
 
 use driver::hashlib::Hashlib;
-use driver::index::{blake2b256, row_key, write_segment, Balance, Direction, Id, Kind, Lists, ReadLists, Records, ROW_LIMIT};
+use driver::index::{
+    blake2b256, row_key, write_segment, Balance, Batch, Direction, Head, Id, Kind, Lists, ReadLists, Records, ROW_LIMIT,
+};
 use driver::measure::{alone, both, keep, line, plot, shown, thread_time, Curve, Times, ROUNDS};
 use driver::sides::Sides;
 use reference::address::BalanceInfo;
@@ -93,9 +95,12 @@ fn rows() {
     }
 }
 
+/// Rows that a batch of spends reaches.
+const BATCH_ROWS: i32 = 16;
+
 /// A parent with this many rows of boxes in the table and one number in the head.
 fn history(spills: i32) -> Sides {
-    let mut sides = Sides::new(Lists::new(4, spills as usize, 4));
+    let mut sides = Sides::new(Lists::new(BATCH_ROWS as usize, spills as usize, 4));
     for number in 0..spills {
         let row = row(i64::from(number) * 512 + 1);
         sides.put_row(&row_key(Kind::Box, &PARENT, number), &calls::write_segment(&row));
@@ -136,6 +141,37 @@ fn flips(sides: &mut Sides, target: i64) -> (Times, Times) {
     )
 }
 
+/// All targets spent and then unspent in one batch; what that stages is dropped.
+fn flips_in_batch(sides: &mut Sides, targets: &[i64]) -> (Times, Times) {
+    let Sides {
+        lists,
+        parents,
+        spills,
+        addresses,
+        ..
+    } = sides;
+    let mut batch = Batch::new(&PARENT, &parents[0].boxes);
+    targets.iter().for_each(|target| batch.flip(Direction::Spend, *target));
+    targets.iter().for_each(|target| batch.flip(Direction::Unspend, *target));
+    both(
+        2 * targets.len() as u32,
+        || {
+            batch.run(lists);
+            lists.staged.count = 0;
+        },
+        || {
+            let address = &mut addresses[0];
+            targets
+                .iter()
+                .for_each(|target| spills.flip(address, *target).expect("a spend"));
+            targets
+                .iter()
+                .for_each(|target| spills.unflip(address, *target).expect("an unspend"));
+            spills.staged.clear();
+        },
+    )
+}
+
 fn spends() {
     for count in [64, 4096] {
         let mut sides = history(count);
@@ -144,6 +180,24 @@ fn spends() {
             let (ours, theirs) = flips(&mut sides, target);
             line(&format!("spend or unspend at {count} spills, {name}"), &ours, Some(&theirs));
         }
+        for boxes in [1, 8] {
+            for (name, row) in [
+                ("oldest", 0),
+                ("middle", (count - BATCH_ROWS) / 2),
+                ("newest", count - BATCH_ROWS),
+            ] {
+                let first = i64::from(row) * 512 + 1;
+                let targets: Vec<i64> = (0..i64::from(BATCH_ROWS) * boxes).map(|n| first + n * 512 / boxes).collect();
+                let (ours, theirs) = flips_in_batch(&mut sides, &targets);
+                let name = format!("the same in a batch, {name} 16 rows, boxes of a row: {boxes}");
+                line(&name, &ours, Some(&theirs));
+            }
+        }
+        let targets: Vec<i64> = (last + 1..last + 129).collect();
+        sides.parents[0].boxes = Head::new(&targets, count);
+        sides.addresses[0].segment.boxes.clone_from(&targets);
+        let (ours, theirs) = flips_in_batch(&mut sides, &targets);
+        line("the same in a batch, a head of 128", &ours, Some(&theirs));
     }
 }
 
@@ -203,6 +257,20 @@ fn appends() {
         },
     );
     line("pop from the head", &ours, Some(&theirs));
+    let mut batch = Batch::new(&PARENT, &Head::new(&[], 0));
+    (0..512).for_each(|n| batch.append(Kind::Box, n));
+    (0..512).for_each(|_| batch.pop(Kind::Box));
+    let (ours, theirs) = both(
+        1024,
+        || batch.run(lists),
+        || {
+            let address = &mut addresses[0];
+            address.segment.boxes.clear();
+            (0..512).for_each(|n| keep(spills.append_box(address, n)));
+            (0..512).for_each(|_| keep(spills.pop_box(address)));
+        },
+    );
+    line("append or pop in a batch of 1,024", &ours, Some(&theirs));
     let (ours, theirs) = both(
         1,
         || {

@@ -1,9 +1,11 @@
 //! The index's side: owned buffers, and a method for each call of its C interface.
 
 mod balance;
+mod batch;
 mod codec;
 
 pub use balance::Balance;
+pub use batch::Batch;
 pub use codec::{blake2b256, row_key, write_segment, ReadLists};
 
 use crate::ffi::*;
