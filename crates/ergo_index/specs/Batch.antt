@@ -7,7 +7,9 @@ use lib.IntN.{ℤ}
 use Rattle.buffer_core.specs.Edition.{edition-1}
 use Rattle.buffer_core.specs.Pop.{lists}
 use Rattle.call_steps.specs.State.{state}
+use Rattle.runner.specs.declared.Progress.{Progress}
 use Rattle.runner.specs.Run.{Run, run-of}
+use Rattle.ergo_index.specs.declared.batch.Outs.{Outs}
 use Rattle.ergo_index.specs.Buffer.{list-of}
 
 -- how reading ended, as a code: 25 where the state was refused, 31 at what is no call, else 0
@@ -17,6 +19,19 @@ code-of end = cond (ltb end 3) 0 end
 -- an out after a run that ended so: "a refusal returns its number only and changes nothing"
 abbrev pub kept : (end was after : ℕ) → ℕ
 kept end was after = cond (eqb end 25) was after
+
+-- the code and the outs that are numbers, after a run that made this progress; three of them were at, made and end
+abbrev pub outs-of : Progress → (at made end : ℕ) → Outs
+outs-of p at made end =
+    record {
+      code = code-of (p .end);
+      at = kept (p .end) at (p .at);
+      made = kept (p .end) made (p .made);
+      end = kept (p .end) end (p .end);
+      staged = p .counts .staged .count;
+      table = p .counts .table .count;
+      deleted = p .counts .deleted .count;
+    }
 
 -- the code, the next byte, the calls made, how reading ended, the counts of the three lists, and all that is borrowed
 pub record RunOut : Type 0 where

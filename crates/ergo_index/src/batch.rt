@@ -1,9 +1,23 @@
 // Many calls over the state of many parents: refusal 25 is tested once, then each call of the input is made as its single export makes it. A state that is
 // refused leaves all as it was.
 ghost use mathlib.Core.Path.{_≡_};
-ghost use Rattle.ergo_index.specs.Batch.{code-of, kept, run-out, run-call};
+ghost use Rattle.call_steps.specs.Steps.{spill-counts};
+ghost use Rattle.ergo_index.specs.Buffer.{list-of};
+ghost use Rattle.ergo_index.specs.Batch.{code-of, kept, outs-of, run-out, run-call};
 use call_steps::SpillCounts;
 use records::ListCounts;
+use runner::Progress;
+
+// The code and what goes to the outs that are numbers.
+struct Outs {
+    code: u8,
+    at: usize,
+    made: usize,
+    end: u8,
+    staged: usize,
+    table: usize,
+    deleted: usize,
+}
 
 // How reading ended, as a code.
 fn code_of(end: u8) -> u8
@@ -23,6 +37,56 @@ fn kept_end(end: u8, was: u8) -> u8
     ensures { λ r. ⌜ r ≡ kept end was end ⌝ }
 {
     if end == refusal::BUFFERS { was } else { end }
+}
+
+// The counts of the three lists, each beside its capacity.
+fn spill_counts(
+    staged: usize,
+    staged_capacity: usize,
+    table: usize,
+    table_capacity: usize,
+    deleted: usize,
+    deleted_capacity: usize,
+) -> SpillCounts
+    ensures { λ r. ⌜ r ≡ spill-counts (list-of staged «staged_capacity») (list-of table «table_capacity») (list-of deleted «deleted_capacity») ⌝ }
+{
+    let staged_counts = ListCounts {
+        count: staged,
+        capacity: staged_capacity,
+    };
+    let table_counts = ListCounts {
+        count: table,
+        capacity: table_capacity,
+    };
+    let deleted_counts = ListCounts {
+        count: deleted,
+        capacity: deleted_capacity,
+    };
+    SpillCounts {
+        staged: staged_counts,
+        table: table_counts,
+        deleted: deleted_counts,
+    }
+}
+
+// The outs after a run, of which three were at, made and end.
+fn outs_of(p: Progress, at: usize, made: usize, end: u8) -> Outs
+    ensures { λ r. ⌜ r ≡ outs-of p at made end ⌝ }
+{
+    let after = p.counts;
+    let staged = after.staged;
+    let table = after.table;
+    let deleted = after.deleted;
+    let ended = p.end;
+    Outs {
+        code: code_of(ended),
+        at: kept(ended, at, p.at),
+        made: kept(ended, made, p.made),
+        end: kept_end(ended, end),
+        staged: staged.count,
+        table: table.count,
+        deleted: deleted.count,
+    }
 }
 
 // The calls from the front of the input, until no call stands at `at` or the answers have no room; `made` of them were answered. The result is 25 where the
@@ -56,23 +120,14 @@ pub extern "C" fn ergo_index_run_calls(
         (now («table_count» .entry)) «table_capacity» (now (table .entry)) (now («deleted_count» .entry)) «deleted_capacity» (now (deleted .entry)) (now (answers .entry)) (now (popped .entry))
         (now (at .entry)) (now (made .entry)) (now (end .entry)) ⌝ }
 {
-    let staged_counts = ListCounts {
-        count: *staged_count,
-        capacity: staged_capacity,
-    };
-    let table_counts = ListCounts {
-        count: *table_count,
-        capacity: table_capacity,
-    };
-    let deleted_counts = ListCounts {
-        count: *deleted_count,
-        capacity: deleted_capacity,
-    };
-    let counts = SpillCounts {
-        staged: staged_counts,
-        table: table_counts,
-        deleted: deleted_counts,
-    };
+    let counts = spill_counts(
+        *staged_count,
+        staged_capacity,
+        *table_count,
+        table_capacity,
+        *deleted_count,
+        deleted_capacity,
+    );
     let p = runner::run_calls(
         input,
         parents,
@@ -87,19 +142,12 @@ pub extern "C" fn ergo_index_run_calls(
         popped,
         counts,
     );
-    let after = p.counts;
-    let staged_after = after.staged;
-    let table_after = after.table;
-    let deleted_after = after.deleted;
-    let ended = p.end;
-    let next = kept(ended, *at, p.at);
-    let count = kept(ended, *made, p.made);
-    let told = kept_end(ended, *end);
-    *staged_count = staged_after.count;
-    *table_count = table_after.count;
-    *deleted_count = deleted_after.count;
-    *at = next;
-    *made = count;
-    *end = told;
-    code_of(ended)
+    let outs = outs_of(p, *at, *made, *end);
+    *staged_count = outs.staged;
+    *table_count = outs.table;
+    *deleted_count = outs.deleted;
+    *at = outs.at;
+    *made = outs.made;
+    *end = outs.end;
+    outs.code
 }

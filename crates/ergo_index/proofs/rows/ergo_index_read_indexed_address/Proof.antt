@@ -18,10 +18,10 @@ enum-known-answer : tie.Need-enum-known-answer
 enum-known-answer c = search needs
 
 same-length : tie.Need-same-length
-same-length c = search needs
+same-length c = c .before .before .before .before .before .before .before .before .before .before .before .txs .given
 
 same-length-2 : tie.Need-same-length-2
-same-length-2 c = search needs
+same-length-2 c = c .before .before .before .before .before .before .before .before .before .before .boxes .given
 
 returns : tie.Need-returns
 returns c =
@@ -32,10 +32,10 @@ returns c =
     address-read _ _ _ _ (r .ensures) (address (now (a .hash)) (now (a .has-balance)) (now (a .ids)) (now (a .amounts)) (now (a .count)) (now (a .nanos)) (now (a .n-txs)) (now (a .n-boxes)) (now (a .box-segment-count)) (now (a .tx-segment-count))) (c .before .before .before .before .before .before .before .before .enum-told .given .1) _ (back w64 (x .balance .nanos) (search needs)) _ (back w32 (x .«box_segment_count») (sfits-of (told .0 .1))) _ (back w32 (x .«tx_segment_count») (sfits-of (told .1 .0 .1)))
 
 same-length-3 : tie.Need-same-length-3
-same-length-3 c = search needs
+same-length-3 c = c .before .before .before .before .txs .given
 
 same-length-4 : tie.Need-same-length-4
-same-length-4 c = search needs
+same-length-4 c = c .before .before .before .boxes .given
 
 returns-2 : tie.Need-returns-2
 returns-2 c =

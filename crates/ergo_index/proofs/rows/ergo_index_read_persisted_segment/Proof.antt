@@ -18,10 +18,10 @@ enum-known-read-2 : tie.Need-enum-known-read-2
 enum-known-read-2 c = search needs
 
 same-length : tie.Need-same-length
-same-length c = search needs
+same-length c = c .before .before .before .before .txs .given
 
 same-length-2 : tie.Need-same-length-2
-same-length-2 c = search needs
+same-length-2 c = c .before .before .before .boxes .given
 
 returns : tie.Need-returns
 returns c =
@@ -30,10 +30,10 @@ returns c =
     row-read _ _ _ _ (c .before .before .before .before .before .read-persisted-segment .ensures) (counted (now (a .n-txs)) (now (a .n-boxes)) (now (a .box-segment-count)) (now (a .tx-segment-count))) _ _ _ _ _ (p .1) _ (back w32 (p .0 .1 .1 .0) (search needs)) _ (back w32 (p .0 .1 .1 .1 .0) (search needs))
 
 same-length-3 : tie.Need-same-length-3
-same-length-3 c = search needs
+same-length-3 c = c .before .before .before .before .txs .given
 
 same-length-4 : tie.Need-same-length-4
-same-length-4 c = search needs
+same-length-4 c = c .before .before .before .boxes .given
 
 returns-2 : tie.Need-returns-2
 returns-2 c =

@@ -17,20 +17,22 @@ enum-known-wrote-2 : tie.Need-enum-known-wrote-2
 enum-known-wrote-2 c = search needs
 
 same-length : tie.Need-same-length
-same-length c = search needs
+same-length c = c .before .before .before .before .out .given
 
 returns : tie.Need-returns
 returns c =
-    let a = c .before .before .before .before .before .before .before .before .before .before .before .before .args in
-    wrote-next _ _ _ (now (a .at)) (rw (back w64 (a .nanos) (search needs), back w32 (a .box-segment-count) (search needs), back w32 (a .tx-segment-count) (search needs)) at (c .before .before .before .before .before .write-address .ensures)) _ (c .before .wrote .given .1)
+    let s = c .before .before .before .before .before .before .before .before .before .before .before .before in
+    let a = s .args in
+    wrote-next _ _ _ (now (a .at)) (rw (back w64 (a .nanos) (s .fits .nanos), back w32 (a .box-segment-count) (s .fits .box-segment-count), back w32 (a .tx-segment-count) (s .fits .tx-segment-count)) at (c .before .before .before .before .before .write-address .ensures)) _ (c .before .wrote .given .1)
 
 same-length-2 : tie.Need-same-length-2
-same-length-2 c = search needs
+same-length-2 c = c .before .before .before .before .out .given
 
 returns-2 : tie.Need-returns-2
 returns-2 c =
-    let a = c .before .before .before .before .before .before .before .before .before .before .before .before .args in
-    wrote-none _ _ _ (now (a .at)) (rw (back w64 (a .nanos) (search needs), back w32 (a .box-segment-count) (search needs), back w32 (a .tx-segment-count) (search needs)) at (c .before .before .before .before .before .write-address .ensures)) _ (c .before .wrote2 .given .1)
+    let s = c .before .before .before .before .before .before .before .before .before .before .before .before in
+    let a = s .args in
+    wrote-none _ _ _ (now (a .at)) (rw (back w64 (a .nanos) (s .fits .nanos), back w32 (a .box-segment-count) (s .fits .box-segment-count), back w32 (a .tx-segment-count) (s .fits .tx-segment-count)) at (c .before .before .before .before .before .write-address .ensures)) _ (c .before .wrote2 .given .1)
 
 pub ergo-index-write-indexed-address-spec : {M : Type 1} → statement M
 ergo-index-write-indexed-address-spec =

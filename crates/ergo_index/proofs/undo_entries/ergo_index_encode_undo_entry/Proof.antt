@@ -17,13 +17,13 @@ enum-known-encoded-2 : tie.Need-enum-known-encoded-2
 enum-known-encoded-2 c = search needs
 
 same-length : tie.Need-same-length
-same-length c = search needs
+same-length c = c .before .before .before .before .out .given
 
 returns : tie.Need-returns
 returns c = encode-done _ _ _ (c .before .before .before .before .before .encode .ensures) (now (c .before .before .before .before .before .before .before .before .before .args .written)) _ (c .before .encoded .given .1)
 
 same-length-2 : tie.Need-same-length-2
-same-length-2 c = search needs
+same-length-2 c = c .before .before .before .before .out .given
 
 returns-2 : tie.Need-returns-2
 returns-2 c = encode-refused _ _ _ (c .before .before .before .before .before .encode .ensures) (now (c .before .before .before .before .before .before .before .before .before .args .written)) _ (c .before .encoded2 .given .1)

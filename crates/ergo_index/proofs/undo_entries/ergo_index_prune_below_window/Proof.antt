@@ -19,13 +19,13 @@ enum-known-pruned-2 : tie.Need-enum-known-pruned-2
 enum-known-pruned-2 c = search needs
 
 same-length : tie.Need-same-length
-same-length c = search needs
+same-length c = c .before .before .before .before .heights .given
 
 returns : tie.Need-returns
 returns c = prune-done _ _ (c .before .before .before .before .before .before .before .before .window-of .ensures) _ _ _ _ _ _ (c .before .before .before .before .before .prune-below-window .ensures) _ (c .before .pruned .given .1)
 
 same-length-2 : tie.Need-same-length-2
-same-length-2 c = search needs
+same-length-2 c = c .before .before .before .before .heights .given
 
 returns-2 : tie.Need-returns-2
 returns-2 c = prune-refused _ _ (c .before .before .before .before .before .before .before .before .window-of .ensures) _ _ _ _ _ _ (c .before .before .before .before .before .prune-below-window .ensures) _ (c .before .pruned2 .given .1)

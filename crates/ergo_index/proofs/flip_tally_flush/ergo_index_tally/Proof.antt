@@ -4,8 +4,8 @@ use denote.Ref.{now}
 use Rattle.signed.proofs.SignedLaws.{back}
 use Rattle.ergo_index.proofs.BufferLaws.{tally-done, tally-refused}
 use borrow.Author.Needs.{needs}
-use Rattle.ergo_index.proofs.buffer.ergo_index_tally.Statement.{statement}
-use Rattle.ergo_index.proofs.buffer.ergo_index_tally.Tie as tie
+use Rattle.ergo_index.proofs.flip_tally_flush.ergo_index_tally.Statement.{statement}
+use Rattle.ergo_index.proofs.flip_tally_flush.ergo_index_tally.Tie as tie
 
 tally-requires : tie.Need-tally-requires
 tally-requires c κs = search needs
@@ -18,13 +18,15 @@ enum-known-tallied-2 c = search needs
 
 returns : tie.Need-returns
 returns c =
-    let a = c .before .before .before .before .before .before .args in
-    tally-done _ _ (rw (back w32 (a .spills) (search needs)) at (c .before .before .before .tally .ensures)) (now (a .unspent)) (now (a .spent)) _ _ (c .before .tallied .given .1)
+    let s = c .before .before .before .before .before .before in
+    let a = s .args in
+    tally-done _ _ (rw (back w32 (a .spills) (s .fits .spills)) at (c .before .before .before .tally .ensures)) (now (a .unspent)) (now (a .spent)) _ _ (c .before .tallied .given .1)
 
 returns-2 : tie.Need-returns-2
 returns-2 c =
-    let a = c .before .before .before .before .before .before .args in
-    tally-refused _ _ (rw (back w32 (a .spills) (search needs)) at (c .before .before .before .tally .ensures)) (now (a .unspent)) (now (a .spent)) _ (c .before .tallied2 .given .1)
+    let s = c .before .before .before .before .before .before in
+    let a = s .args in
+    tally-refused _ _ (rw (back w32 (a .spills) (s .fits .spills)) at (c .before .before .before .tally .ensures)) (now (a .unspent)) (now (a .spent)) _ (c .before .tallied2 .given .1)
 
 pub ergo-index-tally-spec : {M : Type 1} → statement M
 ergo-index-tally-spec =
