@@ -12,7 +12,6 @@ use call_steps::SpillCounts;
 use libc::STDERR_FILENO;
 use libc::STDIN_FILENO;
 use libc::STDOUT_FILENO;
-use records::ListCounts;
 use runner::Progress;
 
 // What is done next. `Read` and `End` hold the refusal, or 0, that stands behind the calls made where the input has no more bytes.
@@ -33,44 +32,17 @@ struct Session {
     next: Next,
 }
 
-// "Shelf 2, staging 1, deletion list 2, all empty."
 fn start() -> Session
     ensures { λ r. ⌜ (r .at ≡ 0) × (r .have ≡ 0) × (r .made ≡ 0) ⌝ }
 {
-    let staged = ListCounts {
-        count: 0,
-        capacity: 1,
-    };
-    let table = ListCounts {
-        count: 0,
-        capacity: 2,
-    };
-    let deleted = ListCounts {
-        count: 0,
-        capacity: 2,
-    };
+    let counts = runner_start::empty_lists();
     Session {
-        counts: SpillCounts {
-            staged,
-            table,
-            deleted,
-        },
+        counts,
         at: 0,
         have: 0,
         made: 0,
         next: Next::Read(0),
     }
-}
-
-// "ids are the byte 32 times": of two parents, 0 and 1.
-fn parent_ids() -> [u8; 8256]
-    ensures { λ r. ⌜ 8256 ≡ length r ⌝ }
-{
-    let mut ids = [0u8; 8256];
-    for i in 4128..4160 {
-        ids[i] = 1;
-    }
-    ids
 }
 
 // Writes the first n bytes: whether all of them were taken.
@@ -387,7 +359,7 @@ fn goes_on(next: Next) -> bool {
 fn main() {
     let mut input = io::large_buffer();
     let mut out = io::large_buffer();
-    let mut ids = parent_ids();
+    let mut ids = runner_start::parent_ids();
     let mut numbers = [0i64; 2306];
     let mut lengths = [0usize; 6];
     let mut spills = [0i32; 4];

@@ -8,53 +8,26 @@ use lib.Dec.{leb}
 use lib.ListN.{length, take, drop, length-take, length-drop}
 use lib.Seq.{take-take}
 use borrow.Author.Tests.{leb-true, lt-leb}
-use Rattle.records.specs.declared.Found.{Found}
-use Rattle.records.specs.declared.Found.the-variants.{At, Nothing}
 use Rattle.records.specs.declared.ListCounts.{ListCounts}
 use Rattle.records.specs.Records.{records, keys, stored-length, stored-row}
 use Rattle.records.specs.Find.{find-key, is-found}
 use Rattle.records.specs.Changes.{with-count, full-for, clear-records}
-use Rattle.records.specs.Checks.{lengths-ok, records-ok, keys-ok, RecordsOk, KeysOk}
-use Rattle.records.proofs.TurnLaws.{found-in}
+use Rattle.records.specs.Checks.{lengths-ok, RecordsOk}
 use Rattle.records.proofs.RecordLaws.{row-room}
-use Rattle.records.proofs.CheckLaws.{and-left, and-right, records-ok-facts, records-ok-test, records-ok-after-put, records-ok-after-remove, records-ok-after-clear, keys-ok-facts, keys-ok-test, keys-ok-after-clear}
+use Rattle.records.proofs.CheckLaws.{and-left, and-right, records-ok-after-put, records-ok-after-clear, keys-ok-after-clear}
 use Rattle.buffer_core.specs.declared.Flushed.the-variants.{Done, Refused}
 use Rattle.buffer_core.specs.Edition.{edition-1}
-use Rattle.buffer_core.specs.Pop.{Lists, lists, count-without, bytes-without, lists-ok}
+use Rattle.buffer_core.specs.Pop.{Lists, lists, lists-ok}
 use Rattle.buffer_core.specs.Flush.{one-if, new-count, new-keys, Listed, listed, put-staged, put-undeleted, remove-key, remove-keys, deleted-keys, table-after, Flushing, flushing, flushed, flush-core}
+use Rattle.buffer_core.proofs.ListLaws.{ListsFit, lists-fit, fit-lists, without-ok}
 use Rattle.flush_core.specs.Steps.{is-new, put-unless-deleted, FlushReady}
 use Rattle.flush_core.proofs.FlushLaws.{put-room}
 
--- ---- the test as facts, and back
-
-module _ (b : Lists) where
-  pub record ListsOk : Type 0 where
-    pub staged : RecordsOk 10288 10254 (b .staged-counts) (b .staged)
-    pub table : RecordsOk 10288 10254 (b .table-counts) (b .table)
-    pub deleted : KeysOk (b .deleted-counts) (b .deleted)
-
-  pub lists-facts : lists-ok edition-1 b ≡ true → ListsOk
-  unfolding lists-ok
-  lists-facts t =
-      let s : Bool = records-ok 10288 10254 (b .staged-counts) (b .staged) in
-      let r : Bool = records-ok 10288 10254 (b .table-counts) (b .table) in
-      let k : Bool = keys-ok (b .deleted-counts) (b .deleted) in
-      let z = and-right s (r && k) t in
-      record {
-        staged = records-ok-facts 10288 10254 (b .staged-counts) (b .staged) (and-left s (r && k) t);
-        table = records-ok-facts 10288 10254 (b .table-counts) (b .table) (and-left r k z);
-        deleted = keys-ok-facts (b .deleted-counts) (b .deleted) (and-right r k z);
-      }
-
-  pub lists-test : ListsOk → lists-ok edition-1 b ≡ true
-  unfolding lists-ok
-  lists-test f =
-      rw (records-ok-test 10288 10254 (b .staged-counts) (b .staged) (f .staged), records-ok-test 10288 10254 (b .table-counts) (b .table) (f .table))
-      (keys-ok-test (b .deleted-counts) (b .deleted) (f .deleted))
-
-  -- what the core asks for
-  pub flush-ready : lists-ok edition-1 b ≡ true → FlushReady b
-  flush-ready t = let f = lists-facts t in record { in-table = f .table .bounds; in-staged = f .staged .bounds; in-deleted = f .deleted .bounds }
+-- what the core asks for
+pub flush-ready : (b : Lists) → lists-ok edition-1 b ≡ true → FlushReady b
+flush-ready b t =
+    let f = lists-fit edition-1 b t in
+    record { in-table = f .in-table .bounds; in-staged = f .in-staged .bounds; in-deleted = f .in-deleted .bounds }
 
 -- ---- the table, record by record
 
@@ -128,20 +101,10 @@ puts-ok deleted (suc n) staged t h k ok room =
 
 -- ---- removals
 
--- a key's record leaves a table that passes
-remove-ok : (key : List ℕ) (t : Listed) → TableOk t → TableOk (remove-key edition-1 key t)
-unfolding remove-key
-remove-ok key t ok = by-found (find-key key (keys 10288 (t .counts .count) (t .bytes))) refl
-  where
-    by-found : (f : Found) → f ≡ find-key key (keys 10288 (t .counts .count) (t .bytes))
-        → RecordsOk 10288 10254 (count-without f (t .counts)) (bytes-without 10288 f (t .counts) (t .bytes))
-    by-found (At i) e = records-ok-after-remove 10288 10254 i (t .counts) (t .bytes) (found-in key 10288 (t .counts .count) (t .bytes) i (At i) e refl) ok
-    by-found Nothing e = ok
-
 removes-ok : (ks : List (List ℕ)) (t : Listed) → TableOk t → TableOk (remove-keys edition-1 ks t)
-unfolding remove-keys
+unfolding remove-keys remove-key
 removes-ok [] t ok = ok
-removes-ok (k ∷ ks) t ok = removes-ok ks (remove-key edition-1 k t) (remove-ok k t ok)
+removes-ok (k ∷ ks) t ok = removes-ok ks (remove-key edition-1 k t) (without-ok 10288 10254 k (t .counts) (t .bytes) ok)
 
 -- ---- an accepted flush
 
@@ -152,19 +115,19 @@ FlushKept o = (t c d : ListCounts) → o .answer ≡ Done t c d → lists-ok edi
 kept-refused : (code : ℕ) (table staged deleted : List ℕ) → FlushKept (flushing (Refused code) table staged deleted)
 kept-refused code table staged deleted t c d e = let z : _≡_ {A = ℕ} 0 1 = cc in absurd (omega arith)
 
-kept-done : (t c d : ListCounts) (table staged deleted : List ℕ) → ListsOk (lists c staged t table d deleted)
+kept-done : (t c d : ListCounts) (table staged deleted : List ℕ) → ListsFit edition-1 (lists c staged t table d deleted)
     → FlushKept (flushing (Done t c d) table staged deleted)
 kept-done t c d table staged deleted ok t′ c′ d′ e =
     let p : t ≡ t′ = cc in let q : c ≡ c′ = cc in let r : d ≡ d′ = cc in
-    rw (← p, ← q, ← r) (lists-test (lists c staged t table d deleted) ok)
+    rw (← p, ← q, ← r) (fit-lists edition-1 (lists c staged t table d deleted) ok)
 
-module _ (b : Lists) (ok : ListsOk b) where
+module _ (b : Lists) (ok : ListsFit edition-1 b) where
   table-ok : new-keys edition-1 b ≤ b .table-counts .capacity - b .table-counts .count → TableOk (table-after edition-1 b)
   unfolding table-after
   table-ok h =
       removes-ok (deleted-keys edition-1 b) _
-      (puts-ok (deleted-keys edition-1 b) (b .staged-counts .count) (b .staged) (listed (b .table-counts) (b .table)) (ok .staged .bounds .within)
-      (ok .staged .lengths) (ok .table) (omega (arith, ok .table .bounds .counted)))
+      (puts-ok (deleted-keys edition-1 b) (b .staged-counts .count) (b .staged) (listed (b .table-counts) (b .table)) (ok .in-staged .bounds .within)
+      (ok .in-staged .lengths) (ok .in-table) (omega (arith, ok .in-table .bounds .counted)))
 
   flushed-kept : new-keys edition-1 b ≤ b .table-counts .capacity - b .table-counts .count → FlushKept (flushed edition-1 b)
   unfolding flushed
@@ -172,9 +135,9 @@ module _ (b : Lists) (ok : ListsOk b) where
       kept-done (table-after edition-1 b .counts) (with-count 0 (b .staged-counts)) (with-count 0 (b .deleted-counts)) (table-after edition-1 b .bytes)
       (clear-records 10288 (b .staged-counts .capacity) (b .staged)) (clear-records 32 (b .deleted-counts .capacity) (b .deleted))
       (record {
-        staged = records-ok-after-clear 10288 10254 (b .staged-counts) (b .staged) (ok .staged .bounds .room);
-        table = table-ok h;
-        deleted = keys-ok-after-clear (b .deleted-counts) (b .deleted) (ok .deleted .bounds .room);
+        in-staged = records-ok-after-clear 10288 10254 (b .staged-counts) (b .staged) (ok .in-staged .bounds .room);
+        in-table = table-ok h;
+        in-deleted = keys-ok-after-clear (b .deleted-counts) (b .deleted) (ok .in-deleted .bounds .room);
       })
 
   core-kept : FlushKept (flush-core edition-1 b)
@@ -189,4 +152,4 @@ module _ (b : Lists) (ok : ListsOk b) where
 -- an accepted flush keeps what 25 tests
 pub flush-keeps : (b : Lists) → lists-ok edition-1 b ≡ true → (t c d : ListCounts) → flush-core edition-1 b .answer ≡ Done t c d
     → lists-ok edition-1 (lists c (flush-core edition-1 b .staged) t (flush-core edition-1 b .table) d (flush-core edition-1 b .deleted)) ≡ true
-flush-keeps b e = core-kept b (lists-facts b e)
+flush-keeps b e = core-kept b (lists-fit edition-1 b e)

@@ -28,6 +28,7 @@ use Rattle.buffer_core.specs.Edition.{Edition}
 use Rattle.buffer_core.specs.Spills.{head-ok}
 use Rattle.buffer_core.specs.Append.{Appending, appending, counts-of, one-number, counts-with, bytes-with, spilled, spill-of, append-core, append-ok, append-of}
 use Rattle.buffer_core.specs.Pop.{Lists, lists-ok}
+use Rattle.buffer_core.proofs.ListLaws.{ListsFit, lists-fit, fit-lists}
 use Rattle.ledger.specs.Ledger.{Parent, Series, series-dec, ite, id-dec}
 use Rattle.ledger.specs.Run.{Res, done, refused}
 use Rattle.fork_model.proofs.Store as St
@@ -37,7 +38,7 @@ use Rattle.fork_model.proofs.Results.{mapRes}
 use Rattle.history.specs.Index.{Part, part, Index, index, kind-of, set-part, with-staged, after-append, id-of, do-append}
 use Rattle.history.proofs.Tables.{Table, tab, put}
 use Rattle.history.proofs.State as S
-use Rattle.history.proofs.State.{Small, EditionLaws, ListsFit, lists-fit, fit-lists, HeadFits, head-fits, fit-head, push-to, all-set, same-set, Capacities, head-of, spills-of}
+use Rattle.history.proofs.State.{Small, EditionLaws, HeadFits, head-fits, fit-head, push-to, all-set, same-set, Capacities, head-of, spills-of}
 use Rattle.history.proofs.Lists.{full-is, put-table}
 
 -- ---- heads

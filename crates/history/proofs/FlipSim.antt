@@ -41,6 +41,7 @@ use Rattle.buffer_core.specs.Edition.{Edition, RowRead, bad, good}
 use Rattle.buffer_core.specs.Spills.{Sources, key-at, place-at, read-placed, spill-read, head-ok}
 use Rattle.buffer_core.specs.Flip.{check-row, lead-of, look-of, search-by, search-in, walk-from, Effect, refuse, flip-head, stage, head-first, spends, done-by, row-checked, lead-at, look-at, boxes-in, row-flipped, stage-from, stage-at, after-walk, after-search, in-rows, in-order, flip-effect, flip-core, flip-ok, flip-of}
 use Rattle.buffer_core.specs.Pop.{Lists}
+use Rattle.buffer_core.proofs.ListLaws.{ListsFit, lists-fit, fit-lists}
 use Rattle.ledger.specs.Ledger.{Parent, Series, boxes, ite}
 use Rattle.ledger.specs.Run.{Res, done, refused}
 use Rattle.fork_model.proofs.Store as St
@@ -54,7 +55,7 @@ use Rattle.history.specs.Index.{Part, part, Index, index, set-part, with
 use Rattle.history.proofs.Tables.{tab, put, lookup-is, row-opt}
 use Rattle.history.proofs.Tables as Tab
 use Rattle.history.proofs.State as S
-use Rattle.history.proofs.State.{EditionLaws, ListsFit, lists-fit, fit-lists, HeadFits, head-fits, fit-head, push-to, all-set, same-set, Capacities, head-of, spills-of}
+use Rattle.history.proofs.State.{EditionLaws, HeadFits, head-fits, fit-head, push-to, all-set, same-set, Capacities, head-of, spills-of}
 use Rattle.history.proofs.Lists.{ite-le, full-is, put-table}
 use Rattle.history.proofs.PopSim.{read-same}
 use Rattle.history.proofs.FlipLists.{copyOf, copy-abs, newOf, first-new, isSeen, first-seen, first-in, order-same, leadRes, lowOf, search-same, lookRes, hitOf, walk-same}

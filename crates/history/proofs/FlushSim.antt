@@ -30,6 +30,7 @@ use Rattle.buffer_core.specs.declared.Flushed.the-variants.{Done, Refused}
 use Rattle.buffer_core.specs.Edition.{Edition}
 use Rattle.buffer_core.specs.Pop.{Lists, lists, lists-ok, count-without, bytes-without}
 use Rattle.buffer_core.specs.Flush.{Flushing, flushing, one-if, new-count, Listed, listed, found-in, put-staged, put-undeleted, remove-key, remove-keys, deleted-keys, table-after, flushed, new-keys, flush-core, flush-of}
+use Rattle.buffer_core.proofs.ListLaws.{ListsFit, lists-fit, fit-lists}
 use Rattle.ledger.specs.Ledger.{Parent, Series, ite}
 use Rattle.ledger.specs.Run.{Res, done, refused}
 use Rattle.fork_model.proofs.Store as St
@@ -38,7 +39,7 @@ use Rattle.fork_model.proofs.Results.{mapRes}
 use Rattle.history.specs.Index.{Index, index, after-flush, do-flush}
 use Rattle.history.proofs.Tables.{Bytes, Table, tab, put, remove, in-dec, ite-in, writeAll, removeAll, fresh, fresh-is}
 use Rattle.history.proofs.State as S
-use Rattle.history.proofs.State.{EditionLaws, ListsFit, lists-fit, fit-lists, Capacities}
+use Rattle.history.proofs.State.{EditionLaws, Capacities}
 use Rattle.history.proofs.Lists.{put-table, remove-table, remove-keeps, capacity-without, length-table}
 
 -- a record as a list that passes 25 holds it

@@ -12,6 +12,7 @@ use Rattle.records.proofs.TurnLaws.{length-keys}
 use Rattle.records.proofs.CheckLaws.{bounds-of}
 use Rattle.segment_id.specs.declared.Kind.the-variants.{Box, Tx}
 use Rattle.buffer_core.specs.Edition.{Edition}
+use Rattle.buffer_core.proofs.ListLaws.{fit-lists}
 use Rattle.ledger.specs.Ledger.{Parent, Series, boxes, txs, id-dec}
 use Rattle.ledger.specs.Run.{done}
 use Rattle.ledger.specs.Run as Mc
@@ -24,7 +25,7 @@ use Rattle.history.specs.Index.{Index, kind-of, to-res, do-flush}
 use Rattle.history.specs.Machine.{Borrowed, none-of, start}
 use Rattle.history.specs.ForkUndo.{Places, index-machine}
 use Rattle.history.proofs.State as S
-use Rattle.history.proofs.State.{EditionLaws, Capacities, fit-lists, fit-head}
+use Rattle.history.proofs.State.{EditionLaws, Capacities, fit-head}
 use Rattle.history.proofs.Lists.{length-table}
 use Rattle.history.proofs.Sim as Sm
 use Rattle.history.proofs.AppendSim as Ap

@@ -33,6 +33,7 @@ use Rattle.buffer_core.specs.Edition.{Edition, RowRead, bad, good}
 use Rattle.buffer_core.specs.Spills.{Sources, place-at, read-placed, spill-read, head-ok}
 use Rattle.buffer_core.specs.Append.{counts-of}
 use Rattle.buffer_core.specs.Pop.{Popping, popping, Lists, lists, count-without, bytes-without, last-of, without-last, row-head, staged-at, deleted-at, merged, merge-of, unspill-of, pop-core, lists-ok, pop-ok, pop-of}
+use Rattle.buffer_core.proofs.ListLaws.{ListsFit, lists-fit, fit-lists}
 use Rattle.ledger.specs.Ledger.{Parent, Series, series-dec, ite, id-dec}
 use Rattle.ledger.specs.Run.{Res, done, refused}
 use Rattle.ledger.specs.Run as Mc
@@ -44,7 +45,7 @@ use Rattle.fork_model.proofs.Results.{mapRes, mapPop}
 use Rattle.history.specs.Index.{Part, part, Index, index, kind-of, set-part, after-pop, to-res, id-of, do-pop, sources-of, row-of-spill, entries-of}
 use Rattle.history.proofs.Tables.{Bytes, tab, remove, lookup-is, row-opt, in-dec}
 use Rattle.history.proofs.State as S
-use Rattle.history.proofs.State.{EditionLaws, ListsFit, lists-fit, fit-lists, HeadFits, head-fits, fit-head, push-to, all-set, same-set, Capacities, head-of, spills-of}
+use Rattle.history.proofs.State.{EditionLaws, HeadFits, head-fits, fit-head, push-to, all-set, same-set, Capacities, head-of, spills-of}
 use Rattle.history.proofs.Lists.{full-keys, remove-table, remove-keeps, capacity-without, put-keys}
 
 -- ---- the row of a spill number, in the staged spills or in the table

@@ -11,14 +11,13 @@ use borrow.Author.Tests.{leb-true, le-leb}
 use Rattle.signed.specs.Sign.{is-negative}
 use Rattle.records.specs.declared.ListCounts.{ListCounts}
 use Rattle.records.specs.Records.{records, keys}
-use Rattle.records.specs.Checks.{records-ok, keys-ok, RecordsOk, KeysOk}
-use Rattle.records.proofs.CheckLaws.{and-left, and-right, and-true, records-ok-facts, keys-ok-facts, records-ok-test, keys-ok-test}
+use Rattle.records.proofs.CheckLaws.{and-left, and-right, and-true}
 use Rattle.segment_id.specs.declared.Kind.{Kind}
 use Rattle.segment_id.specs.declared.Kind.the-variants.{Box, Tx}
 use Rattle.buffer_core.specs.declared.HeadCounts.{HeadCounts}
 use Rattle.buffer_core.specs.Edition.{Edition, RowRead, bad, good}
 use Rattle.buffer_core.specs.Spills.{head-ok}
-use Rattle.buffer_core.specs.Pop.{Lists, lists-ok}
+use Rattle.buffer_core.specs.Pop.{lists-ok}
 use Rattle.ledger.specs.Ledger.{Parent, Series, boxes, txs, parentOf, series-dec, ite, id-dec}
 use Rattle.fork_model.proofs.Store as St
 use Rattle.history.specs.Index.{Part, part, Index, kind-of, set-part, to-res, id-of}
@@ -37,34 +36,6 @@ pub record EditionLaws (E : Edition) : Type 0 where
   pub redo-length : (row : List ℕ) (l new : List ℤ) → E .decode Box row ≡ good l → length new ≤ 512 → Small new → length (E .with-boxes row new) ≤ E .limit
   pub redo-decode : (row : List ℕ) (l new : List ℤ) → E .decode Box row ≡ good l → length new ≤ 512 → Small new → E .decode Box (E .with-boxes row new) ≡ good new
   pub decode-few : (k : Kind) (row : List ℕ) (l : List ℤ) → E .decode k row ≡ good l → length l ≤ 512
-
--- ---- the three lists that pass 25
-pub record ListsFit (E : Edition) (b : Lists) : Type 0 where
-  pub in-staged : RecordsOk (E .size) (E .limit) (b .staged-counts) (b .staged)
-  pub in-table : RecordsOk (E .size) (E .limit) (b .table-counts) (b .table)
-  pub in-deleted : KeysOk (b .deleted-counts) (b .deleted)
-
-module _ (E : Edition) (b : Lists) where
-  abbrev A : Bool
-  A = records-ok (E .size) (E .limit) (b .staged-counts) (b .staged)
-
-  abbrev B : Bool
-  B = records-ok (E .size) (E .limit) (b .table-counts) (b .table)
-
-  abbrev D : Bool
-  D = keys-ok (b .deleted-counts) (b .deleted)
-
-  pub lists-fit : lists-ok E b ≡ true → ListsFit E b
-  unfolding lists-ok
-  lists-fit h = record {
-    in-staged = records-ok-facts _ _ _ _ (and-left A (B && D) h);
-    in-table = records-ok-facts _ _ _ _ (and-left B D (and-right A (B && D) h));
-    in-deleted = keys-ok-facts _ _ (and-right B D (and-right A (B && D) h));
-  }
-
-  pub fit-lists : ListsFit E b → lists-ok E b ≡ true
-  unfolding lists-ok
-  fit-lists f = and-true A (B && D) (records-ok-test _ _ _ _ (f .in-staged)) (and-true B D (records-ok-test _ _ _ _ (f .in-table)) (keys-ok-test _ _ (f .in-deleted)))
 
 -- ---- a head that passes 25
 pub record HeadFits (p : Part) : Type 0 where

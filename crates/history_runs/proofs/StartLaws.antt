@@ -9,7 +9,7 @@ use lib.ListN.{length, replicate, length-replicate}
 use Rattle.records.specs.declared.ListCounts.{ListCounts}
 use Rattle.buffer_core.specs.Edition.{edition-1}
 use Rattle.buffer_core.specs.Pop.{lists}
-use Rattle.flush_core.proofs.KeepLaws.{lists-facts}
+use Rattle.buffer_core.proofs.ListLaws.{lists-fit}
 use Rattle.calls.specs.declared.Call.{Call}
 use Rattle.call_steps.specs.State.{State}
 use Rattle.call_steps.proofs.KeepLaws.{within}
@@ -37,7 +37,7 @@ module _ (parents : ℕ) (places : Places) (s : State) (E : Empty parents places
   -- what the machine of the theorem borrows is what the state lends
   unfoldable pub borrowed : Borrowed edition-1
   borrowed =
-      let f = lists-facts (s .lists) (E .ready .listed) in
+      let f = lists-fit edition-1 (s .lists) (E .ready .listed) in
       record {
         table-cap = s .lists .table-counts .capacity;
         staged-cap = s .lists .staged-counts .capacity;
@@ -47,9 +47,9 @@ module _ (parents : ℕ) (places : Places) (s : State) (E : Empty parents places
         staged = s .lists .staged;
         deleted = s .lists .deleted;
         places-in = lent-long;
-        table-in = f .table .bounds .room;
-        staged-in = f .staged .bounds .room;
-        deleted-in = f .deleted .bounds .room;
+        table-in = f .in-table .bounds .room;
+        staged-in = f .in-staged .bounds .room;
+        deleted-in = f .in-deleted .bounds .room;
       }
 
   none : (c : ListCounts) → c .count ≡ 0 → c ≡ none-of (c .capacity)

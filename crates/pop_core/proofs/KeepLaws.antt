@@ -1,7 +1,7 @@
 -- An accepted pop keeps what refusal 25 tests: a pop that was accepted never makes the next call refuse 25.
 use Prim.Native.Nat.{ℕ, _-_, _≤_}
 use mathlib.Core.Path.{_≡_, refl, sym, _∙_}
-use mathlib.Core.Bool.{Bool, true, false, cond, _&&_}
+use mathlib.Core.Bool.{Bool, true, false, cond}
 use mathlib.Core.List.{List}
 use native.Mathlib.Omega.{arith}
 use lib.Dec.{ltb, eqb}
@@ -9,15 +9,9 @@ use lib.IntN.{ℤ, pos, natAbs}
 use lib.ListN.{length, length-set}
 use Rattle.stores.proofs.StoreLaws.{length-write}
 use Rattle.signed.specs.Sign.{is-negative}
-use Rattle.records.specs.declared.Found.{Found}
-use Rattle.records.specs.declared.Found.the-variants.{At, Nothing}
 use Rattle.records.specs.declared.ListCounts.{ListCounts}
-use Rattle.records.specs.Records.{keys}
-use Rattle.records.specs.Find.{find-key}
 use Rattle.records.specs.Changes.{count-after, with-count, put-record, full-for}
-use Rattle.records.specs.Checks.{records-ok, keys-ok, RecordsOk, KeysOk}
-use Rattle.records.proofs.TurnLaws.{found-in}
-use Rattle.records.proofs.CheckLaws.{and-left, and-right, records-ok-facts, records-ok-test, records-ok-after-remove, keys-ok-facts, keys-ok-test, keys-ok-after-put}
+use Rattle.records.proofs.CheckLaws.{and-left, and-right, and-true, keys-ok-after-put}
 use Rattle.segment_id.specs.Key.{row-key}
 use Rattle.segment_id.specs.declared.Kind.{Kind}
 use Rattle.segment_id.proofs.KeyLaws.{row-key-length}
@@ -29,6 +23,7 @@ use Rattle.buffer_core.specs.Spills.{sources, spill-read, head-ok}
 use Rattle.buffer_core.specs.Append.{counts-of}
 use Rattle.buffer_core.specs.Pop.{Popping, popping, Lists, lists, count-without, bytes-without, last-of, without-last, row-head, staged-at, deleted-at, merged, merge-of, unspill-of, pop-core, lists-ok, pop-ok}
 use Rattle.buffer_core.proofs.HeadLaws.{HeadOk, head-facts, head-test}
+use Rattle.buffer_core.proofs.ListLaws.{ListsFit, lists-fit, fit-lists, without-ok}
 use Rattle.buffer_core.proofs.SpillLaws.{padded-length, spill-under, under-few}
 use Rattle.pop_core.specs.Ready.{PopReady}
 
@@ -37,40 +32,26 @@ use Rattle.pop_core.specs.Ready.{PopReady}
 module _ (h : HeadCounts) (b : Lists) (head : List ℤ) where
   pub record PopOk : Type 0 where
     pub headed : HeadOk h head
-    pub staged : RecordsOk 10288 10254 (b .staged-counts) (b .staged)
-    pub table : RecordsOk 10288 10254 (b .table-counts) (b .table)
-    pub deleted : KeysOk (b .deleted-counts) (b .deleted)
+    pub listed : ListsFit edition-1 b
 
   pub pop-facts : pop-ok edition-1 h b head ≡ true → PopOk
-  unfolding pop-ok lists-ok
+  unfolding pop-ok
   pop-facts t =
-      let s : Bool = records-ok 10288 10254 (b .staged-counts) (b .staged) in
-      let r : Bool = records-ok 10288 10254 (b .table-counts) (b .table) in
-      let k : Bool = keys-ok (b .deleted-counts) (b .deleted) in
-      let x = and-left (head-ok h head) (s && (r && k)) t in
-      let y = and-right (head-ok h head) (s && (r && k)) t in
-      let z = and-right s (r && k) y in
       record {
-        headed = head-facts h head x;
-        staged = records-ok-facts 10288 10254 (b .staged-counts) (b .staged) (and-left s (r && k) y);
-        table = records-ok-facts 10288 10254 (b .table-counts) (b .table) (and-left r k z);
-        deleted = keys-ok-facts (b .deleted-counts) (b .deleted) (and-right r k z);
+        headed = head-facts h head (and-left (head-ok h head) (lists-ok edition-1 b) t);
+        listed = lists-fit edition-1 b (and-right (head-ok h head) (lists-ok edition-1 b) t);
       }
 
   pub pop-test : PopOk → pop-ok edition-1 h b head ≡ true
-  unfolding pop-ok lists-ok
-  pop-test f =
-      rw (
-        head-test h head (f .headed),
-        records-ok-test 10288 10254 (b .staged-counts) (b .staged) (f .staged),
-        records-ok-test 10288 10254 (b .table-counts) (b .table) (f .table),
-      ) (keys-ok-test (b .deleted-counts) (b .deleted) (f .deleted))
+  unfolding pop-ok
+  pop-test f = and-true (head-ok h head) (lists-ok edition-1 b) (head-test h head (f .headed)) (fit-lists edition-1 b (f .listed))
 
   -- what the core asks for
   pub pop-ready : pop-ok edition-1 h b head ≡ true → (h .len ≤ 512) × PopReady b head
   pop-ready t =
       let f = pop-facts t in
-      (f .headed .few, record { long = f .headed .long; in-staged = f .staged .bounds; in-table = f .table .bounds; in-deleted = f .deleted .bounds })
+      let l = f .listed in
+      (f .headed .few, record { long = f .headed .long; in-staged = l .in-staged .bounds; in-table = l .in-table .bounds; in-deleted = l .in-deleted .bounds })
 
 -- ---- an accepted pop
 
@@ -88,15 +69,6 @@ kept-number : (b : Lists) (v : ℤ) (h : HeadCounts) (c e : ListCounts) (head : 
 kept-number b v h c e head staged deleted ok v′ h′ c′ e′ q =
     let p : h ≡ h′ = cc in let r : c ≡ c′ = cc in let s : e ≡ e′ = cc in
     rw (← p, ← r, ← s) (pop-test h (lists c staged (b .table-counts) (b .table) e deleted) head ok)
-
--- a key's record leaves a list that passes
-without-ok : (key : List ℕ) (c : ListCounts) (l : List ℕ) → RecordsOk 10288 10254 c l
-    → RecordsOk 10288 10254 (count-without (find-key key (keys 10288 (c .count) l)) c) (bytes-without 10288 (find-key key (keys 10288 (c .count) l)) c l)
-without-ok key c l ok = by-found (find-key key (keys 10288 (c .count) l)) refl
-  where
-    by-found : (f : Found) → f ≡ find-key key (keys 10288 (c .count) l) → RecordsOk 10288 10254 (count-without f c) (bytes-without 10288 f c l)
-    by-found (At i) e = records-ok-after-remove 10288 10254 i c l (found-in key 10288 (c .count) l i (At i) e refl) ok
-    by-found Nothing e = ok
 
 module _ (kind : Kind) (parent : List ℕ) (h : HeadCounts) (b : Lists) (head : List ℤ) (ok : PopOk h b head) where
   merged-kept : (key : List ℕ) → length key ≡ 32 → (spills : ℕ) (zs : List ℤ) → length zs ≤ 512 → full-for 32 (b .deleted-counts) key (b .deleted) ≡ false
@@ -119,9 +91,12 @@ module _ (kind : Kind) (parent : List ℕ) (h : HeadCounts) (b : Lists) (head : 
                     ok .headed .long,
                   );
             };
-        staged = without-ok key (b .staged-counts) (b .staged) (ok .staged);
-        table = ok .table;
-        deleted = keys-ok-after-put (b .deleted-counts) key (b .deleted) k free (ok .deleted);
+        listed =
+            record {
+              in-staged = without-ok 10288 10254 key (b .staged-counts) (b .staged) (ok .listed .in-staged);
+              in-table = ok .listed .in-table;
+              in-deleted = keys-ok-after-put (b .deleted-counts) key (b .deleted) k free (ok .listed .in-deleted);
+            };
       })
 
   merge-kept : (x : RowRead) → ((zs : List ℤ) → x ≡ good zs → length zs ≤ 512) → (key : List ℕ) → length key ≡ 32 → (spills : ℕ)
@@ -160,9 +135,8 @@ module _ (kind : Kind) (parent : List ℕ) (h : HeadCounts) (b : Lists) (head : 
           (b .staged) (b .deleted)
           (record {
             headed = record { few = omega (arith, ok .headed .few); long = omega (arith, length-set head (h .len - 1) (pos 0), ok .headed .long) };
-            staged = ok .staged;
-            table = ok .table;
-            deleted = ok .deleted;
+            listed =
+                record { in-staged = ok .listed .in-staged; in-table = ok .listed .in-table; in-deleted = ok .listed .in-deleted };
           })
       by-tests false false true = kept-refused b 19 head (b .staged) (b .deleted)
       by-tests false false false = unspill-kept (natAbs (h .spills) - 1)

@@ -1,2 +1,3 @@
 -- The laws of `refusal`.
 pub mod DriftLaws
+pub mod CodeLaws

@@ -1,6 +1,6 @@
 // The refusal codes of document 01 ("Where a call is turned back"), each by a name, and the answer of a call that returns nothing else.
 ghost use mathlib.Core.Path.{_≡_};
-ghost use Rattle.refusal.specs.Refusal.{tolerated};
+ghost use Rattle.refusal.specs.Refusal.{tolerated, numbers-from};
 
 // Reading.
 pub const BYTES_END: u8 = 1;
@@ -74,6 +74,46 @@ pub const UNKNOWN_CALL: u8 = 31;
 
 // Writing.
 pub const OUTPUT_TOO_SHORT: u8 = 32;
+
+// Holds the constants to their numbers, 1 to 32: none is 0, which stands for an accepted call. Nothing calls it.
+fn codes() -> [u8; 32]
+    ensures { λ r. ⌜ r ≡ numbers-from 1 32 ⌝ }
+{
+    [
+        BYTES_END,
+        NUMBER_TOO_LARGE,
+        NEGATIVE_LENGTH,
+        LIST_TOO_LONG,
+        LENGTH_ABOVE_BYTES_LEFT,
+        NEGATIVE_SPILL_COUNT_READ,
+        BAD_FLAG,
+        BYTES_LEFT_OVER,
+        TARGET_IS_MINIMUM,
+        HEAD_OUT_OF_ORDER,
+        NEGATIVE_SPILL_COUNT,
+        ROW_MISSING,
+        ROW_OUT_OF_ORDER,
+        NO_COPY_OF_THAT_SIGN,
+        TARGET_NOT_SEEN,
+        STAGING_FULL,
+        NEGATIVE_NUMBER,
+        SPILL_COUNT_AT_LIMIT,
+        NOTHING_TO_POP,
+        ROW_WITHOUT_NUMBERS,
+        DELETED_FULL,
+        TABLE_FULL,
+        AMOUNT_OUT_OF_RANGE,
+        TOO_MANY_TOKENS,
+        BUFFERS,
+        UNDO_ENTRY_EMPTY,
+        UNDO_ENTRY_ID_CUT,
+        UNDO_ENTRY_TAG,
+        UNDO_ENTRY_NUMBERS_CUT,
+        UNDO_ENTRY_LEFT_OVER,
+        UNKNOWN_CALL,
+        OUTPUT_TOO_SHORT,
+    ]
+}
 
 // What a call answers that gives nothing else.
 pub enum Answer {

@@ -1,4 +1,4 @@
--- One law for each way out of a public call, and what a passed test of refusal 25 gives its core.
+-- One law for each way out of a public call, and what a passed test of refusal 25 gives a flip.
 use Prim.Native.Nat.{ℕ, _≤_}
 use mathlib.Core.Path.{_≡_, refl, sym, ap, _∙_}
 use mathlib.Core.Bool.{Bool, true, false, _&&_, cond}
@@ -8,8 +8,8 @@ use lib.IntN.{ℤ}
 use lib.ListN.{length, take}
 use borrow.Author.Tests.{leb-true}
 use Rattle.records.specs.declared.ListCounts.{ListCounts}
-use Rattle.records.specs.Checks.{InBounds, records-ok, keys-ok}
-use Rattle.records.proofs.CheckLaws.{and-left, and-right, records-ok-facts, keys-ok-facts}
+use Rattle.records.specs.Checks.{records-ok}
+use Rattle.records.proofs.CheckLaws.{and-left, and-right, records-ok-facts}
 use Rattle.segment_id.specs.declared.Kind.{Kind}
 use Rattle.buffer_core.specs.declared.HeadCounts.{HeadCounts}
 use Rattle.buffer_core.specs.declared.Appended.the-variants as appended
@@ -28,10 +28,7 @@ use Rattle.buffer_core.specs.declared.Tallied.{Tallied}
 use Rattle.buffer_core.specs.declared.Tallied.the-variants as tallied
 use Rattle.buffer_core.specs.Spills.{sources}
 use Rattle.buffer_core.specs.Tally.{tally-core, tally-of}
-use Rattle.append_core.specs.Ready.{AppendReady}
-use Rattle.pop_core.specs.Ready.{PopReady}
 use Rattle.flip_core.specs.Ready.{FlipReady}
-use Rattle.flush_core.specs.Steps.{FlushReady}
 
 -- ---- heads
 
@@ -54,34 +51,6 @@ module _ (kind : Kind) (parent : List ℕ) (h : HeadCounts) (number : ℤ) (c : 
   unfolding append-of
   append-goes e o d = rw e d
 
-pub append-ready : (h : HeadCounts) (c : ListCounts) (head : List ℤ) (staged : List ℕ) → append-ok edition-1 h c head staged ≡ true → AppendReady h c head staged
-unfolding append-ok
-append-ready h c head staged e =
-    let a : Bool = head-ok h head in
-    let b : Bool = records-ok 10288 10254 c staged in
-    let k = and-left a b e in
-    record { few = head-few h head k; long = head-long h head k; bounds = records-ok-facts 10288 10254 c staged (and-right a b e) .bounds }
-
--- ---- the three lists
-
-pub record ListsIn (b : Lists) : Type 0 where
-  pub in-staged : InBounds 10288 (b .staged-counts) (b .staged)
-  pub in-table : InBounds 10288 (b .table-counts) (b .table)
-  pub in-deleted : InBounds 32 (b .deleted-counts) (b .deleted)
-
-pub lists-in : (b : Lists) → lists-ok edition-1 b ≡ true → ListsIn b
-unfolding lists-ok
-lists-in b e =
-    let x : Bool = records-ok 10288 10254 (b .staged-counts) (b .staged) in
-    let y : Bool = records-ok 10288 10254 (b .table-counts) (b .table) in
-    let z : Bool = keys-ok (b .deleted-counts) (b .deleted) in
-    let r = and-right x (y && z) e in
-    record {
-      in-staged = records-ok-facts 10288 10254 (b .staged-counts) (b .staged) (and-left x (y && z) e) .bounds;
-      in-table = records-ok-facts 10288 10254 (b .table-counts) (b .table) (and-left y z r) .bounds;
-      in-deleted = keys-ok-facts (b .deleted-counts) (b .deleted) (and-right y z r) .bounds;
-    }
-
 -- ---- pop
 
 module _ (kind : Kind) (parent : List ℕ) (h : HeadCounts) (b : Lists) (head : List ℤ) where
@@ -92,13 +61,6 @@ module _ (kind : Kind) (parent : List ℕ) (h : HeadCounts) (b : Lists) (head : 
   pub pop-goes : pop-ok edition-1 h b head ≡ true → (o : Popping) → o ≡ pop-core edition-1 kind parent h b head → o ≡ pop-of edition-1 kind parent h b head
   unfolding pop-of
   pop-goes e o d = rw e d
-
-pub pop-ready : (h : HeadCounts) (b : Lists) (head : List ℤ) → pop-ok edition-1 h b head ≡ true → (h .len ≤ 512) × PopReady b head
-unfolding pop-ok
-pop-ready h b head e =
-    let k = and-left (head-ok h head) (lists-ok edition-1 b) e in
-    let l = lists-in b (and-right (head-ok h head) (lists-ok edition-1 b) e) in
-    (head-few h head k, record { long = head-long h head k; in-staged = l .in-staged; in-table = l .in-table; in-deleted = l .in-deleted })
 
 -- ---- spend and unspend
 
@@ -138,9 +100,6 @@ module _ (b : Lists) where
   pub flush-goes : lists-ok edition-1 b ≡ true → (o : Flushing) → o ≡ flush-core edition-1 b → o ≡ flush-of edition-1 b
   unfolding flush-of
   flush-goes e o d = rw e d
-
-  pub flush-ready : lists-ok edition-1 b ≡ true → FlushReady b
-  flush-ready e = let l = lists-in b e in record { in-table = l .in-table; in-staged = l .in-staged; in-deleted = l .in-deleted }
 
 -- ---- the popped number, as the number of a box or of a transaction
 

@@ -1,12 +1,8 @@
 // Document 01's worked example of the call runner ("Trial values"): "Runner on append 5, spend 5, spend 5, pop box, parent 0, prints "1 0", "2 0", "3 14",
 // "4 0 -5", "p 0 0 0 0 0 0 0", "p 1 0 0 0 0 0 0", a line each." The file stdout holds these six lines.
-ghost use mathlib.Core.Path.{_≡_};
 ghost use Prim.Native.Nat.{_<_};
-ghost use lib.ListN.{length};
-use call_steps::SpillCounts;
 use libc::STDERR_FILENO;
 use libc::STDOUT_FILENO;
-use records::ListCounts;
 
 // The bytes of the four calls: a kind (1 append box, 3 spend, 5 pop box), the parent 0 and, but for the pop, the number 5 in eight bytes.
 const CALLS: [u8; 32] = [
@@ -43,38 +39,6 @@ const CALLS: [u8; 32] = [
     5,
     0,
 ];
-
-// The segments table of 2, the staged spills of 1 and the deleted spills of 2, all empty.
-fn empty_lists() -> SpillCounts {
-    let staged = ListCounts {
-        count: 0,
-        capacity: 1,
-    };
-    let table = ListCounts {
-        count: 0,
-        capacity: 2,
-    };
-    let deleted = ListCounts {
-        count: 0,
-        capacity: 2,
-    };
-    SpillCounts {
-        staged,
-        table,
-        deleted,
-    }
-}
-
-// The ids of two parents: the byte 0 32 times, and the byte 1 32 times.
-fn parent_ids() -> [u8; 8256]
-    ensures { λ r. ⌜ 8256 ≡ length r ⌝ }
-{
-    let mut ids = [0u8; 8256];
-    for i in 4128..4160 {
-        ids[i] = 1;
-    }
-    ids
-}
 
 fn say(message: &[u8]) {
     io::write_all(STDERR_FILENO, message);
@@ -123,7 +87,7 @@ fn print_calls(answers: &[u8; 8], popped: &[i64; 4]) {
 
 fn main() {
     let calls = CALLS;
-    let mut ids = parent_ids();
+    let mut ids = runner_start::parent_ids();
     let mut numbers = [0i64; 2306];
     let mut lengths = [0usize; 6];
     let mut spills = [0i32; 4];
@@ -132,7 +96,7 @@ fn main() {
     let mut deleted = [0u8; 64];
     let mut answers = [0u8; 8];
     let mut popped = [0i64; 4];
-    let counts = empty_lists();
+    let counts = runner_start::empty_lists();
     let p = runner::run_calls(
         &calls,
         2,

@@ -1,6 +1,6 @@
 use borrow.Author.Needs.{needs}
 use denote.Ref.{now}
-use Rattle.segment_buffer.proofs.CallLaws.{flush-ready}
+use Rattle.flush_core.proofs.KeepLaws.{flush-ready}
 use Rattle.call_steps.specs.Steps.{lists-with}
 use Rattle.call_steps.proofs.StepLaws.{flush-law}
 use Rattle.call_steps.proofs.flush_step.Statement.{statement}

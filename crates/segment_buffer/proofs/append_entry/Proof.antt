@@ -3,7 +3,8 @@ use mathlib.Core.Path.{sym, _∙_}
 use denote.Ref.{now}
 use mir.Syntax.{w64}
 use Rattle.signed.proofs.SignedLaws.{back}
-use Rattle.segment_buffer.proofs.CallLaws.{append-25, append-goes, append-ready}
+use Rattle.append_core.proofs.KeepLaws.{append-ready}
+use Rattle.segment_buffer.proofs.CallLaws.{append-25, append-goes}
 use borrow.Author.Needs.{needs}
 use Rattle.segment_buffer.proofs.append_entry.Statement.{statement}
 use Rattle.segment_buffer.proofs.append_entry.Tie as tie

@@ -2,7 +2,8 @@
 use mathlib.Core.Path.{sym, _∙_}
 use denote.Ref.{now}
 use Rattle.buffer_core.specs.Pop.{lists}
-use Rattle.segment_buffer.proofs.CallLaws.{flush-25, flush-goes, flush-ready}
+use Rattle.flush_core.proofs.KeepLaws.{flush-ready}
+use Rattle.segment_buffer.proofs.CallLaws.{flush-25, flush-goes}
 use borrow.Author.Needs.{needs}
 use Rattle.segment_buffer.proofs.flush_staged_spills.Statement.{statement}
 use Rattle.segment_buffer.proofs.flush_staged_spills.Tie as tie

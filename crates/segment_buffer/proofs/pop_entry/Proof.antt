@@ -2,7 +2,8 @@
 use mathlib.Core.Path.{sym, _∙_}
 use denote.Ref.{now}
 use Rattle.buffer_core.specs.Pop.{lists}
-use Rattle.segment_buffer.proofs.CallLaws.{pop-25, pop-goes, pop-ready}
+use Rattle.pop_core.proofs.KeepLaws.{pop-ready}
+use Rattle.segment_buffer.proofs.CallLaws.{pop-25, pop-goes}
 use borrow.Author.Needs.{needs}
 use Rattle.segment_buffer.proofs.pop_entry.Statement.{statement}
 use Rattle.segment_buffer.proofs.pop_entry.Tie as tie

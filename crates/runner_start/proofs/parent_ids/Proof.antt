@@ -3,8 +3,8 @@ use Prim.Native.Nat.{_-_, _≤_}
 use mathlib.Core.Path.{_≡_, refl}
 use native.Mathlib.Omega.{arith}
 use lib.ListN.{length, length-set}
-use Rattle.call_runner.proofs.parent_ids.Statement.{statement}
-use Rattle.call_runner.proofs.parent_ids.Tie as tie
+use Rattle.runner_start.proofs.parent_ids.Statement.{statement}
+use Rattle.runner_start.proofs.parent_ids.Tie as tie
 
 abbrev Inv-loop : tie.InvT-loop
 Inv-loop ids₀ i₀ ids i = (i ≤ 4160) × (8256 ≡ length ids)

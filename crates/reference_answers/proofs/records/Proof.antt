@@ -2,8 +2,8 @@
 use Prim.Native.Nat.{_-_, _≤_}
 use borrow.Author.Needs.{needs}
 use lib.ListN.{length}
-use Rattle.reference_rows.proofs.records.Statement.{statement}
-use Rattle.reference_rows.proofs.records.Tie as tie
+use Rattle.reference_answers.proofs.records.Statement.{statement}
+use Rattle.reference_answers.proofs.records.Tie as tie
 
 abbrev Inv-loop : tie.InvT-loop
 Inv-loop s at₀ at = 0 ≤ at
