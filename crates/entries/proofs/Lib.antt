@@ -1,5 +1,6 @@
 -- The laws of `entries`.
 pub mod TurnLaws
 pub mod Counts
+pub mod OrderLaws
 pub mod PositionLaws
 pub mod FlipLaws

@@ -1,10 +1,11 @@
 // The signed entries of a head or a row: their order, the entry that a spend or an unspend takes, and how many are spent.
 ghost use mathlib.Core.Path.{_≡_};
-ghost use mathlib.Core.Bool.{false};
+ghost use mathlib.Core.Bool.{true, false, cond};
 ghost use lib.IntN.{ℤ, pos, natAbs};
 ghost use lib.ListN.{length, take, getD};
 ghost use Prim.Native.Nat.{_+_, _<_, _≤_};
-ghost use Rattle.entries.specs.Order.{order-ok};
+ghost use Rattle.entries.specs.declared.Position.the-variants.{Seen, Absent};
+ghost use Rattle.entries.specs.Order.{order-ok, Below, From};
 ghost use Rattle.entries.specs.Flip.{position, flipped-at};
 ghost use Rattle.entries.specs.Tally.{spent};
 
@@ -36,28 +37,53 @@ pub fn order_ok(xs: &[i64], n: usize) -> bool
     true
 }
 
-// The first entry of the target's absolute value and the wanted sign among the first n.
-pub fn flip_position(xs: &[i64], n: usize, target: u64, spend: bool) -> Position
-    requires { ⌜ n ≤ length (now xs) ⌝ }
-    ensures { λ r. ⌜ r ≡ position spend target (take n (now (xs .entry))) 0 false ⌝ }
+// The first place of the first n, which are in order, whose absolute value is at least the target; or n.
+fn place_from(xs: &[i64], n: usize, target: u64) -> usize
+    requires { ⌜ (n ≤ length (now xs)) × (order-ok (take n (now xs)) ≡ true) ⌝ }
+    ensures { λ r. ⌜ (r ≤ n) × Below target r (now (xs .entry)) × From target r n (now (xs .entry)) ⌝ }
 {
-    let mut seen = false;
-    let mut i = 0;
-    while i < n {
-        let x = xs[i];
-        if signed::magnitude(x) == target {
-            if signed::is_wanted(spend, x) {
-                return Position::At(i);
-            }
-            seen = true;
+    let mut low = 0;
+    let mut high = n;
+    while low < high {
+        let middle = low + (high - low) / 2;
+        if signed::magnitude(xs[middle]) < target {
+            low = middle + 1;
+        } else {
+            high = middle;
         }
-        i += 1;
     }
+    low
+}
+
+fn not_taken(seen: bool) -> Position
+    ensures { λ r. ⌜ r ≡ cond seen Seen Absent ⌝ }
+{
     if seen {
         Position::Seen
     } else {
         Position::Absent
     }
+}
+
+// The first entry of the target's absolute value and the wanted sign among the first n, which are in order.
+pub fn flip_position(xs: &[i64], n: usize, target: u64, spend: bool) -> Position
+    requires { ⌜ (n ≤ length (now xs)) × (order-ok (take n (now xs)) ≡ true) ⌝ }
+    ensures { λ r. ⌜ r ≡ position spend target (take n (now (xs .entry))) 0 false ⌝ }
+{
+    let mut seen = false;
+    let mut i = place_from(xs, n, target);
+    while i < n {
+        let x = xs[i];
+        if target < signed::magnitude(x) {
+            return not_taken(seen);
+        }
+        if signed::is_wanted(spend, x) {
+            return Position::At(i);
+        }
+        seen = true;
+        i += 1;
+    }
+    not_taken(seen)
 }
 
 // Negates the number at a place.

@@ -71,7 +71,7 @@ fn stands_later(list: &[u8], at: usize, size: usize, left: usize) -> bool
     }
 }
 
-// Whether no key stands twice, by comparing each key with all those behind it.
+// Whether no key stands twice, by comparing each key with all those behind it. A few keys are compared so: a bucket table costs more to clear.
 fn keys_differ_pairwise(list: &[u8], size: usize, count: usize) -> bool
     requires { ⌜ (32 ≤ size) × (count * size ≤ length (now list)) ⌝ }
     ensures { λ r. ⌜ r ≡ distinct (keys size count (now (list .entry))) ⌝ }
@@ -366,14 +366,11 @@ fn keys_differ_many(list: &[u8], size: usize, count: usize) -> bool
     keys_differ_chained(list, size, count, &mut first, &mut link)
 }
 
-// Whether no key stands twice. The time is about linear in the count up to 8,192 records, as long as keys are spread evenly; a few are compared in pairs.
-pub fn keys_differ(list: &[u8], size: usize, count: usize) -> bool
+// Whether no key stands twice among more than a few. The time is about linear in the count up to 8,192 records, as long as keys are spread evenly.
+fn keys_differ(list: &[u8], size: usize, count: usize) -> bool
     requires { ⌜ (32 ≤ size) × (count * size ≤ length (now list)) ⌝ }
     ensures { λ r. ⌜ r ≡ distinct (keys size count (now (list .entry))) ⌝ }
 {
-    if count <= 8 {
-        return keys_differ_pairwise(list, size, count);
-    }
     if count <= 128 {
         return keys_differ_few(list, size, count);
     }
@@ -390,6 +387,9 @@ pub fn records_ok(list: &[u8], size: usize, limit: usize, counts: ListCounts) ->
 {
     if bounds_hold(size, counts, list) {
         if lengths_fit(list, size, limit, counts.count) {
+            if counts.count <= 8 {
+                return keys_differ_pairwise(list, size, counts.count);
+            }
             return keys_differ(list, size, counts.count);
         }
     }
@@ -401,6 +401,9 @@ pub fn keys_ok(list: &[u8], counts: ListCounts) -> bool
     ensures { λ r. ⌜ r ≡ keys-ok counts (now (list .entry)) ⌝ }
 {
     if bounds_hold(32, counts, list) {
+        if counts.count <= 8 {
+            return keys_differ_pairwise(list, 32, counts.count);
+        }
         return keys_differ(list, 32, counts.count);
     }
     false

@@ -172,7 +172,7 @@ pub fn read_length(row: &[u8], at: usize) -> Got
     }
 }
 
-// k numbers from a position on.
+// k numbers from a position on; most have few groups.
 fn read_numbers(row: &[u8], at: usize, k: usize, buf: &mut [i64; 512]) -> Part
     requires { ⌜ k ≤ 512 ⌝ }
     ensures { λ r. ⌜ ReadInto (numbers-at k (now (row .entry)) at) (now (buf .entry)) r (now (buf .exit)) ⌝ }
@@ -180,13 +180,20 @@ fn read_numbers(row: &[u8], at: usize, k: usize, buf: &mut [i64; 512]) -> Part
     let mut next = at;
     let mut i = 0;
     while i < k {
-        match vlq_core::get_i64(row, next) {
-            Long::Number(z, n) => {
-                buf[i] = z;
-                next = n;
-            }
-            Long::Refused(code) => {
-                return Part::Refused(code);
+        let short = vlq_core::get_short(row, next);
+        let size = short.size;
+        if 0 < size {
+            buf[i] = vlq_core::unzigzag(short.coded);
+            next = next + size;
+        } else {
+            match vlq_core::get_i64(row, next) {
+                Long::Number(z, n) => {
+                    buf[i] = z;
+                    next = n;
+                }
+                Long::Refused(code) => {
+                    return Part::Refused(code);
+                }
             }
         }
         i = i + 1;

@@ -5,5 +5,6 @@ pub mod GroupLaws
 pub mod WriteLaws
 pub mod ReadLaws
 pub mod LoopLaws
+pub mod ShortLaws
 pub mod BackLaws
 pub mod Vectors

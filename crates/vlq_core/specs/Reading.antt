@@ -4,12 +4,13 @@
 use Prim.Native.Nat.{ℕ, zero, suc, _+_, _*_, _%_, _^_}
 use mathlib.Core.Bool.{cond}
 use mathlib.Core.List.{List, [], _∷_}
-use lib.Dec.{ltb}
+use lib.Dec.{eqb, ltb}
 use lib.IntN.{ℤ}
 use lib.ListN.{drop}
 use Rattle.vlq_core.specs.Zigzag.{zag}
 use Rattle.vlq_core.specs.declared.Got.{Got}
 use Rattle.vlq_core.specs.declared.Got.the-variants.{Value, Refused}
+use Rattle.vlq_core.specs.declared.Short.{Short}
 use Rattle.vlq_core.specs.declared.Long.{Long}
 use Rattle.vlq_core.specs.declared.Long.the-variants as long
 use Rattle.vlq_core.specs.declared.Int.{Int}
@@ -35,6 +36,10 @@ narrow k (Refused r) = Refused r
 -- Padding is accepted here; a test of it, directly after 2, would stand before `narrow` and nowhere else.
 unfoldable pub read-at : ℕ → List ℕ → ℕ → Got
 read-at k s at = narrow k (dec 9 (drop at s) at)
+
+-- what a short number at position `at` says of the answer g: all of it, or nothing
+abbrev pub short-of : Short → ℕ → Got → Got
+short-of s at g = cond (eqb (s .size) 0) g (Value (s .coded) (at + s .size))
 
 -- the signed number, of either width, as an answer of any type
 module _ {A : Type 0} where

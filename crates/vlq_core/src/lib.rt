@@ -7,12 +7,18 @@ ghost use lib.ListN.{length, drop};
 ghost use Rattle.stores.specs.Stores.{Put};
 ghost use Rattle.vlq_core.specs.Zigzag.{zig, zag};
 ghost use Rattle.vlq_core.specs.Groups.{enc};
-ghost use Rattle.vlq_core.specs.Reading.{dec, read-at, long-of, int-of};
+ghost use Rattle.vlq_core.specs.Reading.{dec, read-at, short-of, long-of, int-of};
 
 // A coded number that was read and the position after it, or the refusal code.
 pub enum Got {
     Value(u64, usize),
     Refused(u8),
+}
+
+// A coded number of a few groups and how many they are; no group stands for any other number.
+pub struct Short {
+    pub coded: u64,
+    pub size: usize,
 }
 
 // A signed 64-bit number that was read and the position after it, or the refusal code.
@@ -176,6 +182,47 @@ fn get_groups(src: &[u8], at: usize) -> Got
         return Got::Value(sum + scale * b, i + 1);
     }
     Got::Refused(REFUSED_TOO_LARGE)
+}
+
+// The coded number at a position if it has at most four groups and four bytes are there.
+pub fn get_short(src: &[u8], at: usize) -> Short
+    ensures { λ r. ⌜ short-of r at (read-at 64 (now (src .entry)) at) ≡ read-at 64 (now (src .entry)) at ⌝ }
+{
+    if src.len() < 4 {
+        return Short { coded: 0, size: 0 };
+    }
+    if src.len() - 4 < at {
+        return Short { coded: 0, size: 0 };
+    }
+    let a = wide(src[at]);
+    if a < 128 {
+        return Short { coded: a, size: 1 };
+    }
+    let second = at + 1;
+    let b = wide(src[second]);
+    if b < 128 {
+        return Short {
+            coded: a % 128 + 128 * b,
+            size: 2,
+        };
+    }
+    let third = at + 2;
+    let c = wide(src[third]);
+    if c < 128 {
+        return Short {
+            coded: a % 128 + 128 * (b % 128) + 16384 * c,
+            size: 3,
+        };
+    }
+    let fourth = at + 3;
+    let d = wide(src[fourth]);
+    if d < 128 {
+        return Short {
+            coded: a % 128 + 128 * (b % 128) + 16384 * (c % 128) + 2097152 * d,
+            size: 4,
+        };
+    }
+    Short { coded: 0, size: 0 }
 }
 
 // The coded 64-bit number at a position.

@@ -1,10 +1,14 @@
 -- `segment_core::read_numbers` meets its contract. The invariant: whatever reading the rest into the buffer as it is now gives, reading all gives.
-use mathlib.Core.Path.{sym, _∙_}
+use mathlib.Core.Path.{sym, ap, _∙_}
+use mathlib.Core.Logic.{⊎-elim}
 use mathlib.Core.List.{List}
 use Prim.Native.Nat.{_-_, _≤_}
 use lib.IntN.{ℤ}
 use mir.Syntax.{w64}
 use mir.Facts.{toZ-ofZ}
+use Rattle.vlq_core.specs.Reading.{long-of}
+use Rattle.vlq_core.proofs.ReadLaws.{read-next}
+use Rattle.vlq_core.proofs.ShortLaws.{short-read}
 use Rattle.segment_core.specs.declared.Part.{Part}
 use Rattle.segment_core.specs.Reading.{numbers-at}
 use Rattle.segment_core.proofs.ListLaws.{Fills, fills-start, fills-number, fills-bad, fills-end, fills-whole}
@@ -23,6 +27,26 @@ abbrev μ-loop : tie.MeasureT-loop
 loop-holds : tie.Need-loop-holds Inv-loop μ-loop
 loop-holds c = (search needs, λ r b p. fills-start _ _ 0 _ _ r b p)
 
+get-short-requires : tie.Need-get-short-requires Inv-loop μ-loop
+get-short-requires c κs = search needs
+
+unzigzag-requires : tie.Need-unzigzag-requires Inv-loop μ-loop
+unzigzag-requires c κs = search needs
+
+mul-t14 : tie.Need-mul-t14 Inv-loop μ-loop
+mul-t14 c = search needs
+
+element-set-from-buf : tie.Need-element-set-from-buf Inv-loop μ-loop
+element-set-from-buf c = search needs
+
+add-next : tie.Need-add-next Inv-loop μ-loop
+add-next c =
+    let l = c .before .before .before .before .loop in
+    let s = c .before .before .before .before .before .before in
+    let r = c .before .before .get-short in
+    let h = read-next 64 (s .args .row .now) (l .next) _ _ (short-read (s .args .row .now) (l .next) (r .result) (r .ensures) (c .before .if1 .taken)) .1 in
+    search needs
+
 get-i64-requires : tie.Need-get-i64-requires Inv-loop μ-loop
 get-i64-requires c κs = search needs
 
@@ -40,10 +64,10 @@ enum-known-code c = search needs
 
 returns : tie.Need-returns Inv-loop μ-loop
 returns c =
-    let s = c .before .before .before .before .before .before .before in
-    let l = c .before .before .before .before .before .loop in
+    let l = c .before .before .before .before .before .before .before .loop in
+    let s = c .before .before .before .before .before .before .before .before .before in
     let e = sym (c .before .before .before .get-i64 .ensures) ∙ c .before .code .given .1 in
-    fills-whole (s .args .k) _ _ _ _ _ (l .inv .1 _ _ (fills-bad (s .args .k) (s .args .row .now) (l .i) (l .next) (c .before .before .before .before .loop-test .taken) _ e (l .buf) (l .buf)))
+    fills-whole (s .args .k) _ _ _ _ _ (l .inv .1 _ _ (fills-bad (s .args .k) (s .args .row .now) (l .i) (l .next) (c .before .before .before .before .before .before .loop-test .taken) _ e (l .buf) (l .buf)))
 
 add-i : tie.Need-add-i Inv-loop μ-loop
 add-i c = search needs
@@ -53,12 +77,24 @@ loop-less c = search needs
 
 loop-again : tie.Need-loop-again Inv-loop μ-loop
 loop-again c =
-    let s = c .before .before .before .before .before .before .before in
-    let l = c .before .before .before .before .before .loop in
-    let g = c .before .z .given in
-    let e = sym (c .before .before .before .get-i64 .ensures) ∙ g .1 in
-    let q = toZ-ofZ {w = w64} (record { sfits = c .known-told .given .0 .1 }) in
-    (omega arith, λ r b p. l .inv .1 r b (fills-number (s .args .k) (s .args .row .now) (l .i) (l .next) (c .before .before .before .before .loop-test .taken) (g .0 .0) _ (g .0 .1 .0) e q (l .buf) r b p))
+    let l = c .before .before .before .loop in
+    let s = c .before .before .before .before .before in
+    let row = s .args .row .now in
+    let t = c .before .before .loop-test .taken in
+    let g = c .before .get-short in (
+      omega arith,
+      λ r b p.
+          ⊎-elim
+          (λ w.
+          let e = ap long-of (sym (short-read row (l .next) (g .result) (g .ensures) (w .0 .taken))) in
+          l .inv .1 r b (fills-number (s .args .k) row (l .i) (l .next) t _ _ _ e (toZ-ofZ {w = w64} (record { sfits = w .1 .ok }) ∙ w .1 .ensures) (l .buf) r b (rw (w .2, w .3) at p)))
+          (λ w.
+          let k = w .3 .given in
+          let e = sym (w .1 .ensures) ∙ k .1 in
+          let q = toZ-ofZ {w = w64} (record { sfits = w .4 .given .0 .1 }) in
+          l .inv .1 r b (fills-number (s .args .k) row (l .i) (l .next) t (k .0 .0) _ (k .0 .1 .0) e q (l .buf) r b (rw (w .5, w .6) at p)))
+          (c .if1 .came),
+    )
 
 returns-2 : tie.Need-returns-2 Inv-loop μ-loop
 returns-2 c =
@@ -73,6 +109,11 @@ read-numbers-spec =
     Inv-loop
     μ-loop
     loop-holds
+    get-short-requires
+    unzigzag-requires
+    mul-t14
+    element-set-from-buf
+    add-next
     get-i64-requires
     enum-known-z
     mul-z
