@@ -4,6 +4,9 @@ ghost use mathlib.Core.Path.{_≡_};
 ghost use Prim.Native.Nat.{_*_, _<_, _≤_};
 ghost use lib.IntN.{pos};
 ghost use lib.ListN.{length};
+ghost use mathlib.Core.Bool.{true};
+ghost use Rattle.records.specs.Records.{keys};
+ghost use Rattle.records.specs.Find.{distinct};
 ghost use Rattle.segment_id.specs.Key.{row-key};
 ghost use Rattle.buffer_core.specs.Edition.{edition-1, numbers-of};
 ghost use Rattle.segment_core.specs.Reading.{row-of};
@@ -148,7 +151,7 @@ fn read_row(kind: Kind, row: &[u8], out: &mut [i64]) -> SpillRead
     }
 }
 
-// Reads the numbers of a kind in the row under a key.
+// Reads the numbers of a kind in the row under a key. The hints say where the table's records may stand (`records::hints`).
 pub fn read_under<'a>(
     kind: Kind,
     key: &[u8],
@@ -156,12 +159,22 @@ pub fn read_under<'a>(
     staged_count: usize,
     table: &'a [u8],
     table_count: usize,
+    hints: &[u16],
     out: &mut [i64],
 ) -> SpillRead
-    requires { ⌜ («staged_count» * 10288 ≤ length (now staged)) × («table_count» * 10288 ≤ length (now table)) × (length (now out) ≡ 512) ⌝ }
+    requires { ⌜ («staged_count» * 10288 ≤ length (now staged)) × («table_count» * 10288 ≤ length (now table)) × (length (now out) ≡ 512)
+        × (length (now key) ≡ 32) × (distinct (keys 10288 «table_count» (now table)) ≡ true) ⌝ }
     ensures { λ r. ⌜ SpillInto (read-under edition-1 kind (now (key .entry)) (now (staged .entry)) «staged_count» (now (table .entry)) «table_count») r (now (out .exit)) ⌝ }
 {
-    let place = records::locate(staged, staged_count, table, table_count, RECORD, key);
+    let place = records::hints::locate_hinted(
+        staged,
+        staged_count,
+        table,
+        table_count,
+        RECORD,
+        key,
+        hints,
+    );
     match place {
         Place::Staged(i) => {
             let row = records::row_part(staged, i * RECORD, RECORD);
@@ -192,13 +205,23 @@ pub fn read_spill<'a>(
     staged_count: usize,
     table: &'a [u8],
     table_count: usize,
+    hints: &[u16],
     out: &mut [i64],
 ) -> SpillRead
     requires { ⌜ («staged_count» * 10288 ≤ length (now staged)) × («table_count» * 10288 ≤ length (now table)) × (number < 2147483648)
-        × (length (now out) ≡ 512) ⌝ }
+        × (length (now out) ≡ 512) × (distinct (keys 10288 «table_count» (now table)) ≡ true) ⌝ }
     ensures { λ r. ⌜ SpillInto (spill-read edition-1 kind (sources (now (parent .entry)) (now (staged .entry)) «staged_count» (now (table .entry)) «table_count») number)
         r (now (out .exit)) ⌝ }
 {
     let key = spill_key(kind, parent, number);
-    read_under(kind, &key, staged, staged_count, table, table_count, out)
+    read_under(
+        kind,
+        &key,
+        staged,
+        staged_count,
+        table,
+        table_count,
+        hints,
+        out,
+    )
 }

@@ -33,7 +33,7 @@ use Rattle.append_core.proofs.KeepLaws.{append-ready}
 use Rattle.pop_core.specs.Ready.{PopReady}
 use Rattle.pop_core.proofs.KeepLaws.{pop-ready}
 use Rattle.flip_core.specs.Ready.{FlipReady}
-use Rattle.segment_buffer.proofs.CallLaws.{flip-ready}
+use Rattle.flip_core.proofs.KeepLaws.{flip-facts}
 use Rattle.call_steps.specs.declared.SpillCounts.{SpillCounts}
 use Rattle.call_steps.specs.declared.Stepped.{Stepped}
 use Rattle.call_steps.specs.State.{parent-id, head-at, head-counts, head-of, balance-of, ids-with, numbers-with, lengths-with}
@@ -136,7 +136,7 @@ module _ (numbers : List ℤ) (lengths : List ℕ) (spills : List ℤ) (n : Spil
       → flip-ok edition-1 (head-counts Box p lengths spills) (n .staged) staged (n .table) table (head-of Box p numbers) ≡ true
       → h ≡ head-counts Box p lengths spills → a ≡ head-at Box p → FlipReady h (n .staged) staged (n .table) table (take w (drop a numbers))
   flip-asks staged table ok e₂ e₃ =
-      flip-ready h (n .staged) staged (n .table) table (take w (drop a numbers))
+      flip-facts h (n .staged) staged (n .table) table (take w (drop a numbers))
       ((λ i. flip-ok edition-1 (e₂ i) (n .staged) staged (n .table) table (take (four i) (drop (e₃ i) numbers))) ∙ ok)
 
   pub pop-asks : (k : Kind) (staged table deleted : List ℕ)

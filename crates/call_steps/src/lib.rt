@@ -199,6 +199,7 @@ fn after_flip(r: Flipped, counts: SpillCounts) -> Stepped
     }
 }
 
+// The hints say where the table's records may stand (`records::hints`).
 pub fn flip_step(
     direction: Direction,
     p: usize,
@@ -209,6 +210,7 @@ pub fn flip_step(
     spills: &[i32],
     staged: &mut [u8],
     table: &[u8],
+    hints: &[u16],
     counts: SpillCounts,
 ) -> Stepped
     requires { ⌜ Within p (now ids) (now numbers) (now lengths) (now spills)
@@ -231,6 +233,7 @@ pub fn flip_step(
         staged,
         table_counts,
         table,
+        hints,
         &mut numbers[a..e],
     );
     after_flip(r, counts)

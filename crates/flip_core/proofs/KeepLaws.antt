@@ -211,9 +211,11 @@ unfolding flip-ok
 flip-facts h c staged e table head ok =
     let a = and-left (head-ok h head) _ ok in
     let b = and-right (head-ok h head) _ ok in
+    let t = records-ok-facts 10288 10254 e table (and-right (records-ok 10288 10254 c staged) _ b) in
     record {
       few = leb-true (h .len) 512 (and-left _ _ a);
       long = leb-true 512 (length head) (and-right (leb (h .len) 512) _ a);
       bounds = records-ok-facts 10288 10254 c staged (and-left (records-ok 10288 10254 c staged) _ b) .bounds;
-      table-bounds = records-ok-facts 10288 10254 e table (and-right (records-ok 10288 10254 c staged) _ b) .bounds;
+      table-bounds = t .bounds;
+      apart = t .apart;
     }

@@ -1,10 +1,13 @@
 -- What a spend or an unspend asks of its caller: the facts that the test of refusal 25 establishes.
 use Prim.Native.Nat.{ℕ, _*_, _≤_, _<_}
 use mathlib.Core.Path.{_≡_}
+use mathlib.Core.Bool.{true}
 use mathlib.Core.List.{List}
 use lib.IntN.{ℤ, pos, natAbs}
 use lib.ListN.{length, getD}
 use Rattle.records.specs.declared.ListCounts.{ListCounts}
+use Rattle.records.specs.Records.{keys}
+use Rattle.records.specs.Find.{distinct}
 use Rattle.records.specs.Checks.{InBounds}
 use Rattle.buffer_core.specs.declared.HeadCounts.{HeadCounts}
 use Rattle.buffer_core.specs.Edition.{RowRead, good}
@@ -14,6 +17,7 @@ pub record FlipReady (h : HeadCounts) (c : ListCounts) (staged : List ℕ) (e : 
   pub long : 512 ≤ length head
   pub bounds : InBounds 10288 c staged
   pub table-bounds : InBounds 10288 e table
+  pub apart : distinct (keys 10288 (e .count) table) ≡ true
 
 -- ---- the same for the steps
 
@@ -21,6 +25,7 @@ pub record FlipReady (h : HeadCounts) (c : ListCounts) (staged : List ℕ) (e : 
 pub record RowsReady (c : ListCounts) (staged : List ℕ) (table-count : ℕ) (table : List ℕ) : Type 0 where
   pub bounds : InBounds 10288 c staged
   pub within : table-count * 10288 ≤ length table
+  pub apart : distinct (keys 10288 table-count table) ≡ true
 
 -- a row was read, and the number at a place of it can be negated
 pub record Takes (x : RowRead) (at : ℕ) : Type 0 where

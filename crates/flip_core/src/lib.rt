@@ -1,24 +1,18 @@
-// Spend and unspend, once refusal 25 is tested: one core with the direction as a parameter.
+// Spend and unspend, once refusal 25 is tested: one core with the direction as a parameter. The hints say where the table's records may stand (`records::hints`).
 ghost use mathlib.Core.Path.{_≡_};
-ghost use mathlib.Core.Bool.{_||_};
 ghost use Prim.Native.Nat.{_+_, _*_, _≤_, _<_};
-ghost use lib.Dec.{ltb};
 ghost use lib.ListN.{length, take};
 ghost use Rattle.records.specs.Find.{row-at};
 ghost use Rattle.segment_core.specs.Reading.{row-of};
 ghost use Rattle.buffer_core.specs.Edition.{edition-1, numbers-of};
 ghost use Rattle.buffer_core.specs.Spills.{sources, spill-read};
-ghost use Rattle.buffer_core.specs.Flip.{row-checked, lead-at, search-in, look-past, look-in, look-at, walk-from, flipping, spends, done-by, row-flipped, stage-at, in-rows, in-order, flip-core};
+ghost use Rattle.buffer_core.specs.Flip.{flipping, spends, done-by, row-flipped, stage-at, in-rows, in-order, flip-core};
 ghost use Rattle.flip_core.specs.Ready.{FlipReady, RowsReady, Takes};
-ghost use Rattle.flip_core.specs.Steps.{CheckedInto, Written, Stages};
+ghost use Rattle.flip_core.specs.Steps.{Written, Stages};
 use buffer_core::Direction;
 use buffer_core::Flipped;
 use buffer_core::HeadCounts;
-use buffer_core::Lead;
-use buffer_core::Look;
 use buffer_core::Low;
-use buffer_core::Read;
-use buffer_core::SpillRead;
 use buffer_core::Walk;
 use entries::Position;
 use records::ListCounts;
@@ -26,240 +20,7 @@ use records::Place;
 use segment_core::Loaded;
 use segment_id::Kind;
 
-// ---- one row
-
-// Reads the row of a spill number: 512 numbers in order.
-pub fn read_checked<'a>(
-    parent: &[u8; 32],
-    number: usize,
-    staged: &'a [u8],
-    staged_count: usize,
-    table: &'a [u8],
-    table_count: usize,
-    out: &mut [i64],
-) -> Read
-    requires { ⌜ («staged_count» * 10288 ≤ length (now staged)) × («table_count» * 10288 ≤ length (now table)) × (number < 2147483648)
-        × (length (now out) ≡ 512) ⌝ }
-    ensures { λ r. ⌜ CheckedInto (row-checked edition-1 (sources (now (parent .entry)) (now (staged .entry)) «staged_count» (now (table .entry)) «table_count») number)
-        r (now (out .exit)) ⌝ }
-{
-    let read = buffer_core::read_spill(
-        Kind::Box,
-        parent,
-        number,
-        staged,
-        staged_count,
-        table,
-        table_count,
-        out,
-    );
-    match read {
-        SpillRead::Numbers(n) => {
-            if n != 512 {
-                return Read::Faulty(refusal::ROW_OUT_OF_ORDER);
-            }
-            if entries::order_ok(out, 512) {
-                Read::Good
-            } else {
-                Read::Faulty(refusal::ROW_OUT_OF_ORDER)
-            }
-        }
-        SpillRead::Refused(code) => Read::Faulty(code),
-    }
-}
-
-// The absolute value of the first number of a row.
-fn lead_of<'a>(
-    parent: &[u8; 32],
-    number: usize,
-    staged: &'a [u8],
-    staged_count: usize,
-    table: &'a [u8],
-    table_count: usize,
-) -> Lead
-    requires { ⌜ («staged_count» * 10288 ≤ length (now staged)) × («table_count» * 10288 ≤ length (now table)) × (number < 2147483648) ⌝ }
-    ensures { λ r. ⌜ r ≡ lead-at edition-1 (sources (now (parent .entry)) (now (staged .entry)) «staged_count» (now (table .entry)) «table_count») number ⌝ }
-{
-    let mut row = [0i64; 512];
-    let read = read_checked(
-        parent,
-        number,
-        staged,
-        staged_count,
-        table,
-        table_count,
-        &mut row,
-    );
-    match read {
-        Read::Good => Lead::Leads(signed::magnitude(row[0])),
-        Read::Faulty(code) => Lead::NoLead(code),
-    }
-}
-
-// ---- the halving
-
-// How many rows, from spill 0 on, lie at or before the newest whose first absolute value is at most the target.
-fn search<'a>(
-    parent: &[u8; 32],
-    staged: &'a [u8],
-    staged_count: usize,
-    table: &'a [u8],
-    table_count: usize,
-    target: u64,
-    low: usize,
-    high: usize,
-) -> Low
-    requires { ⌜ («staged_count» * 10288 ≤ length (now staged)) × («table_count» * 10288 ≤ length (now table)) × (high < 2147483648) ⌝ }
-    ensures { λ r. ⌜ r ≡ search-in (lead-at edition-1 (sources (now (parent .entry)) (now (staged .entry)) «staged_count» (now (table .entry)) «table_count»)) target low high ⌝ }
-{
-    if low < high {
-        let middle = low + (high - low) / 2;
-        let lead = lead_of(parent, middle, staged, staged_count, table, table_count);
-        match lead {
-            Lead::Leads(first) => {
-                if first <= target {
-                    search(
-                        parent,
-                        staged,
-                        staged_count,
-                        table,
-                        table_count,
-                        target,
-                        middle + 1,
-                        high,
-                    )
-                } else {
-                    search(
-                        parent,
-                        staged,
-                        staged_count,
-                        table,
-                        table_count,
-                        target,
-                        low,
-                        middle,
-                    )
-                }
-            }
-            Lead::NoLead(code) => Low::Broken(code),
-        }
-    } else {
-        Low::Upto(low)
-    }
-}
-
-// ---- the walk
-
-// What a row shows that has no entry to take.
-fn look_past(first: u64, target: u64, seen: bool) -> Look
-    ensures { λ r. ⌜ r ≡ look-past (ltb first target) seen ⌝ }
-{
-    if first < target {
-        Look::Stop(seen)
-    } else {
-        Look::Next(seen)
-    }
-}
-
-// What the numbers of a row show.
-fn look_in(row: &[i64], target: u64, spend: bool) -> Look
-    requires { ⌜ length (now row) ≡ 512 ⌝ }
-    ensures { λ r. ⌜ r ≡ look-in (now (row .entry)) target spend ⌝ }
-{
-    if signed::magnitude(row[511]) < target {
-        return Look::Stop(false);
-    }
-    let first = signed::magnitude(row[0]);
-    let position = entries::flip_position(row, 512, target, spend);
-    match position {
-        Position::At(i) => Look::Take(i),
-        Position::Seen => look_past(first, target, true),
-        Position::Absent => look_past(first, target, false),
-    }
-}
-
-// What the row of a spill number shows.
-fn look_at<'a>(
-    parent: &[u8; 32],
-    number: usize,
-    staged: &'a [u8],
-    staged_count: usize,
-    table: &'a [u8],
-    table_count: usize,
-    target: u64,
-    spend: bool,
-) -> Look
-    requires { ⌜ («staged_count» * 10288 ≤ length (now staged)) × («table_count» * 10288 ≤ length (now table)) × (number < 2147483648) ⌝ }
-    ensures { λ r. ⌜ r ≡ look-at edition-1 (sources (now (parent .entry)) (now (staged .entry)) «staged_count» (now (table .entry)) «table_count») target spend number ⌝ }
-{
-    let mut row = [0i64; 512];
-    let read = read_checked(
-        parent,
-        number,
-        staged,
-        staged_count,
-        table,
-        table_count,
-        &mut row,
-    );
-    match read {
-        Read::Good => look_in(&row, target, spend),
-        Read::Faulty(code) => Look::Fail(code),
-    }
-}
-
-fn either(a: bool, b: bool) -> bool
-    ensures { λ r. ⌜ r ≡ (a || b) ⌝ }
-{
-    if a { true } else { b }
-}
-
-// The rows below a spill number, the newest first.
-fn walk_down<'a>(
-    parent: &[u8; 32],
-    staged: &'a [u8],
-    staged_count: usize,
-    table: &'a [u8],
-    table_count: usize,
-    target: u64,
-    spend: bool,
-    from: usize,
-    seen: bool,
-) -> Walk
-    requires { ⌜ («staged_count» * 10288 ≤ length (now staged)) × («table_count» * 10288 ≤ length (now table)) × (from < 2147483648) ⌝ }
-    ensures { λ r. ⌜ r ≡ walk-from (look-at edition-1 (sources (now (parent .entry)) (now (staged .entry)) «staged_count» (now (table .entry)) «table_count») target spend) from seen ⌝ }
-{
-    let mut low = from;
-    let mut saw = seen;
-    while 0 < low {
-        low -= 1;
-        let look = look_at(
-            parent,
-            low,
-            staged,
-            staged_count,
-            table,
-            table_count,
-            target,
-            spend,
-        );
-        match look {
-            Look::Take(i) => {
-                return Walk::Hit(low, i);
-            }
-            Look::Stop(s) => {
-                return Walk::Ended(either(saw, s));
-            }
-            Look::Next(s) => {
-                saw = either(saw, s);
-            }
-            Look::Fail(code) => {
-                return Walk::Failed(code);
-            }
-        }
-    }
-    Walk::Ended(saw)
-}
+pub mod rows;
 
 // ---- a match in a row
 
@@ -304,6 +65,7 @@ fn stage(
     staged: &mut [u8],
     table_count: usize,
     table: &[u8],
+    hints: &[u16],
 ) -> Flipped
     requires { ⌜ RowsReady «staged_counts» (now staged) «table_count» (now table) × (number < 2147483648)
         × Takes (spill-read edition-1 Kind.Box (sources (now parent) (now staged) («staged_counts» .count) (now table) «table_count») number) at ⌝ }
@@ -314,7 +76,15 @@ fn stage(
     let capacity = staged_counts.capacity;
     let key = segment_id::row_key(parent, Kind::Box, signed::i32_from_usize(number));
     let mut row = [0u8; 10254];
-    let place = records::locate(staged, held, table, table_count, buffer_core::RECORD, &key);
+    let place = records::hints::locate_hinted(
+        staged,
+        held,
+        table,
+        table_count,
+        buffer_core::RECORD,
+        &key,
+        hints,
+    );
     match place {
         Place::Staged(i) => {
             let n = rewrite_record(staged, i, at, &mut row);
@@ -346,21 +116,33 @@ fn flip_rows(
     staged: &mut [u8],
     table_count: usize,
     table: &[u8],
+    hints: &[u16],
 ) -> Flipped
     requires { ⌜ RowsReady «staged_counts» (now staged) «table_count» (now table) × (spills < 2147483648) × (target < 9223372036854775808) ⌝ }
     ensures { λ r. ⌜ Stages (in-rows edition-1 (sources (now (parent .entry)) (now (staged .entry)) («staged_counts» .count) (now (table .entry)) «table_count») («staged_counts» .capacity) target spend spills seen)
         «staged_counts» (now (staged .entry)) r (now (staged .exit)) ⌝ }
 {
     let held = staged_counts.count;
-    let found = search(parent, staged, held, table, table_count, target, 0, spills);
+    let found = rows::search(
+        parent,
+        staged,
+        held,
+        table,
+        table_count,
+        hints,
+        target,
+        0,
+        spills,
+    );
     match found {
         Low::Upto(low) => {
-            let walk = walk_down(
+            let walk = rows::walk_down(
                 parent,
                 staged,
                 held,
                 table,
                 table_count,
+                hints,
                 target,
                 spend,
                 low,
@@ -375,6 +157,7 @@ fn flip_rows(
                     staged,
                     table_count,
                     table,
+                    hints,
                 ),
                 Walk::Ended(saw) => {
                     if saw {
@@ -401,6 +184,7 @@ fn flip_in_order(
     staged: &mut [u8],
     table_count: usize,
     table: &[u8],
+    hints: &[u16],
     head: &mut [i64],
 ) -> Flipped
     requires { ⌜ RowsReady «staged_counts» (now staged) «table_count» (now table) × (spills < 2147483648) × (target < 9223372036854775808) × (len ≤ length (now head)) ⌝ }
@@ -423,6 +207,7 @@ fn flip_in_order(
             staged,
             table_count,
             table,
+            hints,
         ),
         Position::Absent => flip_rows(
             parent,
@@ -434,6 +219,7 @@ fn flip_in_order(
             staged,
             table_count,
             table,
+            hints,
         ),
     }
 }
@@ -457,6 +243,7 @@ pub fn flip(
     staged: &mut [u8],
     table_counts: ListCounts,
     table: &[u8],
+    hints: &[u16],
     head: &mut [i64],
 ) -> Flipped
     requires { ⌜ FlipReady counts «staged_counts» (now staged) «table_counts» (now table) (now head) ⌝ }
@@ -486,6 +273,7 @@ pub fn flip(
         staged,
         table_count,
         table,
+        hints,
         head,
     )
 }

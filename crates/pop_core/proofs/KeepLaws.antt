@@ -51,7 +51,7 @@ module _ (h : HeadCounts) (b : Lists) (head : List ℤ) where
   pop-ready t =
       let f = pop-facts t in
       let l = f .listed in
-      (f .headed .few, record { long = f .headed .long; in-staged = l .in-staged .bounds; in-table = l .in-table .bounds; in-deleted = l .in-deleted .bounds })
+      (f .headed .few, record { long = f .headed .long; in-staged = l .in-staged .bounds; in-table = l .in-table .bounds; in-deleted = l .in-deleted .bounds; apart = l .in-table .apart })
 
 -- ---- an accepted pop
 

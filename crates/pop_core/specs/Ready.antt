@@ -1,24 +1,26 @@
 -- What a pop and its steps ask of their callers: the facts that the test of refusal 25 establishes, and those tested on the way.
 use Prim.Native.Nat.{ℕ, _+_, _*_, _≤_, _<_}
 use mathlib.Core.Path.{_≡_}
+use mathlib.Core.Bool.{true}
 use mathlib.Core.List.{List}
 use lib.IntN.{ℤ}
 use lib.ListN.{length}
 use Rattle.records.specs.declared.ListCounts.{ListCounts}
 use Rattle.records.specs.Records.{keys}
-use Rattle.records.specs.Find.{find-key}
+use Rattle.records.specs.Find.{find-key, distinct}
 use Rattle.records.specs.Changes.{slot}
 use Rattle.records.specs.Checks.{InBounds}
 use Rattle.segment_core.specs.Loading.{padded}
 use Rattle.buffer_core.specs.Edition.{edition-1}
 use Rattle.buffer_core.specs.Pop.{Popping, Lists, lists, merged}
 
--- the bounds of the head's places and of the three lists
+-- the bounds of the head's places and of the three lists, and that no key of the table stands twice
 pub record PopReady (b : Lists) (head : List ℤ) : Type 0 where
   pub long : 512 ≤ length head
   pub in-staged : InBounds 10288 (b .staged-counts) (b .staged)
   pub in-table : InBounds 10288 (b .table-counts) (b .table)
   pub in-deleted : InBounds 32 (b .deleted-counts) (b .deleted)
+  pub apart : distinct (keys 10288 (b .table-counts .count) (b .table)) ≡ true
 
 -- n numbers at the front of a list of 512 can become the head, and the key can leave the staged spills and join the deleted ones
 pub record MergeReady (list : List ℤ) (n spills : ℕ) (key : List ℕ) (c : ListCounts) (staged : List ℕ) (e : ListCounts) (deleted : List ℕ) (head : List ℤ)

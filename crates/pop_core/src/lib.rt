@@ -80,7 +80,7 @@ fn merge(
     )
 }
 
-// A pop from an empty head with spills + 1 rows: the newest becomes the head.
+// A pop from an empty head with spills + 1 rows: the newest becomes the head. One row is read, so no hints are made.
 fn unspill(
     kind: Kind,
     parent: &[u8; 32],
@@ -99,6 +99,7 @@ fn unspill(
         (lists «staged_counts» (now (staged .entry)) «table_counts» (now (table .entry)) «deleted_counts» (now (deleted .entry))) (now (head .entry)) ⌝ }
 {
     let key = buffer_core::spill_key(kind, parent, spills);
+    let none = [0u16; 1];
     let mut list = [0i64; 512];
     let read = buffer_core::read_under(
         kind,
@@ -107,6 +108,7 @@ fn unspill(
         staged_counts.count,
         table,
         table_counts.count,
+        &none[..0],
         &mut list,
     );
     match read {

@@ -12,11 +12,13 @@ use lib.Seq.{getD-set-same, getD-set-other}
 use borrow.Author.Tests.{eqb-true, eqb-false, ltb-true, ltb-false}
 use Rattle.stores.specs.Equal.{same-bytes}
 use Rattle.stores.proofs.StoreLaws.{part-at}
+use Rattle.stores.proofs.EqualLaws.{same-true}
+use Rattle.records.specs.declared.Found.the-variants.{At}
 use Rattle.records.specs.Records.{keys}
 use Rattle.records.specs.Find.{find-key, is-found, distinct}
 use Rattle.records.specs.Chains.{nth-key, bucket-of, Newest, Chained}
 use Rattle.records.proofs.TurnLaws.{length-keys}
-use Rattle.records.proofs.KeyLaws.{clash, differ, Search, hit, miss, look, find-at, find-none, distinct-of, of-distinct}
+use Rattle.records.proofs.KeyLaws.{clash, differ, Search, hit, miss, look, find-at, find-none, find-unique, distinct-of, of-distinct}
 use Rattle.records.proofs.RecordLaws.{key-at}
 
 -- ---- a key among the first i, by indices
@@ -39,6 +41,11 @@ module _ (size i : ℕ) (key l : List ℕ) (wide : 32 ≤ size) where
 
   pub among-some : is-found (find-key key (keys size i l)) ≡ true → ((m : ℕ) → m < i → nth-key size l m ≡ key → ⊥) → ⊥
   among-some t q = clash t (not-among q)
+
+  -- where no key stands twice, a record with the key is the one that is found
+  pub stands-at : distinct (keys size i l) ≡ true → (k : ℕ) → k < i → same-bytes (nth-key size l k) key ≡ true → find-key key (keys size i l) ≡ At k
+  stands-at d k h t =
+      find-unique key (keys size i l) k (of-distinct (keys size i l) d) (omega (arith, length-keys size i l)) (key-at size i k l wide h ∙ same-true (nth-key size l k) key t)
 
 -- ---- the walk along a chain: the keys of the bucket that it has passed differ from the key
 

@@ -12,6 +12,8 @@ ghost use Rattle.records.specs.Changes.{slot, count-after, put-record, r
 ghost use Rattle.records.specs.Chains.{bucket-of, Chained};
 ghost use Rattle.records.specs.Checks.{in-bounds, lengths-ok, records-ok, keys-ok};
 
+pub mod hints;
+
 // How many records a list holds, and how many it has room for.
 pub struct ListCounts {
     pub count: usize,
@@ -274,9 +276,9 @@ fn same_keys(list: &[u8], at: usize, other: usize) -> bool
     key_is(list, at, &list[other..end])
 }
 
-// The bucket of the key at a position: its first two bytes, modulo the number of buckets.
+// The bucket of the key at a position: the two bytes there, modulo the number of buckets.
 fn bucket(list: &[u8], at: usize, buckets: usize) -> usize
-    requires { ⌜ (at + 32 ≤ length (now list)) × (0 < buckets) ⌝ }
+    requires { ⌜ (at + 2 ≤ length (now list)) × (0 < buckets) ⌝ }
     ensures { λ r. ⌜ (r ≡ bucket-of buckets (take 32 (drop at (now (list .entry))))) × (r < buckets) ⌝ }
 {
     let next = at + 1;

@@ -13,6 +13,8 @@ use call_steps::SpillCounts;
 use call_steps::Stepped;
 use calls::Call;
 
+mod noted;
+
 // How far the calls have come: the counts of the lists, the next byte of the input, the calls made, and how reading ended: 0 not yet, 1 at the end of the
 // input, 2 inside a call, else the refusal: 31 at what is no call, 25 where the state was refused and no call made.
 pub struct Progress {
@@ -113,6 +115,7 @@ fn step(
     staged: &mut [u8],
     table: &mut [u8],
     deleted: &mut [u8],
+    hints: &mut [u16],
     counts: SpillCounts,
 ) -> Stepped
     requires { ⌜ StepReady call (state (now ids) (now numbers) (now lengths) (now spills) (lists-with counts (now staged) (now table) (now deleted))) ⌝ }
@@ -142,6 +145,7 @@ fn step(
             spills,
             staged,
             table,
+            hints,
             counts,
         ),
         Call::Pop(kind, p) => call_steps::pop_step(
@@ -156,7 +160,7 @@ fn step(
             deleted,
             counts,
         ),
-        Call::Flush => call_steps::flush_step(table, staged, deleted, counts),
+        Call::Flush => noted::flush_noted(table, staged, deleted, hints, counts),
         Call::Change(adding, p, nanos, token, amount) => {
             let said = call_steps::change_step(
                 adding,
@@ -225,6 +229,7 @@ fn turn(
     deleted: &mut [u8],
     answers: &mut [u8],
     popped: &mut [i64],
+    hints: &mut [u16],
     p: Progress,
 ) -> Progress
     requires { ⌜ TurnReady parents (now input) (run p (now ids) (now numbers) (now lengths) (now spills) (now staged) (now table) (now deleted) (now answers) (now popped)) ⌝ }
@@ -256,6 +261,7 @@ fn turn(
         staged,
         table,
         deleted,
+        hints,
         counts,
     );
     let said = s.said;
@@ -293,6 +299,7 @@ fn run_ready(
     deleted: &mut [u8],
     answers: &mut [u8],
     popped: &mut [i64],
+    hints: &mut [u16],
     counts: SpillCounts,
 ) -> Progress
     requires { ⌜ Ready parents (state (now ids) (now numbers) (now lengths) (now spills) (lists-with counts (now staged) (now table) (now deleted))) ⌝ }
@@ -322,6 +329,7 @@ fn run_ready(
                 deleted,
                 answers,
                 popped,
+                hints,
                 p,
             );
             left -= 1;
@@ -362,7 +370,7 @@ pub fn run_calls(
         deleted,
         counts,
     ) {
-        return run_ready(
+        return noted::run_noted(
             input,
             parents,
             ids,

@@ -1,22 +1,17 @@
--- One law for each way out of a public call, and what a passed test of refusal 25 gives a flip.
-use Prim.Native.Nat.{ℕ, _≤_}
-use mathlib.Core.Path.{_≡_, refl, sym, ap, _∙_}
-use mathlib.Core.Bool.{Bool, true, false, _&&_, cond}
+-- One law for each way out of a public call.
+use Prim.Native.Nat.{ℕ}
+use mathlib.Core.Path.{_≡_}
+use mathlib.Core.Bool.{true, false}
 use mathlib.Core.List.{List}
-use lib.Dec.{leb}
 use lib.IntN.{ℤ}
-use lib.ListN.{length, take}
-use borrow.Author.Tests.{leb-true}
+use lib.ListN.{take}
 use Rattle.records.specs.declared.ListCounts.{ListCounts}
-use Rattle.records.specs.Checks.{records-ok}
-use Rattle.records.proofs.CheckLaws.{and-left, and-right, records-ok-facts}
 use Rattle.segment_id.specs.declared.Kind.{Kind}
 use Rattle.buffer_core.specs.declared.HeadCounts.{HeadCounts}
 use Rattle.buffer_core.specs.declared.Appended.the-variants as appended
 use Rattle.buffer_core.specs.declared.Popped.{Popped}
 use Rattle.buffer_core.specs.declared.Popped.the-variants as popped
 use Rattle.buffer_core.specs.Edition.{edition-1}
-use Rattle.buffer_core.specs.Spills.{head-ok}
 use Rattle.buffer_core.specs.Append.{Appending, appending, append-ok, append-core, append-of}
 use Rattle.buffer_core.specs.Pop.{Popping, popping, Lists, lists-ok, pop-ok, pop-core, pop-of}
 use Rattle.buffer_core.specs.declared.Direction.{Direction}
@@ -28,16 +23,6 @@ use Rattle.buffer_core.specs.declared.Tallied.{Tallied}
 use Rattle.buffer_core.specs.declared.Tallied.the-variants as tallied
 use Rattle.buffer_core.specs.Spills.{sources}
 use Rattle.buffer_core.specs.Tally.{tally-core, tally-of}
-use Rattle.flip_core.specs.Ready.{FlipReady}
-
--- ---- heads
-
-module _ (h : HeadCounts) (head : List ℤ) (ok : head-ok h head ≡ true) where
-  pub head-few : h .len ≤ 512
-  head-few = leb-true (h .len) 512 (and-left (leb (h .len) 512) (leb 512 (length head)) ok)
-
-  pub head-long : 512 ≤ length head
-  head-long = leb-true 512 (length head) (and-right (leb (h .len) 512) (leb 512 (length head)) ok)
 
 -- ---- append
 
@@ -73,22 +58,6 @@ module _ (d : Direction) (parent : List ℕ) (h : HeadCounts) (target : ℤ) (c 
       → o ≡ flip-of edition-1 d parent h target c staged e table head
   unfolding flip-of
   flip-goes q o f = rw q f
-
-pub flip-ready : (h : HeadCounts) (c : ListCounts) (staged : List ℕ) (e : ListCounts) (table : List ℕ) (head : List ℤ) → flip-ok edition-1 h c staged e table head ≡ true
-    → FlipReady h c staged e table head
-unfolding flip-ok
-flip-ready h c staged e table head q =
-    let x : Bool = head-ok h head in
-    let y : Bool = records-ok 10288 10254 c staged in
-    let z : Bool = records-ok 10288 10254 e table in
-    let k = and-left x (y && z) q in
-    let r = and-right x (y && z) q in
-    record {
-      few = head-few h head k;
-      long = head-long h head k;
-      bounds = records-ok-facts 10288 10254 c staged (and-left y z r) .bounds;
-      table-bounds = records-ok-facts 10288 10254 e table (and-right y z r) .bounds;
-    }
 
 -- ---- flush
 

@@ -304,7 +304,7 @@ fn flip_ok(
     false
 }
 
-// A spend or an unspend.
+// A spend or an unspend. The test of 25 goes through the whole table, so no hints are made for one call.
 fn flip_entry(
     direction: Direction,
     parent: &[u8; 32],
@@ -319,6 +319,7 @@ fn flip_entry(
     ensures { λ r. ⌜ flipping r (now (head .exit)) (now (staged .exit))
         ≡ flip-of edition-1 direction (now (parent .entry)) counts target «staged_counts» (now (staged .entry)) «table_counts» (now (table .entry)) (now (head .entry)) ⌝ }
 {
+    let none = [0u16; 1];
     if flip_ok(counts, staged_counts, staged, table_counts, table, head) {
         return flip_core::flip(
             direction,
@@ -329,6 +330,7 @@ fn flip_entry(
             staged,
             table_counts,
             table,
+            &none[..0],
             head,
         );
     }

@@ -1,7 +1,10 @@
 // Tally, once refusal 25 has passed: how many entries of a parent's boxes are unspent, and how many spent.
 ghost use mathlib.Core.Path.{_≡_};
+ghost use mathlib.Core.Bool.{true};
 ghost use Prim.Native.Nat.{_*_, _≤_, _<_};
 ghost use lib.ListN.{length, take};
+ghost use Rattle.records.specs.Records.{keys};
+ghost use Rattle.records.specs.Find.{distinct};
 ghost use Rattle.buffer_core.specs.Edition.{edition-1};
 ghost use Rattle.buffer_core.specs.Spills.{sources};
 ghost use Rattle.buffer_core.specs.Flip.{row-checked};
@@ -27,18 +30,21 @@ fn count_row<'a>(
     staged_count: usize,
     table: &'a [u8],
     table_count: usize,
+    hints: &[u16],
 ) -> RowCount
-    requires { ⌜ («staged_count» * 10288 ≤ length (now staged)) × («table_count» * 10288 ≤ length (now table)) × (number < 2147483648) ⌝ }
+    requires { ⌜ («staged_count» * 10288 ≤ length (now staged)) × («table_count» * 10288 ≤ length (now table)) × (number < 2147483648)
+        × (distinct (keys 10288 «table_count» (now table)) ≡ true) ⌝ }
     ensures { λ r. ⌜ r ≡ counted (row-checked edition-1 (sources (now (parent .entry)) (now (staged .entry)) «staged_count» (now (table .entry)) «table_count») number) ⌝ }
 {
     let mut row = [0i64; 512];
-    let read = flip_core::read_checked(
+    let read = flip_core::rows::read_checked(
         parent,
         number,
         staged,
         staged_count,
         table,
         table_count,
+        hints,
         &mut row,
     );
     match read {
@@ -57,16 +63,17 @@ fn count_rows<'a>(
     staged_count: usize,
     table: &'a [u8],
     table_count: usize,
+    hints: &[u16],
 ) -> Tallied
     requires { ⌜ («staged_count» * 10288 ≤ length (now staged)) × («table_count» * 10288 ≤ length (now table)) × (spills < 2147483648)
-        × (unspent ≤ 512) × (spent ≤ 512) ⌝ }
+        × (unspent ≤ 512) × (spent ≤ 512) × (distinct (keys 10288 «table_count» (now table)) ≡ true) ⌝ }
     ensures { λ r. ⌜ r ≡ tally-rows (row-checked edition-1 (sources (now (parent .entry)) (now (staged .entry)) «staged_count» (now (table .entry)) «table_count»)) 0 spills unspent spent ⌝ }
 {
     let mut u = unspent;
     let mut s = spent;
     let mut n = 0;
     while n < spills {
-        let count = count_row(parent, n, staged, staged_count, table, table_count);
+        let count = count_row(parent, n, staged, staged_count, table, table_count, hints);
         match count {
             RowCount::Spent(k) => {
                 u += 512 - k;
@@ -79,6 +86,104 @@ fn count_rows<'a>(
         n += 1;
     }
     Tallied::Counts(u, s)
+}
+
+// count_rows for a table of few records.
+fn count_few<'a>(
+    parent: &[u8; 32],
+    spills: usize,
+    unspent: usize,
+    spent: usize,
+    staged: &'a [u8],
+    staged_count: usize,
+    table: &'a [u8],
+    table_count: usize,
+) -> Tallied
+    requires { ⌜ («staged_count» * 10288 ≤ length (now staged)) × («table_count» * 10288 ≤ length (now table)) × (spills < 2147483648)
+        × (unspent ≤ 512) × (spent ≤ 512) × (distinct (keys 10288 «table_count» (now table)) ≡ true) ⌝ }
+    ensures { λ r. ⌜ r ≡ tally-rows (row-checked edition-1 (sources (now (parent .entry)) (now (staged .entry)) «staged_count» (now (table .entry)) «table_count»)) 0 spills unspent spent ⌝ }
+{
+    let none = [0u16; 1];
+    count_rows(
+        parent,
+        spills,
+        unspent,
+        spent,
+        staged,
+        staged_count,
+        table,
+        table_count,
+        &none[..0],
+    )
+}
+
+// count_rows for a table of many records: where they stand is noted first.
+fn count_many<'a>(
+    parent: &[u8; 32],
+    spills: usize,
+    unspent: usize,
+    spent: usize,
+    staged: &'a [u8],
+    staged_count: usize,
+    table: &'a [u8],
+    table_count: usize,
+) -> Tallied
+    requires { ⌜ («staged_count» * 10288 ≤ length (now staged)) × («table_count» * 10288 ≤ length (now table)) × (spills < 2147483648)
+        × (unspent ≤ 512) × (spent ≤ 512) × (distinct (keys 10288 «table_count» (now table)) ≡ true) ⌝ }
+    ensures { λ r. ⌜ r ≡ tally-rows (row-checked edition-1 (sources (now (parent .entry)) (now (staged .entry)) «staged_count» (now (table .entry)) «table_count»)) 0 spills unspent spent ⌝ }
+{
+    let mut hints = [0u16; 16384];
+    records::hints::note_places(table, buffer_core::RECORD, table_count, &mut hints);
+    count_rows(
+        parent,
+        spills,
+        unspent,
+        spent,
+        staged,
+        staged_count,
+        table,
+        table_count,
+        &hints,
+    )
+}
+
+// The entries of all rows, on top of those of the head.
+fn count_spills<'a>(
+    parent: &[u8; 32],
+    spills: usize,
+    unspent: usize,
+    spent: usize,
+    staged: &'a [u8],
+    staged_count: usize,
+    table: &'a [u8],
+    table_count: usize,
+) -> Tallied
+    requires { ⌜ («staged_count» * 10288 ≤ length (now staged)) × («table_count» * 10288 ≤ length (now table)) × (spills < 2147483648)
+        × (unspent ≤ 512) × (spent ≤ 512) × (distinct (keys 10288 «table_count» (now table)) ≡ true) ⌝ }
+    ensures { λ r. ⌜ r ≡ tally-rows (row-checked edition-1 (sources (now (parent .entry)) (now (staged .entry)) «staged_count» (now (table .entry)) «table_count»)) 0 spills unspent spent ⌝ }
+{
+    if table_count <= 128 {
+        return count_few(
+            parent,
+            spills,
+            unspent,
+            spent,
+            staged,
+            staged_count,
+            table,
+            table_count,
+        );
+    }
+    count_many(
+        parent,
+        spills,
+        unspent,
+        spent,
+        staged,
+        staged_count,
+        table,
+        table_count,
+    )
 }
 
 // 10, 11, then the head's entries and the rows.
@@ -104,7 +209,7 @@ pub fn tally<'a>(
         return Tallied::Refused(refusal::NEGATIVE_SPILL_COUNT);
     }
     let spent = entries::count_spent(head, len);
-    count_rows(
+    count_spills(
         parent,
         signed::usize_from_i32(spills),
         len - spent,

@@ -19,7 +19,7 @@ same-length c = search needs
 
 returns : tie.Need-returns
 returns c =
-    let a = c .before .before .before .before .before .before .before .args in
+    let a = c .before .before .before .before .before .before .before .before .args in
     rw (spill-under (a .kind) (now (a .parent)) (now (a .staged)) (a .staged-count) (now (a .table)) (a .table-count) (a .number), ← c .before .before .before .before .spill-key .ensures .0) (c .before .read-under .ensures)
 
 pub read-spill-spec : {M : Type 1} → statement M

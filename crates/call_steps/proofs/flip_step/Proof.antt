@@ -51,7 +51,7 @@ part-flip-end c = search needs
 -- src/lib.rt:221:9
 flip-requires : tie.Need-flip-requires
 flip-requires c κs =
-    let s = c .before .before .before .before .before .before .before .before .before .before .before .before in
+    let s = c .before .before .before .before .before .before .before .before .before .before .before .before .before in
     let a = s .args in
     let w : c .before .before .before .head-at .result + 512 - c .before .before .before .head-at .result ≡ 512 = omega arith in
     flip-asks (now (a .numbers)) (now (a .lengths)) (now (a .spills)) (a .counts) (a .p) (c .before .before .before .before .read-counts .result) (c .before .before .before .head-at .result) (c .before .before .before .head-at .result + 512 - c .before .before .before .head-at .result) w (now (a .staged)) (now (a .table)) (s .pre .1) (c .before .before .before .before .read-counts .ensures) (c .before .before .before .head-at .ensures .0)
@@ -71,7 +71,7 @@ same-length-2 c = search needs
 -- src/lib.rt:198:1
 returns : tie.Need-returns
 returns c =
-    let s = c .before .before .before .before .before .before .before .before .before .before .before .before .before .before .before .before .before in
+    let s = c .before .before .before .before .before .before .before .before .before .before .before .before .before .before .before .before .before .before in
     let a = s .args in
     let w : c .before .before .before .before .before .before .before .before .head-at .result + 512 - c .before .before .before .before .before .before .before .before .head-at .result ≡ 512 = omega arith in
     flip-law (now (a .ids)) (now (a .numbers)) (now (a .lengths)) (now (a .spills)) (a .counts) (a .p) (a .direction) (a .target) _ (now (a .staged)) (now (a .table)) _ _ _ _ _ _ _ _ (s .pre .1) (c .before .before .before .before .before .before .before .before .before .before .parent-id .ensures) (c .before .before .before .before .before .before .before .before .before .read-counts .ensures) (c .before .before .before .before .before .before .before .before .head-at .ensures .0) w (back w64 (a .target) (s .fits .target)) (c .before .before .before .before .flip .ensures) (c .after-flip .ensures)

@@ -17,7 +17,7 @@ magnitude-requires c κs = search needs
 
 returns : tie.Need-returns
 returns c =
-    let s = c .before .before .before .before .before in
+    let s = c .before .before .before .before .before .before in
     let a = s .args in
     let t = c .before .before .magnitude .ensures ∙ ap natAbs (back w64 (a .target) (s .fits .target)) in
     flip-9 (a .direction) (now (a .parent)) (a .counts) (a .target) (a .staged-counts) (now (a .staged)) (a .table-counts) (now (a .table)) (now (a .head)) _ t (c .if1 .taken)
@@ -30,7 +30,7 @@ same-length c = search needs
 
 returns-2 : tie.Need-returns-2
 returns-2 c =
-    let s = c .before .before .before .before .before .before .before .before in
+    let s = c .before .before .before .before .before .before .before .before .before in
     let a = s .args in
     let t = c .before .before .before .before .before .magnitude .ensures ∙ ap natAbs (back w64 (a .target) (s .fits .target)) in
     flip-10 (a .direction) (now (a .parent)) (a .counts) (a .target) (a .staged-counts) (now (a .staged)) (a .table-counts) (now (a .table)) (now (a .head)) _ t (c .before .before .before .if1 .left) (sym (c .before .order-ok .ensures) ∙ not-true _ (c .if2 .taken))
@@ -43,7 +43,7 @@ same-length-2 c = search needs
 
 returns-3 : tie.Need-returns-3
 returns-3 c =
-    let s = c .before .before .before .before .before .before .before .before .before .before in
+    let s = c .before .before .before .before .before .before .before .before .before .before .before in
     let a = s .args in
     let t = c .before .before .before .before .before .before .before .magnitude .ensures ∙ ap natAbs (back w64 (a .target) (s .fits .target)) in
     let e = back w32 (a .counts .spills) (search needs) in
@@ -58,11 +58,11 @@ usize-from-i32-requires c κs =
 
 flip-in-order-requires : tie.Need-flip-in-order-requires
 flip-in-order-requires c κs =
-    let s = c .before .before .before .before .before .before .before .before .before .before .before .before .before .before in
+    let s = c .before .before .before .before .before .before .before .before .before .before .before .before .before .before .before in
     let a = s .args in
     let e = back w32 (a .counts .spills) (search needs) in
     let n = ap is-negative (sym e) ∙ sym (c .before .before .before .before .before .is-negative-i32 .ensures) ∙ c .before .before .before .before .if3 .left in
-    (record { bounds = s .pre .bounds; within = s .pre .table-bounds .within }, spills-below (a .counts .spills) n (search needs) _ (c .before .before .usize-from-i32 .ensures ∙ ap natAbs e), c .before .before .before .before .before .before .before .before .before .if1 .left, omega (arith, s .pre .few, s .pre .long))
+    (record { bounds = s .pre .bounds; within = s .pre .table-bounds .within; apart = s .pre .apart }, spills-below (a .counts .spills) n (search needs) _ (c .before .before .usize-from-i32 .ensures ∙ ap natAbs e), c .before .before .before .before .before .before .before .before .before .if1 .left, omega (arith, s .pre .few, s .pre .long))
 
 same-length-3 : tie.Need-same-length-3
 same-length-3 c = search needs
@@ -72,7 +72,7 @@ same-length-4 c = search needs
 
 returns-4 : tie.Need-returns-4
 returns-4 c =
-    let s = c .before .before .before .before .before .before .before .before .before .before .before .before .before .before .before .before .before .before in
+    let s = c .before .before .before .before .before .before .before .before .before .before .before .before .before .before .before .before .before .before .before in
     let a = s .args in
     let t = c .before .before .before .before .before .before .before .before .before .before .before .before .before .before .before .magnitude .ensures ∙ ap natAbs (back w64 (a .target) (s .fits .target)) in
     let e = back w32 (a .counts .spills) (search needs) in

@@ -17,9 +17,9 @@ enum-known-position c = search needs
 
 flip-at-requires : tie.Need-flip-at-requires
 flip-at-requires c κs =
-    let a = c .before .before .before .before .before .before .before .before .args in
-    let h = hit (a .spend) (a .target) (a .len) (now (a .head)) _ (c .before .before .before .before .before .before .before .before .pre .3) (sym (c .before .before .before .before .flip-position .ensures) ∙ c .before .before .position .given .1) in
-    (h .inside, omega (arith, h .size, c .before .before .before .before .before .before .before .before .pre .2))
+    let a = c .before .before .before .before .before .before .before .before .before .args in
+    let h = hit (a .spend) (a .target) (a .len) (now (a .head)) _ (c .before .before .before .before .before .before .before .before .before .pre .3) (sym (c .before .before .before .before .flip-position .ensures) ∙ c .before .before .position .given .1) in
+    (h .inside, omega (arith, h .size, c .before .before .before .before .before .before .before .before .before .pre .2))
 
 enum-told : tie.Need-enum-told
 enum-told c = search needs
@@ -38,7 +38,7 @@ same-length c = search needs
 
 returns : tie.Need-returns
 returns c =
-    let a = c .before .before .before .before .before .before .before .before .before .before .args in
+    let a = c .before .before .before .before .before .before .before .before .before .before .before .args in
     let w = sources (now (a .parent)) (now (a .staged)) (a .staged-counts .count) (now (a .table)) (a .table-count) in
     order-head w (a .staged-counts) (now (a .staged)) (a .target) (a .spend) (a .spills) (a .len) (now (a .head)) _ (c .before .before .before .before .before .before .flip-position .ensures) _ _ (c .before .before .before .before .position .given .1) (c .before .flip-at .ensures)
 
@@ -50,7 +50,7 @@ same-length-3 c = search needs
 
 returns-2 : tie.Need-returns-2
 returns-2 c =
-    let a = c .before .before .before .before .before .before .before .before .before .before .args in
+    let a = c .before .before .before .before .before .before .before .before .before .before .before .args in
     let w = sources (now (a .parent)) (now (a .staged)) (a .staged-counts .count) (now (a .table)) (a .table-count) in
     order-seen w (a .staged-counts) (now (a .staged)) (a .target) (a .spend) (a .spills) (a .len) (now (a .head)) _ (c .before .before .before .before .before .before .flip-position .ensures) _ _ (c .before .before .before .before .enum-told .given .1) (c .before .before .flip-rows .ensures)
 
@@ -62,7 +62,7 @@ same-length-5 c = search needs
 
 returns-3 : tie.Need-returns-3
 returns-3 c =
-    let a = c .before .before .before .before .before .before .before .before .before .before .args in
+    let a = c .before .before .before .before .before .before .before .before .before .before .before .args in
     let w = sources (now (a .parent)) (now (a .staged)) (a .staged-counts .count) (now (a .table)) (a .table-count) in
     order-absent w (a .staged-counts) (now (a .staged)) (a .target) (a .spend) (a .spills) (a .len) (now (a .head)) _ (c .before .before .before .before .before .before .flip-position .ensures) _ _ (c .before .before .before .before .enum-told2 .given .1) (c .before .before .flip-rows2 .ensures)
 

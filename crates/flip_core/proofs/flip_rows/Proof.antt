@@ -19,21 +19,21 @@ enum-known-found c = search needs
 
 walk-down-requires : tie.Need-walk-down-requires
 walk-down-requires c κs =
-    let a = c .before .before .before .before .before .before .before .before .args in
+    let a = c .before .before .before .before .before .before .before .before .before .args in
     let w = sources (now (a .parent)) (now (a .staged)) (a .staged-counts .count) (now (a .table)) (a .table-count) in
     let k = search-most (lead-at edition-1 w) (a .target) 0 (a .spills) _ _ (omega arith) (c .before .before .before .before .search .ensures) (c .before .before .found .given .1) in
-    (c .before .before .before .before .before .before .before .before .pre .0 .bounds .within, c .before .before .before .before .before .before .before .before .pre .0 .within, omega (arith, c .before .before .before .before .before .before .before .before .pre .1))
+    (c .before .before .before .before .before .before .before .before .before .pre .0 .bounds .within, c .before .before .before .before .before .before .before .before .before .pre .0 .within, omega (arith, c .before .before .before .before .before .before .before .before .before .pre .1), c .before .before .before .before .before .before .before .before .before .pre .0 .apart)
 
 enum-known-walk : tie.Need-enum-known-walk
 enum-known-walk c = search needs
 
 stage-requires : tie.Need-stage-requires
 stage-requires c κs =
-    let a = c .before .before .before .before .before .before .before .before .before .before .before .before .before .args in
+    let a = c .before .before .before .before .before .before .before .before .before .before .before .before .before .before .args in
     let w = sources (now (a .parent)) (now (a .staged)) (a .staged-counts .count) (now (a .table)) (a .table-count) in
     let k = search-most (lead-at edition-1 w) (a .target) 0 (a .spills) _ _ (omega arith) (c .before .before .before .before .before .before .before .before .before .search .ensures) (c .before .before .before .before .before .before .before .found .given .1) in
     let m = walk-hits (look-at edition-1 w (a .target) (a .spend)) _ (a .seen) _ _ _ (c .before .before .before .before .walk-down .ensures) (c .before .before .walk .given .1) in
-    (c .before .before .before .before .before .before .before .before .before .before .before .before .before .pre .0, omega (arith, c .before .before .before .before .before .before .before .before .before .before .before .before .before .pre .1, m .0), row-takes _ (a .target) (a .spend) _ (c .before .before .before .before .before .before .before .before .before .before .before .before .before .pre .2) (m .1))
+    (c .before .before .before .before .before .before .before .before .before .before .before .before .before .before .pre .0, omega (arith, c .before .before .before .before .before .before .before .before .before .before .before .before .before .before .pre .1, m .0), row-takes _ (a .target) (a .spend) _ (c .before .before .before .before .before .before .before .before .before .before .before .before .before .before .pre .2) (m .1))
 
 enum-known-walk-2 : tie.Need-enum-known-walk-2
 enum-known-walk-2 c = search needs
@@ -49,7 +49,7 @@ same-length c = search needs
 
 returns : tie.Need-returns
 returns c =
-    let a = c .before .before .before .before .before .before .before .before .before .before .before .before .before .before .before .before .args in
+    let a = c .before .before .before .before .before .before .before .before .before .before .before .before .before .before .before .before .before .args in
     let w = sources (now (a .parent)) (now (a .staged)) (a .staged-counts .count) (now (a .table)) (a .table-count) in
     rows-walked w (a .staged-counts) (now (a .staged)) (a .target) (a .spend) (a .spills) (a .seen) _ (c .before .before .before .before .before .before .before .before .before .before .before .before .search .ensures) _ (c .before .before .before .before .before .before .before .before .before .before .found .given .1) _ (c .before .before .before .before .before .before .before .walk-down .ensures) _ _ (walk-hit w (a .staged-counts) (now (a .staged)) _ _ _ _ _ (c .before .before .before .before .before .walk .given .1) (c .before .before .stage .ensures))
 
@@ -58,7 +58,7 @@ same-length-2 c = search needs
 
 returns-2 : tie.Need-returns-2
 returns-2 c =
-    let a = c .before .before .before .before .before .before .before .before .before .before .before .before .before .args in
+    let a = c .before .before .before .before .before .before .before .before .before .before .before .before .before .before .args in
     let w = sources (now (a .parent)) (now (a .staged)) (a .staged-counts .count) (now (a .table)) (a .table-count) in
     rows-walked w (a .staged-counts) (now (a .staged)) (a .target) (a .spend) (a .spills) (a .seen) _ (c .before .before .before .before .before .before .before .before .before .search .ensures) _ (c .before .before .before .before .before .before .before .found .given .1) _ (c .before .before .before .before .walk-down .ensures) _ _ (walk-14 w (a .staged-counts) (now (a .staged)) _ _ (c .before .before .walk2 .given .1) (c .if1 .taken))
 
@@ -67,7 +67,7 @@ same-length-3 c = search needs
 
 returns-3 : tie.Need-returns-3
 returns-3 c =
-    let a = c .before .before .before .before .before .before .before .before .before .before .before .before .before .args in
+    let a = c .before .before .before .before .before .before .before .before .before .before .before .before .before .before .args in
     let w = sources (now (a .parent)) (now (a .staged)) (a .staged-counts .count) (now (a .table)) (a .table-count) in
     rows-walked w (a .staged-counts) (now (a .staged)) (a .target) (a .spend) (a .spills) (a .seen) _ (c .before .before .before .before .before .before .before .before .before .search .ensures) _ (c .before .before .before .before .before .before .before .found .given .1) _ (c .before .before .before .before .walk-down .ensures) _ _ (walk-15 w (a .staged-counts) (now (a .staged)) _ _ (c .before .before .walk2 .given .1) (c .if1 .left))
 
@@ -76,7 +76,7 @@ same-length-4 c = search needs
 
 returns-4 : tie.Need-returns-4
 returns-4 c =
-    let a = c .before .before .before .before .before .before .before .before .before .before .before .before .args in
+    let a = c .before .before .before .before .before .before .before .before .before .before .before .before .before .args in
     let w = sources (now (a .parent)) (now (a .staged)) (a .staged-counts .count) (now (a .table)) (a .table-count) in
     rows-walked w (a .staged-counts) (now (a .staged)) (a .target) (a .spend) (a .spills) (a .seen) _ (c .before .before .before .before .before .before .before .before .search .ensures) _ (c .before .before .before .before .before .before .found .given .1) _ (c .before .before .before .walk-down .ensures) _ _ (walk-bad w (a .staged-counts) (now (a .staged)) _ _ (c .before .walk3 .given .1))
 
@@ -85,7 +85,7 @@ same-length-5 c = search needs
 
 returns-5 : tie.Need-returns-5
 returns-5 c =
-    let a = c .before .before .before .before .before .before .before .args in
+    let a = c .before .before .before .before .before .before .before .before .args in
     let w = sources (now (a .parent)) (now (a .staged)) (a .staged-counts .count) (now (a .table)) (a .table-count) in
     rows-broken w (a .staged-counts) (now (a .staged)) (a .target) (a .spend) (a .spills) (a .seen) _ (c .before .before .before .search .ensures) _ (c .before .found2 .given .1)
 

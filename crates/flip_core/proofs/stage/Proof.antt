@@ -12,8 +12,8 @@ use borrow.Author.Needs.{needs}
 use Rattle.flip_core.proofs.stage.Statement.{statement}
 use Rattle.flip_core.proofs.stage.Tie as tie
 
-key-is : (c : tie.After-row-key) → c .row-key .result ≡ row-key (now (c .before .before .before .before .args .parent)) Box (pos (c .before .before .before .before .args .number))
-key-is c = c .row-key .ensures .0 ∙ ap (row-key (now (c .before .before .before .before .args .parent)) Box) (back32 (c .before .i32-from-usize .result) (c .before .i32-from-usize .ok) ∙ c .before .i32-from-usize .ensures)
+key-is : (c : tie.After-row-key) → c .row-key .result ≡ row-key (now (c .before .before .before .before .before .args .parent)) Box (pos (c .before .before .before .before .before .args .number))
+key-is c = c .row-key .ensures .0 ∙ ap (row-key (now (c .before .before .before .before .before .args .parent)) Box) (back32 (c .before .i32-from-usize .result) (c .before .i32-from-usize .ok) ∙ c .before .i32-from-usize .ensures)
 
 i32-from-usize-requires : tie.Need-i32-from-usize-requires
 i32-from-usize-requires c κs = search needs
@@ -21,11 +21,11 @@ i32-from-usize-requires c κs = search needs
 row-key-requires : tie.Need-row-key-requires
 row-key-requires c κs = search needs
 
-slice-aggregate-locate : tie.Need-slice-aggregate-locate
-slice-aggregate-locate c = search needs
+slice-aggregate-locate-hinted : tie.Need-slice-aggregate-locate-hinted
+slice-aggregate-locate-hinted c = search needs
 
-locate-requires : tie.Need-locate-requires
-locate-requires c κs = search needs
+locate-hinted-requires : tie.Need-locate-hinted-requires
+locate-hinted-requires c κs = search needs
 
 enum-known-place : tie.Need-enum-known-place
 enum-known-place c = search needs
@@ -35,7 +35,7 @@ slice-aggregate-rewrite-record c = search needs
 
 rewrite-record-requires : tie.Need-rewrite-record-requires
 rewrite-record-requires c κs =
-    (staged-lies (now (c .before .before .before .before .before .before .before .before .before .before .before .before .args .parent)) (now (c .before .before .before .before .before .before .before .before .before .before .before .before .args .staged)) (c .before .before .before .before .before .before .before .before .before .before .before .before .args .staged-counts) (now (c .before .before .before .before .before .before .before .before .before .before .before .before .args .table)) (c .before .before .before .before .before .before .before .before .before .before .before .before .args .table-count) (c .before .before .before .before .before .before .before .before .before .before .before .before .args .number) (c .before .before .before .before .before .before .before .before .before .before .before .before .args .at) _ (key-is (c .before .before .before .before .before .before .before .before)) _ (c .before .before .before .before .before .locate .ensures) _ (c .before .before .before .place .given .1) (c .before .before .before .before .before .before .before .before .before .before .before .before .pre .0 .bounds .within), search needs, staged-takes (now (c .before .before .before .before .before .before .before .before .before .before .before .before .args .parent)) (now (c .before .before .before .before .before .before .before .before .before .before .before .before .args .staged)) (c .before .before .before .before .before .before .before .before .before .before .before .before .args .staged-counts) (now (c .before .before .before .before .before .before .before .before .before .before .before .before .args .table)) (c .before .before .before .before .before .before .before .before .before .before .before .before .args .table-count) (c .before .before .before .before .before .before .before .before .before .before .before .before .args .number) (c .before .before .before .before .before .before .before .before .before .before .before .before .args .at) _ (key-is (c .before .before .before .before .before .before .before .before)) _ (c .before .before .before .before .before .locate .ensures) _ (c .before .before .before .place .given .1) (c .before .before .before .before .before .before .before .before .before .before .before .before .pre .2))
+    (staged-lies (now (c .before .before .before .before .before .before .before .before .before .before .before .before .before .args .parent)) (now (c .before .before .before .before .before .before .before .before .before .before .before .before .before .args .staged)) (c .before .before .before .before .before .before .before .before .before .before .before .before .before .args .staged-counts) (now (c .before .before .before .before .before .before .before .before .before .before .before .before .before .args .table)) (c .before .before .before .before .before .before .before .before .before .before .before .before .before .args .table-count) (c .before .before .before .before .before .before .before .before .before .before .before .before .before .args .number) (c .before .before .before .before .before .before .before .before .before .before .before .before .before .args .at) _ (key-is (c .before .before .before .before .before .before .before .before)) _ (c .before .before .before .before .before .locate-hinted .ensures) _ (c .before .before .before .place .given .1) (c .before .before .before .before .before .before .before .before .before .before .before .before .before .pre .0 .bounds .within), search needs, staged-takes (now (c .before .before .before .before .before .before .before .before .before .before .before .before .before .args .parent)) (now (c .before .before .before .before .before .before .before .before .before .before .before .before .before .args .staged)) (c .before .before .before .before .before .before .before .before .before .before .before .before .before .args .staged-counts) (now (c .before .before .before .before .before .before .before .before .before .before .before .before .before .args .table)) (c .before .before .before .before .before .before .before .before .before .before .before .before .before .args .table-count) (c .before .before .before .before .before .before .before .before .before .before .before .before .before .args .number) (c .before .before .before .before .before .before .before .before .before .before .before .before .before .args .at) _ (key-is (c .before .before .before .before .before .before .before .before)) _ (c .before .before .before .before .before .locate-hinted .ensures) _ (c .before .before .before .place .given .1) (c .before .before .before .before .before .before .before .before .before .before .before .before .before .pre .2))
 
 slice-aggregate-put : tie.Need-slice-aggregate-put
 slice-aggregate-put c = search needs
@@ -49,7 +49,7 @@ slice-aggregate-put-2 c =
 
 put-requires : tie.Need-put-requires
 put-requires c κs =
-    (c .before .before .before .before .before .before .before .before .before .before .before .before .before .before .before .before .before .pre .0 .bounds .within, sym (c .before .before .before .before .before .before .before .before .before .before .before .before .before .row-key .ensures .1), simp length-take (omega (arith, c .before .before .before .before .rewrite-record .ensures .0)), staged-room (now (c .before .before .before .before .before .before .before .before .before .before .before .before .before .before .before .before .before .args .parent)) (now (c .before .before .before .before .before .before .before .before .before .before .before .before .before .before .before .before .before .args .staged)) (c .before .before .before .before .before .before .before .before .before .before .before .before .before .before .before .before .before .args .staged-counts) (now (c .before .before .before .before .before .before .before .before .before .before .before .before .before .before .before .before .before .args .table)) (c .before .before .before .before .before .before .before .before .before .before .before .before .before .before .before .before .before .args .table-count) (c .before .before .before .before .before .before .before .before .before .before .before .before .before .before .before .before .before .args .number) (c .before .before .before .before .before .before .before .before .before .before .before .before .before .before .before .before .before .args .at) _ (key-is (c .before .before .before .before .before .before .before .before .before .before .before .before .before)) _ (c .before .before .before .before .before .before .before .before .before .before .locate .ensures) _ (c .before .before .before .before .before .before .before .before .place .given .1) (c .before .before .before .before .before .before .before .before .before .before .before .before .before .before .before .before .before .pre .0 .bounds .within))
+    (c .before .before .before .before .before .before .before .before .before .before .before .before .before .before .before .before .before .before .pre .0 .bounds .within, sym (c .before .before .before .before .before .before .before .before .before .before .before .before .before .row-key .ensures .1), simp length-take (omega (arith, c .before .before .before .before .rewrite-record .ensures .0)), staged-room (now (c .before .before .before .before .before .before .before .before .before .before .before .before .before .before .before .before .before .before .args .parent)) (now (c .before .before .before .before .before .before .before .before .before .before .before .before .before .before .before .before .before .before .args .staged)) (c .before .before .before .before .before .before .before .before .before .before .before .before .before .before .before .before .before .before .args .staged-counts) (now (c .before .before .before .before .before .before .before .before .before .before .before .before .before .before .before .before .before .before .args .table)) (c .before .before .before .before .before .before .before .before .before .before .before .before .before .before .before .before .before .before .args .table-count) (c .before .before .before .before .before .before .before .before .before .before .before .before .before .before .before .before .before .before .args .number) (c .before .before .before .before .before .before .before .before .before .before .before .before .before .before .before .before .before .before .args .at) _ (key-is (c .before .before .before .before .before .before .before .before .before .before .before .before .before)) _ (c .before .before .before .before .before .before .before .before .before .before .locate-hinted .ensures) _ (c .before .before .before .before .before .before .before .before .place .given .1) (c .before .before .before .before .before .before .before .before .before .before .before .before .before .before .before .before .before .before .pre .0 .bounds .within))
 
 enum-known-place-2 : tie.Need-enum-known-place-2
 enum-known-place-2 c = search needs
@@ -59,14 +59,14 @@ same-length c = search needs
 
 returns : tie.Need-returns
 returns c =
-    stage-16 (now (c .before .before .before .before .before .before .before .before .before .before .before .args .parent)) (now (c .before .before .before .before .before .before .before .before .before .before .before .args .staged)) (c .before .before .before .before .before .before .before .before .before .before .before .args .staged-counts) (now (c .before .before .before .before .before .before .before .before .before .before .before .args .table)) (c .before .before .before .before .before .before .before .before .before .before .before .args .table-count) (c .before .before .before .before .before .before .before .before .before .before .before .args .number) (c .before .before .before .before .before .before .before .before .before .before .before .args .at) _ (key-is (c .before .before .before .before .before .before .before)) _ (c .before .before .before .before .locate .ensures) _ (c .before .before .place2 .given .1) (c .if1 .taken)
+    stage-16 (now (c .before .before .before .before .before .before .before .before .before .before .before .before .args .parent)) (now (c .before .before .before .before .before .before .before .before .before .before .before .before .args .staged)) (c .before .before .before .before .before .before .before .before .before .before .before .before .args .staged-counts) (now (c .before .before .before .before .before .before .before .before .before .before .before .before .args .table)) (c .before .before .before .before .before .before .before .before .before .before .before .before .args .table-count) (c .before .before .before .before .before .before .before .before .before .before .before .before .args .number) (c .before .before .before .before .before .before .before .before .before .before .before .before .args .at) _ (key-is (c .before .before .before .before .before .before .before)) _ (c .before .before .before .before .locate-hinted .ensures) _ (c .before .before .place2 .given .1) (c .if1 .taken)
 
 slice-aggregate-rewrite-record-2 : tie.Need-slice-aggregate-rewrite-record-2
 slice-aggregate-rewrite-record-2 c = search needs
 
 rewrite-record-requires-2 : tie.Need-rewrite-record-requires-2
 rewrite-record-requires-2 c κs =
-    (table-lies (now (c .before .before .before .before .before .before .before .before .before .before .before .before .args .parent)) (now (c .before .before .before .before .before .before .before .before .before .before .before .before .args .staged)) (c .before .before .before .before .before .before .before .before .before .before .before .before .args .staged-counts) (now (c .before .before .before .before .before .before .before .before .before .before .before .before .args .table)) (c .before .before .before .before .before .before .before .before .before .before .before .before .args .table-count) (c .before .before .before .before .before .before .before .before .before .before .before .before .args .number) (c .before .before .before .before .before .before .before .before .before .before .before .before .args .at) _ (key-is (c .before .before .before .before .before .before .before .before)) _ (c .before .before .before .before .before .locate .ensures) _ (c .before .before .before .place2 .given .1) (c .before .before .before .before .before .before .before .before .before .before .before .before .pre .0 .within), search needs, table-takes (now (c .before .before .before .before .before .before .before .before .before .before .before .before .args .parent)) (now (c .before .before .before .before .before .before .before .before .before .before .before .before .args .staged)) (c .before .before .before .before .before .before .before .before .before .before .before .before .args .staged-counts) (now (c .before .before .before .before .before .before .before .before .before .before .before .before .args .table)) (c .before .before .before .before .before .before .before .before .before .before .before .before .args .table-count) (c .before .before .before .before .before .before .before .before .before .before .before .before .args .number) (c .before .before .before .before .before .before .before .before .before .before .before .before .args .at) _ (key-is (c .before .before .before .before .before .before .before .before)) _ (c .before .before .before .before .before .locate .ensures) _ (c .before .before .before .place2 .given .1) (c .before .before .before .before .before .before .before .before .before .before .before .before .pre .2))
+    (table-lies (now (c .before .before .before .before .before .before .before .before .before .before .before .before .before .args .parent)) (now (c .before .before .before .before .before .before .before .before .before .before .before .before .before .args .staged)) (c .before .before .before .before .before .before .before .before .before .before .before .before .before .args .staged-counts) (now (c .before .before .before .before .before .before .before .before .before .before .before .before .before .args .table)) (c .before .before .before .before .before .before .before .before .before .before .before .before .before .args .table-count) (c .before .before .before .before .before .before .before .before .before .before .before .before .before .args .number) (c .before .before .before .before .before .before .before .before .before .before .before .before .before .args .at) _ (key-is (c .before .before .before .before .before .before .before .before)) _ (c .before .before .before .before .before .locate-hinted .ensures) _ (c .before .before .before .place2 .given .1) (c .before .before .before .before .before .before .before .before .before .before .before .before .before .pre .0 .within), search needs, table-takes (now (c .before .before .before .before .before .before .before .before .before .before .before .before .before .args .parent)) (now (c .before .before .before .before .before .before .before .before .before .before .before .before .before .args .staged)) (c .before .before .before .before .before .before .before .before .before .before .before .before .before .args .staged-counts) (now (c .before .before .before .before .before .before .before .before .before .before .before .before .before .args .table)) (c .before .before .before .before .before .before .before .before .before .before .before .before .before .args .table-count) (c .before .before .before .before .before .before .before .before .before .before .before .before .before .args .number) (c .before .before .before .before .before .before .before .before .before .before .before .before .before .args .at) _ (key-is (c .before .before .before .before .before .before .before .before)) _ (c .before .before .before .before .before .locate-hinted .ensures) _ (c .before .before .before .place2 .given .1) (c .before .before .before .before .before .before .before .before .before .before .before .before .before .pre .2))
 
 slice-aggregate-put-3 : tie.Need-slice-aggregate-put-3
 slice-aggregate-put-3 c = search needs
@@ -80,7 +80,7 @@ slice-aggregate-put-4 c =
 
 put-requires-2 : tie.Need-put-requires-2
 put-requires-2 c κs =
-    (c .before .before .before .before .before .before .before .before .before .before .before .before .before .before .before .before .before .pre .0 .bounds .within, sym (c .before .before .before .before .before .before .before .before .before .before .before .before .before .row-key .ensures .1), simp length-take (omega (arith, c .before .before .before .before .rewrite-record2 .ensures .0)), table-room (now (c .before .before .before .before .before .before .before .before .before .before .before .before .before .before .before .before .before .args .parent)) (now (c .before .before .before .before .before .before .before .before .before .before .before .before .before .before .before .before .before .args .staged)) (c .before .before .before .before .before .before .before .before .before .before .before .before .before .before .before .before .before .args .staged-counts) (now (c .before .before .before .before .before .before .before .before .before .before .before .before .before .before .before .before .before .args .table)) (c .before .before .before .before .before .before .before .before .before .before .before .before .before .before .before .before .before .args .table-count) (c .before .before .before .before .before .before .before .before .before .before .before .before .before .before .before .before .before .args .number) (c .before .before .before .before .before .before .before .before .before .before .before .before .before .before .before .before .before .args .at) _ (key-is (c .before .before .before .before .before .before .before .before .before .before .before .before .before)) _ (c .before .before .before .before .before .before .before .before .before .before .locate .ensures) _ (c .before .before .before .before .before .before .before .before .place2 .given .1) (c .before .before .before .before .before .before .if1 .left) (c .before .before .before .before .before .before .before .before .before .before .before .before .before .before .before .before .before .pre .0 .bounds))
+    (c .before .before .before .before .before .before .before .before .before .before .before .before .before .before .before .before .before .before .pre .0 .bounds .within, sym (c .before .before .before .before .before .before .before .before .before .before .before .before .before .row-key .ensures .1), simp length-take (omega (arith, c .before .before .before .before .rewrite-record2 .ensures .0)), table-room (now (c .before .before .before .before .before .before .before .before .before .before .before .before .before .before .before .before .before .before .args .parent)) (now (c .before .before .before .before .before .before .before .before .before .before .before .before .before .before .before .before .before .before .args .staged)) (c .before .before .before .before .before .before .before .before .before .before .before .before .before .before .before .before .before .before .args .staged-counts) (now (c .before .before .before .before .before .before .before .before .before .before .before .before .before .before .before .before .before .before .args .table)) (c .before .before .before .before .before .before .before .before .before .before .before .before .before .before .before .before .before .before .args .table-count) (c .before .before .before .before .before .before .before .before .before .before .before .before .before .before .before .before .before .before .args .number) (c .before .before .before .before .before .before .before .before .before .before .before .before .before .before .before .before .before .before .args .at) _ (key-is (c .before .before .before .before .before .before .before .before .before .before .before .before .before)) _ (c .before .before .before .before .before .before .before .before .before .before .locate-hinted .ensures) _ (c .before .before .before .before .before .before .before .before .place2 .given .1) (c .before .before .before .before .before .before .if1 .left) (c .before .before .before .before .before .before .before .before .before .before .before .before .before .before .before .before .before .before .pre .0 .bounds))
 
 enum-told : tie.Need-enum-told
 enum-told c = search needs
@@ -90,21 +90,21 @@ same-length-2 c = search needs
 
 returns-2 : tie.Need-returns-2
 returns-2 c =
-    stage-again (now (c .before .before .before .before .before .before .before .before .before .before .before .before .before .before .before .before .before .before .before .before .args .parent)) (now (c .before .before .before .before .before .before .before .before .before .before .before .before .before .before .before .before .before .before .before .before .args .staged)) (c .before .before .before .before .before .before .before .before .before .before .before .before .before .before .before .before .before .before .before .before .args .staged-counts) (now (c .before .before .before .before .before .before .before .before .before .before .before .before .before .before .before .before .before .before .before .before .args .table)) (c .before .before .before .before .before .before .before .before .before .before .before .before .before .before .before .before .before .before .before .before .args .table-count) (c .before .before .before .before .before .before .before .before .before .before .before .before .before .before .before .before .before .before .before .before .args .number) (c .before .before .before .before .before .before .before .before .before .before .before .before .before .before .before .before .before .before .before .before .args .at) _ (key-is (c .before .before .before .before .before .before .before .before .before .before .before .before .before .before .before .before)) _ (c .before .before .before .before .before .before .before .before .before .before .before .before .before .locate .ensures) _ (c .before .before .before .before .before .before .before .before .before .before .before .place .given .1) _ (c .before .before .before .before .before .before .before .rewrite-record .ensures .1) _ _ (c .before .before .put .ensures .0) (c .before .before .put .ensures .1)
+    stage-again (now (c .before .before .before .before .before .before .before .before .before .before .before .before .before .before .before .before .before .before .before .before .before .args .parent)) (now (c .before .before .before .before .before .before .before .before .before .before .before .before .before .before .before .before .before .before .before .before .before .args .staged)) (c .before .before .before .before .before .before .before .before .before .before .before .before .before .before .before .before .before .before .before .before .before .args .staged-counts) (now (c .before .before .before .before .before .before .before .before .before .before .before .before .before .before .before .before .before .before .before .before .before .args .table)) (c .before .before .before .before .before .before .before .before .before .before .before .before .before .before .before .before .before .before .before .before .before .args .table-count) (c .before .before .before .before .before .before .before .before .before .before .before .before .before .before .before .before .before .before .before .before .before .args .number) (c .before .before .before .before .before .before .before .before .before .before .before .before .before .before .before .before .before .before .before .before .before .args .at) _ (key-is (c .before .before .before .before .before .before .before .before .before .before .before .before .before .before .before .before)) _ (c .before .before .before .before .before .before .before .before .before .before .before .before .before .locate-hinted .ensures) _ (c .before .before .before .before .before .before .before .before .before .before .before .place .given .1) _ (c .before .before .before .before .before .before .before .rewrite-record .ensures .1) _ _ (c .before .before .put .ensures .0) (c .before .before .put .ensures .1)
 
 same-length-3 : tie.Need-same-length-3
 same-length-3 c = search needs
 
 returns-3 : tie.Need-returns-3
 returns-3 c =
-    stage-copied (now (c .before .before .before .before .before .before .before .before .before .before .before .before .before .before .before .before .before .before .before .before .args .parent)) (now (c .before .before .before .before .before .before .before .before .before .before .before .before .before .before .before .before .before .before .before .before .args .staged)) (c .before .before .before .before .before .before .before .before .before .before .before .before .before .before .before .before .before .before .before .before .args .staged-counts) (now (c .before .before .before .before .before .before .before .before .before .before .before .before .before .before .before .before .before .before .before .before .args .table)) (c .before .before .before .before .before .before .before .before .before .before .before .before .before .before .before .before .before .before .before .before .args .table-count) (c .before .before .before .before .before .before .before .before .before .before .before .before .before .before .before .before .before .before .before .before .args .number) (c .before .before .before .before .before .before .before .before .before .before .before .before .before .before .before .before .before .before .before .before .args .at) _ (key-is (c .before .before .before .before .before .before .before .before .before .before .before .before .before .before .before .before)) _ (c .before .before .before .before .before .before .before .before .before .before .before .before .before .locate .ensures) _ (c .before .before .before .before .before .before .before .before .before .before .before .place2 .given .1) (c .before .before .before .before .before .before .before .before .before .if1 .left) _ (c .before .before .before .before .before .before .before .rewrite-record2 .ensures .1) _ _ (c .before .before .put2 .ensures .0) (c .before .before .put2 .ensures .1)
+    stage-copied (now (c .before .before .before .before .before .before .before .before .before .before .before .before .before .before .before .before .before .before .before .before .before .args .parent)) (now (c .before .before .before .before .before .before .before .before .before .before .before .before .before .before .before .before .before .before .before .before .before .args .staged)) (c .before .before .before .before .before .before .before .before .before .before .before .before .before .before .before .before .before .before .before .before .before .args .staged-counts) (now (c .before .before .before .before .before .before .before .before .before .before .before .before .before .before .before .before .before .before .before .before .before .args .table)) (c .before .before .before .before .before .before .before .before .before .before .before .before .before .before .before .before .before .before .before .before .before .args .table-count) (c .before .before .before .before .before .before .before .before .before .before .before .before .before .before .before .before .before .before .before .before .before .args .number) (c .before .before .before .before .before .before .before .before .before .before .before .before .before .before .before .before .before .before .before .before .before .args .at) _ (key-is (c .before .before .before .before .before .before .before .before .before .before .before .before .before .before .before .before)) _ (c .before .before .before .before .before .before .before .before .before .before .before .before .before .locate-hinted .ensures) _ (c .before .before .before .before .before .before .before .before .before .before .before .place2 .given .1) (c .before .before .before .before .before .before .before .before .before .if1 .left) _ (c .before .before .before .before .before .before .before .rewrite-record2 .ensures .1) _ _ (c .before .before .put2 .ensures .0) (c .before .before .put2 .ensures .1)
 
 same-length-4 : tie.Need-same-length-4
 same-length-4 c = search needs
 
 returns-4 : tie.Need-returns-4
 returns-4 c =
-    stage-12 (now (c .before .before .before .before .before .before .before .before .before .args .parent)) (now (c .before .before .before .before .before .before .before .before .before .args .staged)) (c .before .before .before .before .before .before .before .before .before .args .staged-counts) (now (c .before .before .before .before .before .before .before .before .before .args .table)) (c .before .before .before .before .before .before .before .before .before .args .table-count) (c .before .before .before .before .before .before .before .before .before .args .number) (c .before .before .before .before .before .before .before .before .before .args .at) _ (key-is (c .before .before .before .before .before)) _ (c .before .before .locate .ensures) (c .enum-told .given .1)
+    stage-12 (now (c .before .before .before .before .before .before .before .before .before .before .args .parent)) (now (c .before .before .before .before .before .before .before .before .before .before .args .staged)) (c .before .before .before .before .before .before .before .before .before .before .args .staged-counts) (now (c .before .before .before .before .before .before .before .before .before .before .args .table)) (c .before .before .before .before .before .before .before .before .before .before .args .table-count) (c .before .before .before .before .before .before .before .before .before .before .args .number) (c .before .before .before .before .before .before .before .before .before .before .args .at) _ (key-is (c .before .before .before .before .before)) _ (c .before .before .locate-hinted .ensures) (c .enum-told .given .1)
 
 pub stage-spec : {M : Type 1} → statement M
 stage-spec =
@@ -112,8 +112,8 @@ stage-spec =
     (tie.spec
     i32-from-usize-requires
     row-key-requires
-    slice-aggregate-locate
-    locate-requires
+    slice-aggregate-locate-hinted
+    locate-hinted-requires
     enum-known-place
     slice-aggregate-rewrite-record
     rewrite-record-requires

@@ -12,8 +12,14 @@ spill-key-requires c κs = search needs
 slice-aggregate-read-under : tie.Need-slice-aggregate-read-under
 slice-aggregate-read-under c = search needs
 
+array-share-prefix-none : tie.Need-array-share-prefix-none
+array-share-prefix-none c = search needs
+
 slice-aggregate-read-under-2 : tie.Need-slice-aggregate-read-under-2
 slice-aggregate-read-under-2 c = search needs
+
+slice-aggregate-read-under-3 : tie.Need-slice-aggregate-read-under-3
+slice-aggregate-read-under-3 c = search needs
 
 read-under-requires : tie.Need-read-under-requires
 read-under-requires c κs = search needs
@@ -29,8 +35,8 @@ same-length c = search needs
 
 returns : tie.Need-returns
 returns c =
-    let a = c .before .before .before .before .before .before .before .before .before .before .before .before .before .args in
-    unspill-20 (a .kind) (now (a .parent)) (a .spills) (a .staged-counts) (now (a .staged)) (a .table-counts) (now (a .table)) (a .deleted-counts) (now (a .deleted)) (now (a .head)) _ (c .before .before .before .before .before .before .before .before .before .spill-key .ensures .0) _ _ (c .before .before .before .before .before .read-under .ensures) _ (c .before .before .read2 .given .1) (c .if1 .taken)
+    let a = c .before .before .before .before .before .before .before .before .before .before .before .before .before .before .args in
+    unspill-20 (a .kind) (now (a .parent)) (a .spills) (a .staged-counts) (now (a .staged)) (a .table-counts) (now (a .table)) (a .deleted-counts) (now (a .deleted)) (now (a .head)) _ (c .before .before .before .before .before .before .before .before .before .before .spill-key .ensures .0) _ _ (c .before .before .before .before .before .read-under .ensures) _ (c .before .before .read2 .given .1) (c .if1 .taken)
 
 slice-aggregate-full-for : tie.Need-slice-aggregate-full-for
 slice-aggregate-full-for c = search needs
@@ -46,8 +52,8 @@ same-length-3 c = search needs
 
 returns-2 : tie.Need-returns-2
 returns-2 c =
-    let a = c .before .before .before .before .before .before .before .before .before .before .before .before .before .before .before .before .before .args in
-    unspill-21 (a .kind) (now (a .parent)) (a .spills) (a .staged-counts) (now (a .staged)) (a .table-counts) (now (a .table)) (a .deleted-counts) (now (a .deleted)) (now (a .head)) _ (c .before .before .before .before .before .before .before .before .before .before .before .before .before .spill-key .ensures .0) _ _ (c .before .before .before .before .before .before .before .before .before .read-under .ensures) _ (c .before .before .before .before .before .before .read2 .given .1) (c .before .before .before .before .if1 .left) (sym (c .before .full-for .ensures) ∙ c .if2 .taken)
+    let a = c .before .before .before .before .before .before .before .before .before .before .before .before .before .before .before .before .before .before .args in
+    unspill-21 (a .kind) (now (a .parent)) (a .spills) (a .staged-counts) (now (a .staged)) (a .table-counts) (now (a .table)) (a .deleted-counts) (now (a .deleted)) (now (a .head)) _ (c .before .before .before .before .before .before .before .before .before .before .before .before .before .before .spill-key .ensures .0) _ _ (c .before .before .before .before .before .before .before .before .before .read-under .ensures) _ (c .before .before .before .before .before .before .read2 .given .1) (c .before .before .before .before .if1 .left) (sym (c .before .full-for .ensures) ∙ c .if2 .taken)
 
 slice-aggregate-merge : tie.Need-slice-aggregate-merge
 slice-aggregate-merge c = search needs
@@ -57,18 +63,18 @@ slice-aggregate-merge-2 c = search needs
 
 merge-requires : tie.Need-merge-requires
 merge-requires c κs =
-    let s = c .before .before .before .before .before .before .before .before .before .before .before .before .before .before .before .before .before .before .before .before .before .before in
+    let s = c .before .before .before .before .before .before .before .before .before .before .before .before .before .before .before .before .before .before .before .before .before .before .before in
     let a = s .args in
-    merge-ready (a .kind) (now (a .parent)) (a .spills) (a .staged-counts) (now (a .staged)) (a .table-counts) (now (a .table)) (a .deleted-counts) (now (a .deleted)) (now (a .head)) _ (c .before .before .before .before .before .before .before .before .before .before .before .before .before .before .before .before .before .before .spill-key .ensures .0) _ _ (c .before .before .before .before .before .before .before .before .before .before .before .before .before .before .read-under .ensures) _ (c .before .before .before .before .before .before .before .before .before .before .before .read2 .given .1) (c .before .before .before .before .before .before .before .before .before .if1 .left)
-    (sym (c .before .before .before .before .before .before .full-for .ensures) ∙ c .before .before .before .before .before .if2 .left) (s .pre .0) (c .before .before .before .before .before .before .before .before .before .before .before .before .before .before .before .before .before .before .spill-key .ensures .1) (s .pre .1)
+    merge-ready (a .kind) (now (a .parent)) (a .spills) (a .staged-counts) (now (a .staged)) (a .table-counts) (now (a .table)) (a .deleted-counts) (now (a .deleted)) (now (a .head)) _ (c .before .before .before .before .before .before .before .before .before .before .before .before .before .before .before .before .before .before .before .spill-key .ensures .0) _ _ (c .before .before .before .before .before .before .before .before .before .before .before .before .before .before .read-under .ensures) _ (c .before .before .before .before .before .before .before .before .before .before .before .read2 .given .1) (c .before .before .before .before .before .before .before .before .before .if1 .left)
+    (sym (c .before .before .before .before .before .before .full-for .ensures) ∙ c .before .before .before .before .before .if2 .left) (s .pre .0) (c .before .before .before .before .before .before .before .before .before .before .before .before .before .before .before .before .before .before .before .spill-key .ensures .1) (s .pre .1)
 
 same-length-4 : tie.Need-same-length-4
 same-length-4 c = search needs
 
 returns-3 : tie.Need-returns-3
 returns-3 c =
-    let a = c .before .before .before .before .before .before .before .before .before .before .before .before .args in
-    unspill-bad (a .kind) (now (a .parent)) (a .spills) (a .staged-counts) (now (a .staged)) (a .table-counts) (now (a .table)) (a .deleted-counts) (now (a .deleted)) (now (a .head)) _ (c .before .before .before .before .before .before .before .before .spill-key .ensures .0) _ _ (c .before .before .before .before .read-under .ensures) _ (c .before .read .given .1)
+    let a = c .before .before .before .before .before .before .before .before .before .before .before .before .before .args in
+    unspill-bad (a .kind) (now (a .parent)) (a .spills) (a .staged-counts) (now (a .staged)) (a .table-counts) (now (a .table)) (a .deleted-counts) (now (a .deleted)) (now (a .head)) _ (c .before .before .before .before .before .before .before .before .before .spill-key .ensures .0) _ _ (c .before .before .before .before .read-under .ensures) _ (c .before .read .given .1)
 
 same-length-5 : tie.Need-same-length-5
 same-length-5 c = search needs
@@ -81,8 +87,8 @@ same-length-7 c = search needs
 
 returns-4 : tie.Need-returns-4
 returns-4 c =
-    let a = c .before .before .before .before .before .before .before .before .before .before .before .before .before .before .before .before .before .before .before .before .before .before .before .before .before .before .before .before .args in
-    unspill-done (a .kind) (now (a .parent)) (a .spills) (a .staged-counts) (now (a .staged)) (a .table-counts) (now (a .table)) (a .deleted-counts) (now (a .deleted)) (now (a .head)) _ (c .before .before .before .before .before .before .before .before .before .before .before .before .before .before .before .before .before .before .before .before .before .before .before .before .spill-key .ensures .0) _ _ (c .before .before .before .before .before .before .before .before .before .before .before .before .before .before .before .before .before .before .before .before .read-under .ensures) _ (c .before .before .before .before .before .before .before .before .before .before .before .before .before .before .before .before .before .read2 .given .1) (c .before .before .before .before .before .before .before .before .before .before .before .before .before .before .before .if1 .left)
+    let a = c .before .before .before .before .before .before .before .before .before .before .before .before .before .before .before .before .before .before .before .before .before .before .before .before .before .before .before .before .before .args in
+    unspill-done (a .kind) (now (a .parent)) (a .spills) (a .staged-counts) (now (a .staged)) (a .table-counts) (now (a .table)) (a .deleted-counts) (now (a .deleted)) (now (a .head)) _ (c .before .before .before .before .before .before .before .before .before .before .before .before .before .before .before .before .before .before .before .before .before .before .before .before .before .spill-key .ensures .0) _ _ (c .before .before .before .before .before .before .before .before .before .before .before .before .before .before .before .before .before .before .before .before .read-under .ensures) _ (c .before .before .before .before .before .before .before .before .before .before .before .before .before .before .before .before .before .read2 .given .1) (c .before .before .before .before .before .before .before .before .before .before .before .before .before .before .before .if1 .left)
     (sym (c .before .before .before .before .before .before .before .before .before .before .before .before .full-for .ensures) ∙ c .before .before .before .before .before .before .before .before .before .before .before .if2 .left) _ (c .before .before .before .before .before .merge .ensures)
 
 pub unspill-spec : {M : Type 1} → statement M
@@ -91,7 +97,9 @@ unspill-spec =
     (tie.spec
     spill-key-requires
     slice-aggregate-read-under
+    array-share-prefix-none
     slice-aggregate-read-under-2
+    slice-aggregate-read-under-3
     read-under-requires
     enum-known-read
     enum-known-read-2

@@ -6,92 +6,68 @@ use Rattle.runner.proofs.RunLaws.{ready-when, run-passed, run-refused}
 use borrow.Author.Needs.{needs}
 use Rattle.runner.proofs.run_calls.Statement.{statement}
 use Rattle.runner.proofs.run_calls.Tie as tie
-use Rattle.runner.proofs.run_calls.Reads as reads
-use Rattle.runner.proofs.run_calls.Lts as lts
-use Rattle.runner.proofs.run_ready.Reads as run-ready-reads
-use Rattle.runner.proofs.state_ok.Reads as state-ok-reads
 
--- src/lib.rt:354:8
 state-ok-requires : tie.Need-state-ok-requires
 state-ok-requires c κs = search needs
 
--- src/lib.rt:365:9
-run-ready-requires : tie.Need-run-ready-requires
-run-ready-requires c κs =
+run-noted-requires : tie.Need-run-noted-requires
+run-noted-requires c κs =
     let a = c .before .before .before .before .before .before .before .before .before .before .before .before .before .before .before .before .before .before .before .before .before .before .before .before .before .args in
     ready-when (a .parents) (state (now (a .ids)) (now (a .numbers)) (now (a .lengths)) (now (a .spills)) (lists-with (a .counts) (now (a .staged)) (now (a .table)) (now (a .deleted)))) (sym (c .before .before .before .before .before .before .before .before .before .before .state-ok .ensures) ∙ c .before .before .before .before .before .before .before .before .before .if1 .taken)
 
--- src/lib.rt:365:9
 same-length : tie.Need-same-length
 same-length c = search needs
 
--- src/lib.rt:365:9
 same-length-2 : tie.Need-same-length-2
 same-length-2 c = search needs
 
--- src/lib.rt:365:9
 same-length-3 : tie.Need-same-length-3
 same-length-3 c = search needs
 
--- src/lib.rt:365:9
 same-length-4 : tie.Need-same-length-4
 same-length-4 c = search needs
 
--- src/lib.rt:365:9
 same-length-5 : tie.Need-same-length-5
 same-length-5 c = search needs
 
--- src/lib.rt:365:9
 same-length-6 : tie.Need-same-length-6
 same-length-6 c = search needs
 
--- src/lib.rt:365:9
 same-length-7 : tie.Need-same-length-7
 same-length-7 c = search needs
 
--- src/lib.rt:365:9
 same-length-8 : tie.Need-same-length-8
 same-length-8 c = search needs
 
--- src/lib.rt:365:9
 same-length-9 : tie.Need-same-length-9
 same-length-9 c = search needs
 
--- src/lib.rt:365:9
 returns : tie.Need-returns
 returns c =
     let a = c .before .before .before .before .before .before .before .before .before .before .before .before .before .before .before .before .before .before .before .before .before .before .before .before .before .before .before .before .before .before .before .before .before .before .before .before .before .before .before .before .before .args in
-    c .before .before .before .before .before .before .before .before .before .before .before .before .before .before .before .run-ready .ensures ∙ run-passed (a .parents) (now (a .input)) (state (now (a .ids)) (now (a .numbers)) (now (a .lengths)) (now (a .spills)) (lists-with (a .counts) (now (a .staged)) (now (a .table)) (now (a .deleted)))) (now (a .answers)) (now (a .popped)) (sym (c .before .before .before .before .before .before .before .before .before .before .before .before .before .before .before .before .before .before .before .before .before .before .before .before .before .before .state-ok .ensures) ∙ c .before .before .before .before .before .before .before .before .before .before .before .before .before .before .before .before .before .before .before .before .before .before .before .before .before .if1 .taken)
+    c .before .before .before .before .before .before .before .before .before .before .before .before .before .before .before .run-noted .ensures ∙ run-passed (a .parents) (now (a .input)) (state (now (a .ids)) (now (a .numbers)) (now (a .lengths)) (now (a .spills)) (lists-with (a .counts) (now (a .staged)) (now (a .table)) (now (a .deleted)))) (now (a .answers)) (now (a .popped)) (sym (c .before .before .before .before .before .before .before .before .before .before .before .before .before .before .before .before .before .before .before .before .before .before .before .before .before .before .state-ok .ensures) ∙ c .before .before .before .before .before .before .before .before .before .before .before .before .before .before .before .before .before .before .before .before .before .before .before .before .before .if1 .taken)
 
--- src/lib.rt:337:1
 same-length-10 : tie.Need-same-length-10
 same-length-10 c = search needs
 
--- src/lib.rt:337:1
 same-length-11 : tie.Need-same-length-11
 same-length-11 c = search needs
 
--- src/lib.rt:337:1
 same-length-12 : tie.Need-same-length-12
 same-length-12 c = search needs
 
--- src/lib.rt:337:1
 same-length-13 : tie.Need-same-length-13
 same-length-13 c = search needs
 
--- src/lib.rt:337:1
 same-length-14 : tie.Need-same-length-14
 same-length-14 c = search needs
 
--- src/lib.rt:337:1
 same-length-15 : tie.Need-same-length-15
 same-length-15 c = search needs
 
--- src/lib.rt:337:1
 same-length-16 : tie.Need-same-length-16
 same-length-16 c = search needs
 
--- src/lib.rt:337:1
 returns-2 : tie.Need-returns-2
 returns-2 c =
     let a = c .before .before .before .before .before .before .before .before .before .before .before .before .before .before .before .before .args in
@@ -102,7 +78,7 @@ run-calls-spec =
     tie.close
     (tie.spec
     state-ok-requires
-    run-ready-requires
+    run-noted-requires
     same-length
     same-length-2
     same-length-3

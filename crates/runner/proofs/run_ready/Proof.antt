@@ -10,163 +10,120 @@ use Rattle.runner.specs.Run.{run, start, runs}
 use Rattle.runner.proofs.RunLaws.{Kept, kept-start, kept-ready, kept-turn, kept-stop, kept-end}
 use Rattle.runner.proofs.run_ready.Statement.{statement}
 use Rattle.runner.proofs.run_ready.Tie as tie
-use Rattle.runner.proofs.run_ready.Reads as reads
-use Rattle.runner.proofs.run_ready.Lts as lts
-use Rattle.runner.proofs.may_go.Reads as may-go-reads
-use Rattle.runner.proofs.turn.Reads as turn-reads
 
 abbrev Inv-loop : tie.InvT-loop
-Inv-loop input parents ids₀ numbers₀ lengths₀ spills₀ staged₀ table₀ deleted₀ answers₀ popped₀ p₀ left₀ ids numbers lengths spills staged table deleted answers popped p left =
-    Kept ((length ids ≡ length ids₀) × (length numbers ≡ length numbers₀) × (length lengths ≡ length lengths₀) × (length spills ≡ length spills₀) × (length staged ≡ length staged₀) × (length table ≡ length table₀) × (length deleted ≡ length deleted₀) × (length answers ≡ length answers₀) × (length popped ≡ length popped₀)) parents input left (run p ids numbers lengths spills staged table deleted answers popped) (run p₀ ids₀ numbers₀ lengths₀ spills₀ staged₀ table₀ deleted₀ answers₀ popped₀)
+Inv-loop input parents ids₀ numbers₀ lengths₀ spills₀ staged₀ table₀ deleted₀ answers₀ popped₀ hints₀ p₀ left₀ ids numbers lengths spills staged table deleted answers popped hints p left =
+    Kept ((length ids ≡ length ids₀) × (length numbers ≡ length numbers₀) × (length lengths ≡ length lengths₀) × (length spills ≡ length spills₀) × (length staged ≡ length staged₀) × (length table ≡ length table₀) × (length deleted ≡ length deleted₀) × (length answers ≡ length answers₀) × (length popped ≡ length popped₀) × (length hints ≡ length hints₀)) parents input left (run p ids numbers lengths spills staged table deleted answers popped) (run p₀ ids₀ numbers₀ lengths₀ spills₀ staged₀ table₀ deleted₀ answers₀ popped₀)
 
 abbrev μ-loop : tie.MeasureT-loop
-μ-loop input parents ids₀ numbers₀ lengths₀ spills₀ staged₀ table₀ deleted₀ answers₀ popped₀ p₀ left₀ ids numbers lengths spills staged table deleted answers popped p left =
+μ-loop input parents ids₀ numbers₀ lengths₀ spills₀ staged₀ table₀ deleted₀ answers₀ popped₀ hints₀ p₀ left₀ ids numbers lengths spills staged table deleted answers popped hints p left =
     left
 
--- src/lib.rt:308:20
 add-left : tie.Need-add-left Inv-loop μ-loop
 add-left c =
     search needs
 
--- src/lib.rt:309:5
 loop-holds : tie.Need-loop-holds Inv-loop μ-loop
 loop-holds c =
-    let a = c .before .before .before .before .before .before .before .args in
-    kept-start _ (a .parents) (now (a .input)) (start (state (now (a .ids)) (now (a .numbers)) (now (a .lengths)) (now (a .spills)) (lists-with (a .counts) (now (a .staged)) (now (a .table)) (now (a .deleted)))) (now (a .answers)) (now (a .popped))) (refl, refl, refl, refl, refl, refl, refl, refl, refl) (c .before .before .before .before .before .before .before .pre) refl
+    let a = c .before .before .before .before .before .before .before .before .args in
+    kept-start _ (a .parents) (now (a .input)) (start (state (now (a .ids)) (now (a .numbers)) (now (a .lengths)) (now (a .spills)) (lists-with (a .counts) (now (a .staged)) (now (a .table)) (now (a .deleted)))) (now (a .answers)) (now (a .popped))) (refl, refl, refl, refl, refl, refl, refl, refl, refl, refl) (c .before .before .before .before .before .before .before .before .pre) refl
 
--- src/lib.rt:312:12
 may-go-requires : tie.Need-may-go-requires Inv-loop μ-loop
 may-go-requires c κs =
     tt
 
--- src/lib.rt:313:13
 turn-requires : tie.Need-turn-requires Inv-loop μ-loop
 turn-requires c κs =
-    let a = c .before .before .before .before .before .before .before .before .before .before .before .before .before .before .before .before .before .before .before .before .before .before .args in
-    let l = c .before .before .before .before .before .before .before .before .before .before .before .before .before .before .loop in
-    kept-ready _ (a .parents) (now (a .input)) (l .left) (run (l .p) (l .ids) (l .numbers) (l .lengths) (l .spills) (l .staged) (l .table) (l .deleted) (l .answers) (l .popped)) (start (state (now (a .ids)) (now (a .numbers)) (now (a .lengths)) (now (a .spills)) (lists-with (a .counts) (now (a .staged)) (now (a .table)) (now (a .deleted)))) (now (a .answers)) (now (a .popped))) (l .inv) (sym (c .before .before .before .before .before .before .before .before .before .before .may-go .ensures) ∙ c .before .before .before .before .before .before .before .before .before .if1 .taken)
+    let a = c .before .before .before .before .before .before .before .before .before .before .before .before .before .before .before .before .before .before .before .before .before .before .before .before .args in
+    let l = c .before .before .before .before .before .before .before .before .before .before .before .before .before .before .before .loop in
+    kept-ready _ (a .parents) (now (a .input)) (l .left) (run (l .p) (l .ids) (l .numbers) (l .lengths) (l .spills) (l .staged) (l .table) (l .deleted) (l .answers) (l .popped)) (start (state (now (a .ids)) (now (a .numbers)) (now (a .lengths)) (now (a .spills)) (lists-with (a .counts) (now (a .staged)) (now (a .table)) (now (a .deleted)))) (now (a .answers)) (now (a .popped))) (l .inv) (sym (c .before .before .before .before .before .before .before .before .before .before .before .may-go .ensures) ∙ c .before .before .before .before .before .before .before .before .before .before .if1 .taken)
 
--- src/lib.rt:327:13
 sub-left : tie.Need-sub-left Inv-loop μ-loop
 sub-left c =
-    omega (arith, c .before .before .before .before .before .before .before .before .before .before .before .before .before .before .before .before .before .before .before .before .before .before .before .before .before .before .before .before .before .loop-test .taken)
+    omega (arith, c .before .before .before .before .before .before .before .before .before .before .before .before .before .before .before .before .before .before .before .before .before .before .before .before .before .before .before .before .before .before .before .before .loop-test .taken)
 
--- src/lib.rt:309:5
 loop-less : tie.Need-loop-less Inv-loop μ-loop
 loop-less c =
-    omega (arith, c .before .before .before .before .before .before .before .before .before .before .before .before .before .before .before .before .before .before .before .before .before .before .before .before .before .before .before .before .before .loop-test .taken)
+    omega (arith, c .before .before .before .before .before .before .before .before .before .before .before .before .before .before .before .before .before .before .before .before .before .before .before .before .before .before .before .before .before .before .before .before .loop-test .taken)
 
--- src/lib.rt:309:5
 loop-again : tie.Need-loop-again Inv-loop μ-loop
 loop-again c =
-    let a = c .before .before .before .before .before .before .before .before .before .before .before .before .before .before .before .before .before .before .before .before .before .before .before .before .before .before .before .before .before .before .before .before .before .before .before .before .before .before .args in
-    let l = c .before .before .before .before .before .before .before .before .before .before .before .before .before .before .before .before .before .before .before .before .before .before .before .before .before .before .before .before .before .before .loop in
-    let k = c .before .before .before .before .before .before .before .before .before .before .before .before .before .before .before .turn .kept in
+    let a = c .before .before .before .before .before .before .before .before .before .before .before .before .before .before .before .before .before .before .before .before .before .before .before .before .before .before .before .before .before .before .before .before .before .before .before .before .before .before .before .before .before .before .args in
+    let l = c .before .before .before .before .before .before .before .before .before .before .before .before .before .before .before .before .before .before .before .before .before .before .before .before .before .before .before .before .before .before .before .before .before .loop in
+    let k = c .before .before .before .before .before .before .before .before .before .before .before .before .before .before .before .before .before .turn .kept in
     let s = l .inv .same in
-    kept-turn _ (a .parents) (now (a .input)) (l .left) (run (l .p) (l .ids) (l .numbers) (l .lengths) (l .spills) (l .staged) (l .table) (l .deleted) (l .answers) (l .popped)) (start (state (now (a .ids)) (now (a .numbers)) (now (a .lengths)) (now (a .spills)) (lists-with (a .counts) (now (a .staged)) (now (a .table)) (now (a .deleted)))) (now (a .answers)) (now (a .popped))) (l .inv) _ _ (c .before .before .before .before .before .before .before .before .before .before .before .before .before .before .before .before .before .before .before .before .before .before .before .before .before .before .before .before .before .loop-test .taken) (sym (c .before .before .before .before .before .before .before .before .before .before .before .before .before .before .before .before .before .before .before .before .before .before .before .before .before .before .may-go .ensures) ∙ c .before .before .before .before .before .before .before .before .before .before .before .before .before .before .before .before .before .before .before .before .before .before .before .before .before .if1 .taken)
-    (k .1 .1 .0 ∙ s .0, k .1 .1 .1 .0 ∙ s .1, k .1 .1 .1 .1 .0 ∙ s .2, k .1 .1 .1 .1 .1 .0 ∙ s .3, k .1 .1 .1 .1 .1 .1 .0 ∙ s .4, k .1 .1 .1 .1 .1 .1 .1 .0 ∙ s .5, k .1 .1 .1 .1 .1 .1 .1 .1 .0 ∙ s .6, k .1 .1 .1 .1 .1 .1 .1 .1 .1 .0 ∙ s .7, k .1 .1 .1 .1 .1 .1 .1 .1 .1 .1 .0 ∙ s .8) (c .before .before .before .before .before .before .before .before .before .before .before .before .before .before .before .turn .ensures)
+    kept-turn _ (a .parents) (now (a .input)) (l .left) (run (l .p) (l .ids) (l .numbers) (l .lengths) (l .spills) (l .staged) (l .table) (l .deleted) (l .answers) (l .popped)) (start (state (now (a .ids)) (now (a .numbers)) (now (a .lengths)) (now (a .spills)) (lists-with (a .counts) (now (a .staged)) (now (a .table)) (now (a .deleted)))) (now (a .answers)) (now (a .popped))) (l .inv) _ _ (c .before .before .before .before .before .before .before .before .before .before .before .before .before .before .before .before .before .before .before .before .before .before .before .before .before .before .before .before .before .before .before .before .loop-test .taken) (sym (c .before .before .before .before .before .before .before .before .before .before .before .before .before .before .before .before .before .before .before .before .before .before .before .before .before .before .before .before .before .may-go .ensures) ∙ c .before .before .before .before .before .before .before .before .before .before .before .before .before .before .before .before .before .before .before .before .before .before .before .before .before .before .before .before .if1 .taken)
+    (k .1 .1 .0 ∙ s .0, k .1 .1 .1 .0 ∙ s .1, k .1 .1 .1 .1 .0 ∙ s .2, k .1 .1 .1 .1 .1 .0 ∙ s .3, k .1 .1 .1 .1 .1 .1 .0 ∙ s .4, k .1 .1 .1 .1 .1 .1 .1 .0 ∙ s .5, k .1 .1 .1 .1 .1 .1 .1 .1 .0 ∙ s .6, k .1 .1 .1 .1 .1 .1 .1 .1 .1 .0 ∙ s .7, k .1 .1 .1 .1 .1 .1 .1 .1 .1 .1 .0 ∙ s .8, k .1 .1 .1 .1 .1 .1 .1 .1 .1 .1 .1 .0 ∙ s .9) (c .before .before .before .before .before .before .before .before .before .before .before .before .before .before .before .before .before .turn .ensures)
 
--- src/lib.rt:329:13
 same-length : tie.Need-same-length Inv-loop μ-loop
-same-length c =
-    c .before .before .before .before .before .loop .inv .same .0
+same-length c = c .before .before .before .before .before .loop .inv .same .0
 
--- src/lib.rt:329:13
 same-length-2 : tie.Need-same-length-2 Inv-loop μ-loop
-same-length-2 c =
-    c .before .before .before .before .before .loop .inv .same .1
+same-length-2 c = c .before .before .before .before .before .loop .inv .same .1
 
--- src/lib.rt:329:13
 same-length-3 : tie.Need-same-length-3 Inv-loop μ-loop
-same-length-3 c =
-    c .before .before .before .before .before .loop .inv .same .2
+same-length-3 c = c .before .before .before .before .before .loop .inv .same .2
 
--- src/lib.rt:329:13
 same-length-4 : tie.Need-same-length-4 Inv-loop μ-loop
-same-length-4 c =
-    c .before .before .before .before .before .loop .inv .same .3
+same-length-4 c = c .before .before .before .before .before .loop .inv .same .3
 
--- src/lib.rt:329:13
 same-length-5 : tie.Need-same-length-5 Inv-loop μ-loop
-same-length-5 c =
-    c .before .before .before .before .before .loop .inv .same .4
+same-length-5 c = c .before .before .before .before .before .loop .inv .same .4
 
--- src/lib.rt:329:13
 same-length-6 : tie.Need-same-length-6 Inv-loop μ-loop
-same-length-6 c =
-    c .before .before .before .before .before .loop .inv .same .5
+same-length-6 c = c .before .before .before .before .before .loop .inv .same .5
 
--- src/lib.rt:329:13
 same-length-7 : tie.Need-same-length-7 Inv-loop μ-loop
-same-length-7 c =
-    c .before .before .before .before .before .loop .inv .same .6
+same-length-7 c = c .before .before .before .before .before .loop .inv .same .6
 
--- src/lib.rt:329:13
 same-length-8 : tie.Need-same-length-8 Inv-loop μ-loop
-same-length-8 c =
-    c .before .before .before .before .before .loop .inv .same .7
+same-length-8 c = c .before .before .before .before .before .loop .inv .same .7
 
--- src/lib.rt:329:13
 same-length-9 : tie.Need-same-length-9 Inv-loop μ-loop
-same-length-9 c =
-    c .before .before .before .before .before .loop .inv .same .8
+same-length-9 c = c .before .before .before .before .before .loop .inv .same .8
 
--- src/lib.rt:329:13
+same-length-10 : tie.Need-same-length-10 Inv-loop μ-loop
+same-length-10 c = c .before .before .before .before .before .loop .inv .same .9
+
 returns : tie.Need-returns Inv-loop μ-loop
 returns c =
-    let a = c .before .before .before .before .before .before .before .before .before .before .before .before .before .args in
+    let a = c .before .before .before .before .before .before .before .before .before .before .before .before .before .before .args in
     let l = c .before .before .before .before .before .loop in
     kept-stop _ (a .parents) (now (a .input)) (l .left) (run (l .p) (l .ids) (l .numbers) (l .lengths) (l .spills) (l .staged) (l .table) (l .deleted) (l .answers) (l .popped)) (start (state (now (a .ids)) (now (a .numbers)) (now (a .lengths)) (now (a .spills)) (lists-with (a .counts) (now (a .staged)) (now (a .table)) (now (a .deleted)))) (now (a .answers)) (now (a .popped))) (l .inv) (sym (c .before .may-go .ensures) ∙ c .if1 .left)
 
--- src/lib.rt:284:1
-same-length-10 : tie.Need-same-length-10 Inv-loop μ-loop
-same-length-10 c =
-    c .before .loop .inv .same .0
-
--- src/lib.rt:284:1
 same-length-11 : tie.Need-same-length-11 Inv-loop μ-loop
-same-length-11 c =
-    c .before .loop .inv .same .1
+same-length-11 c = c .before .loop .inv .same .0
 
--- src/lib.rt:284:1
 same-length-12 : tie.Need-same-length-12 Inv-loop μ-loop
-same-length-12 c =
-    c .before .loop .inv .same .2
+same-length-12 c = c .before .loop .inv .same .1
 
--- src/lib.rt:284:1
 same-length-13 : tie.Need-same-length-13 Inv-loop μ-loop
-same-length-13 c =
-    c .before .loop .inv .same .3
+same-length-13 c = c .before .loop .inv .same .2
 
--- src/lib.rt:284:1
 same-length-14 : tie.Need-same-length-14 Inv-loop μ-loop
-same-length-14 c =
-    c .before .loop .inv .same .4
+same-length-14 c = c .before .loop .inv .same .3
 
--- src/lib.rt:284:1
 same-length-15 : tie.Need-same-length-15 Inv-loop μ-loop
-same-length-15 c =
-    c .before .loop .inv .same .5
+same-length-15 c = c .before .loop .inv .same .4
 
--- src/lib.rt:284:1
 same-length-16 : tie.Need-same-length-16 Inv-loop μ-loop
-same-length-16 c =
-    c .before .loop .inv .same .6
+same-length-16 c = c .before .loop .inv .same .5
 
--- src/lib.rt:284:1
 same-length-17 : tie.Need-same-length-17 Inv-loop μ-loop
-same-length-17 c =
-    c .before .loop .inv .same .7
+same-length-17 c = c .before .loop .inv .same .6
 
--- src/lib.rt:284:1
 same-length-18 : tie.Need-same-length-18 Inv-loop μ-loop
-same-length-18 c =
-    c .before .loop .inv .same .8
+same-length-18 c = c .before .loop .inv .same .7
 
--- src/lib.rt:284:1
+same-length-19 : tie.Need-same-length-19 Inv-loop μ-loop
+same-length-19 c = c .before .loop .inv .same .8
+
+same-length-20 : tie.Need-same-length-20 Inv-loop μ-loop
+same-length-20 c = c .before .loop .inv .same .9
+
 returns-2 : tie.Need-returns-2 Inv-loop μ-loop
 returns-2 c =
-    let a = c .before .before .before .before .before .before .before .before .before .args in
+    let a = c .before .before .before .before .before .before .before .before .before .before .args in
     let l = c .before .loop in
     kept-end _ (a .parents) (now (a .input)) (l .left) (run (l .p) (l .ids) (l .numbers) (l .lengths) (l .spills) (l .staged) (l .table) (l .deleted) (l .answers) (l .popped)) (start (state (now (a .ids)) (now (a .numbers)) (now (a .lengths)) (now (a .spills)) (lists-with (a .counts) (now (a .staged)) (now (a .table)) (now (a .deleted)))) (now (a .answers)) (now (a .popped))) (l .inv) (omega (arith, c .loop-test .left))
 
@@ -192,8 +149,8 @@ run-ready-spec =
     same-length-7
     same-length-8
     same-length-9
-    returns
     same-length-10
+    returns
     same-length-11
     same-length-12
     same-length-13
@@ -202,4 +159,6 @@ run-ready-spec =
     same-length-16
     same-length-17
     same-length-18
+    same-length-19
+    same-length-20
     returns-2)

@@ -3,7 +3,8 @@ use mathlib.Core.Path.{sym, _∙_}
 use denote.Ref.{now}
 use mir.Syntax.{w64}
 use Rattle.signed.proofs.SignedLaws.{back}
-use Rattle.segment_buffer.proofs.CallLaws.{flip-25, flip-goes, flip-ready}
+use Rattle.flip_core.proofs.KeepLaws.{flip-facts}
+use Rattle.segment_buffer.proofs.CallLaws.{flip-25, flip-goes}
 use borrow.Author.Needs.{needs}
 use Rattle.segment_buffer.proofs.flip_entry.Statement.{statement}
 use Rattle.segment_buffer.proofs.flip_entry.Tie as tie
@@ -11,10 +12,16 @@ use Rattle.segment_buffer.proofs.flip_entry.Tie as tie
 flip-ok-requires : tie.Need-flip-ok-requires
 flip-ok-requires c κs = search needs
 
+array-share-prefix-none : tie.Need-array-share-prefix-none
+array-share-prefix-none c = search needs
+
+slice-aggregate-flip : tie.Need-slice-aggregate-flip
+slice-aggregate-flip c = search needs
+
 flip-requires : tie.Need-flip-requires
 flip-requires c κs =
-    let a = c .before .before .before .before .before .before .before .before .args in
-    flip-ready (a .counts) (a .staged-counts) (now (a .staged)) (a .table-counts) (now (a .table)) (now (a .head)) (sym (c .before .before .before .flip-ok .ensures) ∙ c .before .before .if1 .taken)
+    let a = c .before .before .before .before .before .before .before .before .before .args in
+    flip-facts (a .counts) (a .staged-counts) (now (a .staged)) (a .table-counts) (now (a .table)) (now (a .head)) (sym (c .before .before .before .before .flip-ok .ensures) ∙ c .before .before .before .if1 .taken)
 
 same-length : tie.Need-same-length
 same-length c = search needs
@@ -24,8 +31,8 @@ same-length-2 c = search needs
 
 returns : tie.Need-returns
 returns c =
-    let a = c .before .before .before .before .before .before .before .before .before .before .before .before .args in
-    flip-goes (a .direction) (now (a .parent)) (a .counts) (a .target) (a .staged-counts) (now (a .staged)) (a .table-counts) (now (a .table)) (now (a .head)) (sym (c .before .before .before .before .before .before .before .flip-ok .ensures) ∙ c .before .before .before .before .before .before .if1 .taken) _ (rw (back w64 (a .target) (search needs)) at (c .before .before .before .flip .ensures))
+    let a = c .before .before .before .before .before .before .before .before .before .before .before .before .before .args in
+    flip-goes (a .direction) (now (a .parent)) (a .counts) (a .target) (a .staged-counts) (now (a .staged)) (a .table-counts) (now (a .table)) (now (a .head)) (sym (c .before .before .before .before .before .before .before .before .flip-ok .ensures) ∙ c .before .before .before .before .before .before .before .if1 .taken) _ (rw (back w64 (a .target) (search needs)) at (c .before .before .before .flip .ensures))
 
 same-length-3 : tie.Need-same-length-3
 same-length-3 c = search needs
@@ -43,6 +50,8 @@ flip-entry-spec =
     tie.close
     (tie.spec
     flip-ok-requires
+    array-share-prefix-none
+    slice-aggregate-flip
     flip-requires
     same-length
     same-length-2

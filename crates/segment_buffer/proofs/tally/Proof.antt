@@ -1,7 +1,8 @@
 -- Refusal 25 is tested, and what passed is what the core asks.
 use mathlib.Core.Path.{sym, _∙_}
 use denote.Ref.{now}
-use Rattle.segment_buffer.proofs.CallLaws.{flip-ready, tally-25, tally-goes}
+use Rattle.flip_core.proofs.KeepLaws.{flip-facts}
+use Rattle.segment_buffer.proofs.CallLaws.{tally-25, tally-goes}
 use borrow.Author.Needs.{needs}
 use Rattle.segment_buffer.proofs.tally.Statement.{statement}
 use Rattle.segment_buffer.proofs.tally.Tie as tie
@@ -12,7 +13,7 @@ flip-ok-requires c κs = search needs
 tally-requires : tie.Need-tally-requires
 tally-requires c κs =
     let a = c .before .before .before .before .args in
-    flip-ready (a .counts) (a .staged-counts) (now (a .staged)) (a .table-counts) (now (a .table)) (now (a .head)) (sym (c .before .flip-ok .ensures) ∙ c .if1 .taken)
+    flip-facts (a .counts) (a .staged-counts) (now (a .staged)) (a .table-counts) (now (a .table)) (now (a .head)) (sym (c .before .flip-ok .ensures) ∙ c .if1 .taken)
 
 returns : tie.Need-returns
 returns c =

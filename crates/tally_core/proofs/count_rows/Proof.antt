@@ -15,12 +15,12 @@ use Rattle.tally_core.proofs.count_rows.Statement.{statement}
 use Rattle.tally_core.proofs.count_rows.Tie as tie
 
 abbrev Inv-loop : tie.InvT-loop
-Inv-loop parent spills unspent spent staged staged-count table table-count u₀ s₀ n₀ u s n =
+Inv-loop parent spills unspent spent staged staged-count table table-count hints u₀ s₀ n₀ u s n =
     let f = row-checked edition-1 (sources parent staged staged-count table table-count) in
     (n ≤ spills) × (u ≤ 512 + n * 512) × (s ≤ 512 + n * 512) × (tally-rows f 0 spills unspent spent ≡ tally-rows f n (spills - n) u s)
 
 abbrev μ-loop : tie.MeasureT-loop
-μ-loop parent spills unspent spent staged staged-count table table-count u₀ s₀ n₀ u s n = spills - n
+μ-loop parent spills unspent spent staged staged-count table table-count hints u₀ s₀ n₀ u s n = spills - n
 
 loop-holds : tie.Need-loop-holds Inv-loop μ-loop
 loop-holds c = (search needs, search needs, search needs, rw left-all)
@@ -33,7 +33,7 @@ enum-known-count c = search needs
 
 sub-u : tie.Need-sub-u Inv-loop μ-loop
 sub-u c =
-    let a = c .before .before .before .before .before .before .before .before .args in
+    let a = c .before .before .before .before .before .before .before .before .before .args in
     let l = c .before .before .before .before .before .loop in
     let w = (sources (now (a .parent)) (now (a .staged)) (a .staged-count) (now (a .table)) (a .table-count)) in
     let e = sym (c .before .count .given .1) ∙ c .before .before .before .count-row .ensures in
@@ -42,7 +42,7 @@ sub-u c =
 
 add-u : tie.Need-add-u Inv-loop μ-loop
 add-u c =
-    let a = c .before .before .before .before .before .before .before .before .args in
+    let a = c .before .before .before .before .before .before .before .before .before .args in
     let l = c .before .before .before .before .before .loop in
     let w = (sources (now (a .parent)) (now (a .staged)) (a .staged-count) (now (a .table)) (a .table-count)) in
     let e = sym (c .before .count .given .1) ∙ c .before .before .before .count-row .ensures in
@@ -51,7 +51,7 @@ add-u c =
 
 add-s : tie.Need-add-s Inv-loop μ-loop
 add-s c =
-    let a = c .before .before .before .before .before .before .before .before .args in
+    let a = c .before .before .before .before .before .before .before .before .before .args in
     let l = c .before .before .before .before .before .loop in
     let w = (sources (now (a .parent)) (now (a .staged)) (a .staged-count) (now (a .table)) (a .table-count)) in
     let e = sym (c .before .count .given .1) ∙ c .before .before .before .count-row .ensures in
@@ -63,7 +63,7 @@ enum-known-count-2 c = search needs
 
 returns : tie.Need-returns Inv-loop μ-loop
 returns c =
-    let a = c .before .before .before .before .before .before .before .before .args in
+    let a = c .before .before .before .before .before .before .before .before .before .args in
     let l = c .before .before .before .before .before .loop in
     stop (sources (now (a .parent)) (now (a .staged)) (a .staged-count) (now (a .table)) (a .table-count)) (l .n) (a .spills) (l .u) (l .s) (c .before .before .before .before .loop-test .taken) _ (sym (c .before .count2 .given .1) ∙ c .before .before .before .count-row .ensures) ∙ sym (l .inv .3)
 
@@ -75,7 +75,7 @@ loop-less c = omega arith
 
 loop-again : tie.Need-loop-again Inv-loop μ-loop
 loop-again c =
-    let a = c .before .before .before .before .before .before .before .before .args in
+    let a = c .before .before .before .before .before .before .before .before .before .args in
     let l = c .before .before .before .before .before .loop in
     let w = (sources (now (a .parent)) (now (a .staged)) (a .staged-count) (now (a .table)) (a .table-count)) in
     let e = sym (c .before .count .given .1) ∙ c .before .before .before .count-row .ensures in
@@ -84,7 +84,7 @@ loop-again c =
 
 returns-2 : tie.Need-returns-2 Inv-loop μ-loop
 returns-2 c =
-    let a = c .before .before .before .before .args in
+    let a = c .before .before .before .before .before .args in
     let l = c .before .loop in
     sym (l .inv .3 ∙ past (sources (now (a .parent)) (now (a .staged)) (a .staged-count) (now (a .table)) (a .table-count)) (l .n) (a .spills) (l .u) (l .s) (c .loop-test .left))
 

@@ -39,11 +39,11 @@ count-spent-requires c κs = search needs
 usize-from-i32-requires : tie.Need-usize-from-i32-requires
 usize-from-i32-requires c κs = sym (c .before .before .is-negative-i32 .ensures) ∙ c .before .if2 .left
 
-sub-count-rows : tie.Need-sub-count-rows
-sub-count-rows c = search needs
+sub-count-spills : tie.Need-sub-count-spills
+sub-count-spills c = search needs
 
-count-rows-requires : tie.Need-count-rows-requires
-count-rows-requires c κs =
+count-spills-requires : tie.Need-count-spills-requires
+count-spills-requires c κs =
     let s = c .before .before .before .before .before .before .before .before .before in
     let a = s .args in
     let e = back w32 (a .counts .spills) (search needs) in
@@ -54,6 +54,7 @@ count-rows-requires c κs =
       spills-below (a .counts .spills) n (search needs) _ (c .usize-from-i32 .ensures ∙ ap natAbs e),
       omega (arith, s .pre .few),
       omega (arith, s .pre .few, k),
+      s .pre .apart,
     )
 
 returns-3 : tie.Need-returns-3
@@ -64,7 +65,7 @@ returns-3 c =
     let q = c .before .before .count-spent .ensures in
     let t = length-take-le (a .counts .len) (now (a .head)) (omega (arith, s .pre .few, s .pre .long)) in
     tally-on (sources (now (a .parent)) (now (a .staged)) (a .staged-counts .count) (now (a .table)) (a .table-counts .count)) (a .counts .spills) (take (a .counts .len) (now (a .head))) (sym (c .before .before .before .before .before .before .order-ok .ensures) ∙ not-false _ (c .before .before .before .before .before .if1 .left)) (ap is-negative (sym e) ∙ sym (c .before .before .before .before .is-negative-i32 .ensures) ∙ c .before .before .before .if2 .left)
-    _ _ _ (c .before .usize-from-i32 .ensures ∙ ap natAbs e) (omega (arith, q .0, q .1, t, both-counts (take (a .counts .len) (now (a .head))))) (q .0) _ (c .count-rows .ensures)
+    _ _ _ (c .before .usize-from-i32 .ensures ∙ ap natAbs e) (omega (arith, q .0, q .1, t, both-counts (take (a .counts .len) (now (a .head))))) (q .0) _ (c .count-spills .ensures)
 
 pub tally-spec : {M : Type 1} → statement M
 tally-spec =
@@ -76,6 +77,6 @@ tally-spec =
     returns-2
     count-spent-requires
     usize-from-i32-requires
-    sub-count-rows
-    count-rows-requires
+    sub-count-spills
+    count-spills-requires
     returns-3)

@@ -1,10 +1,10 @@
--- `flip_core::look_in` meets its contract: the last number, then the entry to take, then the first number decide.
+-- `flip_core::rows::look_in` meets its contract: the last number, then the entry to take, then the first number decide.
 use denote.Ref.{now}
 use Rattle.signed.proofs.SignedLaws.{back64}
 use Rattle.flip_core.proofs.RowLaws.{look-below, look-take, look-seen, look-absent}
 use borrow.Author.Needs.{needs}
-use Rattle.flip_core.proofs.look_in.Statement.{statement}
-use Rattle.flip_core.proofs.look_in.Tie as tie
+use Rattle.flip_core.proofs.rows.look_in.Statement.{statement}
+use Rattle.flip_core.proofs.rows.look_in.Tie as tie
 
 shared-slice-copy-out-magnitude : tie.Need-shared-slice-copy-out-magnitude
 shared-slice-copy-out-magnitude c = search needs

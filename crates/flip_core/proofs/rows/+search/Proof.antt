@@ -1,4 +1,4 @@
--- `flip_core::search` meets its contract: each call halves what is left between low and high, and the middle row says which half.
+-- `flip_core::rows::search` meets its contract: each call halves what is left between low and high, and the middle row says which half.
 use denote.Ref.{now}
 use borrow.Author.Needs.{needs}
 use native.Mathlib.Omega.{arith}
@@ -9,21 +9,21 @@ use Rattle.flip_core.proofs.SearchLaws.{middle-below, falls-up, falls-d
 use Prim.Native.Nat.{ℕ, _<_, _-_}
 use borrow.Fn.Kinds.{In}
 use borrow.Fn.PlainCycle.{Measures, is, falls, and}
-use Rattle.flip_core.proofs.search.Reads as search′
-use Rattle.flip_core.proofs.search.Kinds as search-kinds
-use Rattle.flip_core.proofs.+search.Lts-search as search-lts
-use Rattle.flip_core.proofs.lead_of.Reads as lead-of-reads
-use Rattle.flip_core.proofs.+search.{statement}
-use Rattle.flip_core.proofs.+search.Tie.{close}
+use Rattle.flip_core.proofs.rows.search.Reads as search′
+use Rattle.flip_core.proofs.rows.search.Kinds as search-kinds
+use Rattle.flip_core.proofs.rows.+search.Lts-search as search-lts
+use Rattle.flip_core.proofs.rows.lead_of.Reads as lead-of-reads
+use Rattle.flip_core.proofs.rows.+search.{statement}
+use Rattle.flip_core.proofs.rows.+search.Tie.{close}
 
-abbrev μ-search : Measures 2 search-kinds.ps ℕ
-μ-search κs a = a .1 .1 .1 .1 .1 .1 .1 .0 - a .1 .1 .1 .1 .1 .1 .0
+abbrev μ-search : Measures 3 search-kinds.ps ℕ
+μ-search κs a = a .1 .1 .1 .1 .1 .1 .1 .1 .0 - a .1 .1 .1 .1 .1 .1 .1 .0
 
-abbrev search-at : ℕ → In 2 search-kinds.ps
-search-at t = and 2 search-kinds.ps (is 2 search-kinds.ps μ-search t) search′.Pre
+abbrev search-at : ℕ → In 3 search-kinds.ps
+search-at t = and 3 search-kinds.ps (is 3 search-kinds.ps μ-search t) search′.Pre
 
-abbrev search-below : ℕ → In 2 search-kinds.ps
-search-below t = and 2 search-kinds.ps (falls 2 search-kinds.ps _<_ μ-search t) search′.Pre
+abbrev search-below : ℕ → In 3 search-kinds.ps
+search-below t = and 3 search-kinds.ps (falls 3 search-kinds.ps _<_ μ-search t) search′.Pre
 
 search-sub-middle : (t : ℕ) → search-lts.Need-sub-middle (
   lead-of-reads.Asked,
@@ -39,7 +39,7 @@ search-add-middle : (t : ℕ) → search-lts.Need-add-middle (
   search-below t,
   search′.Post,
 ) (search-at t) search′.Post
-search-add-middle t c = omega (arith, middle-below (c .before .before .before .args .low) (c .before .before .before .args .high) (c .if1 .taken))
+search-add-middle t c = omega (arith, middle-below (c .before .before .before .before .args .low) (c .before .before .before .before .args .high) (c .if1 .taken))
 
 search-lead-of-requires : (t : ℕ) → search-lts.Need-lead-of-requires (
   lead-of-reads.Asked,
@@ -47,7 +47,7 @@ search-lead-of-requires : (t : ℕ) → search-lts.Need-lead-of-requires (
   search-below t,
   search′.Post,
 ) (search-at t) search′.Post
-search-lead-of-requires t c κs = (c .before .before .before .pre .1 .0, c .before .before .before .pre .1 .1, omega (arith, middle-below (c .before .before .before .args .low) (c .before .before .before .args .high) (c .if1 .taken)))
+search-lead-of-requires t c κs = (c .before .before .before .before .pre .1 .0, c .before .before .before .before .pre .1 .1, omega (arith, middle-below (c .before .before .before .before .args .low) (c .before .before .before .before .args .high) (c .if1 .taken)), c .before .before .before .before .pre .1 .3)
 
 search-enum-known-lead : (t : ℕ) → search-lts.Need-enum-known-lead (
   lead-of-reads.Asked,
@@ -63,7 +63,7 @@ search-add-search : (t : ℕ) → search-lts.Need-add-search (
   search-below t,
   search′.Post,
 ) (search-at t) search′.Post
-search-add-search t c = omega (arith, middle-below (c .before .before .before .before .before .before .before .before .args .low) (c .before .before .before .before .before .before .before .before .args .high) (c .before .before .before .before .before .if1 .taken))
+search-add-search t c = omega (arith, middle-below (c .before .before .before .before .before .before .before .before .before .args .low) (c .before .before .before .before .before .before .before .before .before .args .high) (c .before .before .before .before .before .if1 .taken))
 
 search-search-requires : (t : ℕ) → search-lts.Need-search-requires (
   lead-of-reads.Asked,
@@ -71,7 +71,7 @@ search-search-requires : (t : ℕ) → search-lts.Need-search-requires (
   search-below t,
   search′.Post,
 ) (search-at t) search′.Post
-search-search-requires t c κs = (falls-up (c .before .before .before .before .before .before .before .before .args .low) (c .before .before .before .before .before .before .before .before .args .high) t (c .before .before .before .before .before .before .before .before .pre .0) (c .before .before .before .before .before .if1 .taken), c .before .before .before .before .before .before .before .before .pre .1)
+search-search-requires t c κs = (falls-up (c .before .before .before .before .before .before .before .before .before .args .low) (c .before .before .before .before .before .before .before .before .before .args .high) t (c .before .before .before .before .before .before .before .before .before .pre .0) (c .before .before .before .before .before .if1 .taken), c .before .before .before .before .before .before .before .before .before .pre .1)
 
 search-search-requires-2 : (t : ℕ) → search-lts.Need-search-requires-2 (
   lead-of-reads.Asked,
@@ -79,7 +79,7 @@ search-search-requires-2 : (t : ℕ) → search-lts.Need-search-requires-2 (
   search-below t,
   search′.Post,
 ) (search-at t) search′.Post
-search-search-requires-2 t c κs = (falls-down (c .before .before .before .before .before .before .before .before .args .low) (c .before .before .before .before .before .before .before .before .args .high) t (c .before .before .before .before .before .before .before .before .pre .0) (c .before .before .before .before .before .if1 .taken), (c .before .before .before .before .before .before .before .before .pre .1 .0, c .before .before .before .before .before .before .before .before .pre .1 .1, omega (arith, middle-below (c .before .before .before .before .before .before .before .before .args .low) (c .before .before .before .before .before .before .before .before .args .high) (c .before .before .before .before .before .if1 .taken))))
+search-search-requires-2 t c κs = (falls-down (c .before .before .before .before .before .before .before .before .before .args .low) (c .before .before .before .before .before .before .before .before .before .args .high) t (c .before .before .before .before .before .before .before .before .before .pre .0) (c .before .before .before .before .before .if1 .taken), (c .before .before .before .before .before .before .before .before .before .pre .1 .0, c .before .before .before .before .before .before .before .before .before .pre .1 .1, omega (arith, middle-below (c .before .before .before .before .before .before .before .before .before .args .low) (c .before .before .before .before .before .before .before .before .before .args .high) (c .before .before .before .before .before .if1 .taken)), c .before .before .before .before .before .before .before .before .before .pre .1 .3))
 
 search-enum-known-lead-2 : (t : ℕ) → search-lts.Need-enum-known-lead-2 (
   lead-of-reads.Asked,
@@ -96,7 +96,7 @@ search-returns : (t : ℕ) → search-lts.Need-returns (
   search′.Post,
 ) (search-at t) search′.Post
 search-returns t c =
-    let a = c .before .before .before .before .before .before .before .before .before .args in
+    let a = c .before .before .before .before .before .before .before .before .before .before .args in
     let w = sources (now (a .parent)) (now (a .staged)) (a .staged-count) (now (a .table)) (a .table-count) in
     search-up (lead-at edition-1 w) (a .target) (a .low) (a .high) (c .before .before .before .before .before .before .if1 .taken) _ (c .before .before .before .before .before .lead-of .ensures) _ _ (c .before .before .before .lead .given .1) (c .before .if2 .taken) (c .search .ensures)
 
@@ -107,7 +107,7 @@ search-returns-2 : (t : ℕ) → search-lts.Need-returns-2 (
   search′.Post,
 ) (search-at t) search′.Post
 search-returns-2 t c =
-    let a = c .before .before .before .before .before .before .before .before .before .args in
+    let a = c .before .before .before .before .before .before .before .before .before .before .args in
     let w = sources (now (a .parent)) (now (a .staged)) (a .staged-count) (now (a .table)) (a .table-count) in
     search-down (lead-at edition-1 w) (a .target) (a .low) (a .high) (c .before .before .before .before .before .before .if1 .taken) _ (c .before .before .before .before .before .lead-of .ensures) _ _ (c .before .before .before .lead .given .1) (c .before .if2 .left) (c .search2 .ensures)
 
@@ -118,7 +118,7 @@ search-returns-3 : (t : ℕ) → search-lts.Need-returns-3 (
   search′.Post,
 ) (search-at t) search′.Post
 search-returns-3 t c =
-    let a = c .before .before .before .before .before .before .before .args in
+    let a = c .before .before .before .before .before .before .before .before .args in
     let w = sources (now (a .parent)) (now (a .staged)) (a .staged-count) (now (a .table)) (a .table-count) in
     search-bad (lead-at edition-1 w) (a .target) (a .low) (a .high) (c .before .before .before .before .if1 .taken) _ (c .before .before .before .lead-of .ensures) _ (c .before .lead2 .given .1)
 
@@ -129,7 +129,7 @@ search-returns-4 : (t : ℕ) → search-lts.Need-returns-4 (
   search′.Post,
 ) (search-at t) search′.Post
 search-returns-4 t c =
-    let a = c .before .before .before .args in
+    let a = c .before .before .before .before .args in
     let w = sources (now (a .parent)) (now (a .staged)) (a .staged-count) (now (a .table)) (a .table-count) in
     search-end (lead-at edition-1 w) (a .target) (a .low) (a .high) (c .if1 .left)
 

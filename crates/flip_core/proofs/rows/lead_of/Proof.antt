@@ -1,9 +1,9 @@
--- `flip_core::lead_of` meets its contract: the first number of a row that passes the checks.
+-- `flip_core::rows::lead_of` meets its contract: the first number of a row that passes the checks.
 use Rattle.signed.proofs.SignedLaws.{back64}
 use Rattle.flip_core.proofs.RowLaws.{lead-good, lead-bad}
 use borrow.Author.Needs.{needs}
-use Rattle.flip_core.proofs.lead_of.Statement.{statement}
-use Rattle.flip_core.proofs.lead_of.Tie as tie
+use Rattle.flip_core.proofs.rows.lead_of.Statement.{statement}
+use Rattle.flip_core.proofs.rows.lead_of.Tie as tie
 
 slice-aggregate-read-checked : tie.Need-slice-aggregate-read-checked
 slice-aggregate-read-checked c = search needs

@@ -1,7 +1,7 @@
--- `flip_core::look_past` meets its contract: one test.
+-- `flip_core::rows::look_past` meets its contract: one test.
 use Rattle.flip_core.proofs.RowLaws.{past-stop, past-next}
-use Rattle.flip_core.proofs.look_past.Statement.{statement}
-use Rattle.flip_core.proofs.look_past.Tie as tie
+use Rattle.flip_core.proofs.rows.look_past.Statement.{statement}
+use Rattle.flip_core.proofs.rows.look_past.Tie as tie
 
 returns : tie.Need-returns
 returns c =

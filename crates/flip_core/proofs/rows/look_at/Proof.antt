@@ -1,8 +1,8 @@
--- `flip_core::look_at` meets its contract: what the numbers show of a row that passes the checks.
+-- `flip_core::rows::look_at` meets its contract: what the numbers show of a row that passes the checks.
 use Rattle.flip_core.proofs.RowLaws.{look-good, look-bad}
 use borrow.Author.Needs.{needs}
-use Rattle.flip_core.proofs.look_at.Statement.{statement}
-use Rattle.flip_core.proofs.look_at.Tie as tie
+use Rattle.flip_core.proofs.rows.look_at.Statement.{statement}
+use Rattle.flip_core.proofs.rows.look_at.Tie as tie
 
 slice-aggregate-read-checked : tie.Need-slice-aggregate-read-checked
 slice-aggregate-read-checked c = search needs

@@ -1,0 +1,166 @@
+// Hints of where the table's records stand (`records::hints`) while calls are made: noted before the first call, and anew after a flush.
+ghost use mathlib.Core.Path.{_≡_};
+ghost use mathlib.Core.Bool.{true};
+ghost use Prim.Native.Nat.{_+_};
+ghost use lib.ListN.{length};
+ghost use Rattle.buffer_core.specs.Edition.{edition-1};
+ghost use Rattle.buffer_core.specs.Pop.{lists-ok};
+ghost use Rattle.call_steps.specs.State.{Ready, state};
+ghost use Rattle.call_steps.specs.Steps.{lists-with, flush-step, flush-by};
+ghost use Rattle.runner.specs.Run.{run, start, runs};
+use super::Progress;
+use call_steps::SpillCounts;
+use call_steps::Stepped;
+
+fn note_table(counts: SpillCounts, table: &[u8], hints: &mut [u16]) {
+    let held = counts.table;
+    let count = held.count;
+    if table.len() / buffer_core::RECORD < count {
+        return;
+    }
+    records::hints::note_places(table, buffer_core::RECORD, count, hints);
+}
+
+// A flush, and where the records of the table then stand.
+pub fn flush_noted(
+    table: &mut [u8],
+    staged: &mut [u8],
+    deleted: &mut [u8],
+    hints: &mut [u16],
+    counts: SpillCounts,
+) -> Stepped
+    requires { ⌜ lists-ok edition-1 (lists-with counts (now staged) (now table) (now deleted)) ≡ true ⌝ }
+    ensures { λ r. ⌜ flush-step r (now (table .exit)) (now (staged .exit)) (now (deleted .exit))
+        ≡ flush-by edition-1 (lists-with counts (now (staged .entry)) (now (table .entry)) (now (deleted .entry))) ⌝ }
+{
+    let s = call_steps::flush_step(table, staged, deleted, counts);
+    let after = s.counts;
+    note_table(after, table, hints);
+    s
+}
+
+// run_ready without hints, for a table of few records.
+fn run_few(
+    input: &[u8],
+    parents: usize,
+    ids: &mut [u8],
+    numbers: &mut [i64],
+    lengths: &mut [usize],
+    spills: &mut [i32],
+    staged: &mut [u8],
+    table: &mut [u8],
+    deleted: &mut [u8],
+    answers: &mut [u8],
+    popped: &mut [i64],
+    counts: SpillCounts,
+) -> Progress
+    requires { ⌜ Ready parents (state (now ids) (now numbers) (now lengths) (now spills) (lists-with counts (now staged) (now table) (now deleted))) ⌝ }
+    ensures { λ r. ⌜ run r (now (ids .exit)) (now (numbers .exit)) (now (lengths .exit)) (now (spills .exit)) (now (staged .exit)) (now (table .exit)) (now (deleted .exit)) (now (answers .exit)) (now (popped .exit))
+        ≡ runs edition-1 parents (now (input .entry)) (length (now (input .entry)) + 1) (start (state (now (ids .entry)) (now (numbers .entry)) (now (lengths .entry)) (now (spills .entry)) (lists-with counts (now (staged .entry)) (now (table .entry)) (now (deleted .entry)))) (now (answers .entry)) (now (popped .entry))) ⌝ }
+{
+    let mut none = [0u16; 1];
+    super::run_ready(
+        input,
+        parents,
+        ids,
+        numbers,
+        lengths,
+        spills,
+        staged,
+        table,
+        deleted,
+        answers,
+        popped,
+        &mut none[..0],
+        counts,
+    )
+}
+
+// run_ready with hints, for a table of many records.
+fn run_many(
+    input: &[u8],
+    parents: usize,
+    ids: &mut [u8],
+    numbers: &mut [i64],
+    lengths: &mut [usize],
+    spills: &mut [i32],
+    staged: &mut [u8],
+    table: &mut [u8],
+    deleted: &mut [u8],
+    answers: &mut [u8],
+    popped: &mut [i64],
+    counts: SpillCounts,
+) -> Progress
+    requires { ⌜ Ready parents (state (now ids) (now numbers) (now lengths) (now spills) (lists-with counts (now staged) (now table) (now deleted))) ⌝ }
+    ensures { λ r. ⌜ run r (now (ids .exit)) (now (numbers .exit)) (now (lengths .exit)) (now (spills .exit)) (now (staged .exit)) (now (table .exit)) (now (deleted .exit)) (now (answers .exit)) (now (popped .exit))
+        ≡ runs edition-1 parents (now (input .entry)) (length (now (input .entry)) + 1) (start (state (now (ids .entry)) (now (numbers .entry)) (now (lengths .entry)) (now (spills .entry)) (lists-with counts (now (staged .entry)) (now (table .entry)) (now (deleted .entry)))) (now (answers .entry)) (now (popped .entry))) ⌝ }
+{
+    let mut hints = [0u16; 65536];
+    note_table(counts, table, &mut hints);
+    super::run_ready(
+        input,
+        parents,
+        ids,
+        numbers,
+        lengths,
+        spills,
+        staged,
+        table,
+        deleted,
+        answers,
+        popped,
+        &mut hints,
+        counts,
+    )
+}
+
+pub fn run_noted(
+    input: &[u8],
+    parents: usize,
+    ids: &mut [u8],
+    numbers: &mut [i64],
+    lengths: &mut [usize],
+    spills: &mut [i32],
+    staged: &mut [u8],
+    table: &mut [u8],
+    deleted: &mut [u8],
+    answers: &mut [u8],
+    popped: &mut [i64],
+    counts: SpillCounts,
+) -> Progress
+    requires { ⌜ Ready parents (state (now ids) (now numbers) (now lengths) (now spills) (lists-with counts (now staged) (now table) (now deleted))) ⌝ }
+    ensures { λ r. ⌜ run r (now (ids .exit)) (now (numbers .exit)) (now (lengths .exit)) (now (spills .exit)) (now (staged .exit)) (now (table .exit)) (now (deleted .exit)) (now (answers .exit)) (now (popped .exit))
+        ≡ runs edition-1 parents (now (input .entry)) (length (now (input .entry)) + 1) (start (state (now (ids .entry)) (now (numbers .entry)) (now (lengths .entry)) (now (spills .entry)) (lists-with counts (now (staged .entry)) (now (table .entry)) (now (deleted .entry)))) (now (answers .entry)) (now (popped .entry))) ⌝ }
+{
+    let held = counts.table;
+    if held.count <= 128 {
+        return run_few(
+            input,
+            parents,
+            ids,
+            numbers,
+            lengths,
+            spills,
+            staged,
+            table,
+            deleted,
+            answers,
+            popped,
+            counts,
+        );
+    }
+    run_many(
+        input,
+        parents,
+        ids,
+        numbers,
+        lengths,
+        spills,
+        staged,
+        table,
+        deleted,
+        answers,
+        popped,
+        counts,
+    )
+}
