@@ -66,6 +66,19 @@ module _ (r : SpillRead) (out : List ℤ) (long : length out ≡ 512) (n : ℕ) 
       record { answer = rw g; numbers = λ q. g ∙ ap good (sym (s .1 ∙ padded-full zs l)) }
   checked-good (bad c) s f = nope (cc)
 
+-- a row that passed is in order
+pub checked-ordered : (x : RowRead) (r : Read) (out : List ℤ) → CheckedInto (check-row x) r out → r ≡ Good → length out ≡ 512 → order-ok (take 512 out) ≡ true
+checked-ordered x r out s e n = ap order-ok (take-all 512 out (omega arith)) ∙ by-row x (s .numbers e)
+  where
+    by-row : (x : RowRead) → check-row x ≡ good out → order-ok out ≡ true
+    by-row (bad c) q = nope (cc)
+    by-row (good zs) q = by-tests (eqb (length zs) 512) (order-ok zs) refl refl q
+      where
+        by-tests : (a b : Bool) → eqb (length zs) 512 ≡ a → order-ok zs ≡ b → check-row (good zs) ≡ good out → order-ok out ≡ true
+        by-tests true true f g q = let d : zs ≡ out = cc (rw (f, g) at q) in ap order-ok (sym d) ∙ g
+        by-tests true false f g q = nope (cc (rw (f, g) at q))
+        by-tests false b f g q = nope (cc (rw f at q))
+
 -- ---- the first of a row, and what a row shows; x is the checked row
 
 pub faulty : (x : RowRead) (r : Read) (out : List ℤ) → CheckedInto x r out → (code : ℕ) → r ≡ Faulty code → x ≡ bad code

@@ -1,8 +1,10 @@
 // Spend and unspend, once refusal 25 is tested: one core with the direction as a parameter. The hints say where the table's records may stand (`records::hints`).
 ghost use mathlib.Core.Path.{_≡_};
+ghost use mathlib.Core.Bool.{true};
 ghost use Prim.Native.Nat.{_+_, _*_, _≤_, _<_};
 ghost use lib.ListN.{length, take};
 ghost use Rattle.records.specs.Find.{row-at};
+ghost use Rattle.entries.specs.Order.{order-ok};
 ghost use Rattle.segment_core.specs.Reading.{row-of};
 ghost use Rattle.buffer_core.specs.Edition.{edition-1, numbers-of};
 ghost use Rattle.buffer_core.specs.Spills.{sources, spill-read};
@@ -173,7 +175,7 @@ fn flip_rows(
     }
 }
 
-// The head first, then the rows.
+// The head first, which is in order, then the rows.
 fn flip_in_order(
     parent: &[u8; 32],
     target: u64,
@@ -187,7 +189,8 @@ fn flip_in_order(
     hints: &[u16],
     head: &mut [i64],
 ) -> Flipped
-    requires { ⌜ RowsReady «staged_counts» (now staged) «table_count» (now table) × (spills < 2147483648) × (target < 9223372036854775808) × (len ≤ length (now head)) ⌝ }
+    requires { ⌜ RowsReady «staged_counts» (now staged) «table_count» (now table) × (spills < 2147483648) × (target < 9223372036854775808) × (len ≤ length (now head))
+        × (order-ok (take len (now head)) ≡ true) ⌝ }
     ensures { λ r. ⌜ flipping r (now (head .exit)) (now (staged .exit))
         ≡ done-by edition-1 (in-order edition-1 (sources (now (parent .entry)) (now (staged .entry)) («staged_counts» .count) (now (table .entry)) «table_count») («staged_counts» .capacity) target spend spills (take len (now (head .entry)))) «staged_counts» (now (head .entry)) (now (staged .entry)) ⌝ }
 {

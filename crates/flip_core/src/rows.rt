@@ -4,9 +4,10 @@ ghost use mathlib.Core.Path.{_≡_};
 ghost use mathlib.Core.Bool.{true, _||_};
 ghost use Prim.Native.Nat.{_*_, _≤_, _<_};
 ghost use lib.Dec.{ltb};
-ghost use lib.ListN.{length};
+ghost use lib.ListN.{length, take};
 ghost use Rattle.records.specs.Records.{keys};
 ghost use Rattle.records.specs.Find.{distinct};
+ghost use Rattle.entries.specs.Order.{order-ok};
 ghost use Rattle.buffer_core.specs.Edition.{edition-1};
 ghost use Rattle.buffer_core.specs.Spills.{sources};
 ghost use Rattle.buffer_core.specs.Flip.{row-checked, lead-at, search-in, look-past, look-in, look-at, walk-from};
@@ -172,9 +173,9 @@ fn look_past(first: u64, target: u64, seen: bool) -> Look
     }
 }
 
-// What the numbers of a row show.
+// What the numbers of a row show, which are in order.
 fn look_in(row: &[i64], target: u64, spend: bool) -> Look
-    requires { ⌜ length (now row) ≡ 512 ⌝ }
+    requires { ⌜ (length (now row) ≡ 512) × (order-ok (take 512 (now row)) ≡ true) ⌝ }
     ensures { λ r. ⌜ r ≡ look-in (now (row .entry)) target spend ⌝ }
 {
     if signed::magnitude(row[511]) < target {

@@ -62,7 +62,7 @@ flip-in-order-requires c κs =
     let a = s .args in
     let e = back w32 (a .counts .spills) (search needs) in
     let n = ap is-negative (sym e) ∙ sym (c .before .before .before .before .before .is-negative-i32 .ensures) ∙ c .before .before .before .before .if3 .left in
-    (record { bounds = s .pre .bounds; within = s .pre .table-bounds .within; apart = s .pre .apart }, spills-below (a .counts .spills) n (search needs) _ (c .before .before .usize-from-i32 .ensures ∙ ap natAbs e), c .before .before .before .before .before .before .before .before .before .if1 .left, omega (arith, s .pre .few, s .pre .long))
+    (record { bounds = s .pre .bounds; within = s .pre .table-bounds .within; apart = s .pre .apart }, spills-below (a .counts .spills) n (search needs) _ (c .before .before .usize-from-i32 .ensures ∙ ap natAbs e), c .before .before .before .before .before .before .before .before .before .if1 .left, omega (arith, s .pre .few, s .pre .long), sym (c .before .before .before .before .before .before .before .order-ok .ensures) ∙ not-false _ (c .before .before .before .before .before .before .if2 .left))
 
 same-length-3 : tie.Need-same-length-3
 same-length-3 c = search needs

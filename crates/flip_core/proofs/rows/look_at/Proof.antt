@@ -1,6 +1,10 @@
 -- `flip_core::rows::look_at` meets its contract: what the numbers show of a row that passes the checks.
-use Rattle.flip_core.proofs.RowLaws.{look-good, look-bad}
+use Rattle.flip_core.proofs.RowLaws.{look-good, look-bad, checked-ordered}
 use borrow.Author.Needs.{needs}
+use denote.Ref.{now}
+use Rattle.segment_id.specs.declared.Kind.the-variants as Kind
+use Rattle.buffer_core.specs.Edition.{edition-1}
+use Rattle.buffer_core.specs.Spills.{sources, spill-read}
 use Rattle.flip_core.proofs.rows.look_at.Statement.{statement}
 use Rattle.flip_core.proofs.rows.look_at.Tie as tie
 
@@ -17,7 +21,10 @@ slice-aggregate-look-in : tie.Need-slice-aggregate-look-in
 slice-aggregate-look-in c = search needs
 
 look-in-requires : tie.Need-look-in-requires
-look-in-requires c κs = search needs
+look-in-requires c κs =
+    let a = c .before .before .before .before .before .before .before .before .before .args in
+    let w = sources (now (a .parent)) (now (a .staged)) (a .staged-count) (now (a .table)) (a .table-count) in
+    (search needs, checked-ordered (spill-read edition-1 Kind.Box w (a .number)) _ _ (c .before .before .before .before .read-checked .ensures) (c .before .enum-told .given .1) (search needs))
 
 enum-known-read : tie.Need-enum-known-read
 enum-known-read c = search needs

@@ -14,7 +14,7 @@ magnitude-requires c κs = search needs
 
 returns : tie.Need-returns
 returns c =
-    look-below (now (c .before .before .before .args .row)) (c .before .before .before .args .target) (c .before .before .before .args .spend) (c .before .before .before .pre) _ _ (back64 _ (c .before .before .magnitude-arg .given)) (c .before .magnitude .ensures) (c .if1 .taken)
+    look-below (now (c .before .before .before .args .row)) (c .before .before .before .args .target) (c .before .before .before .args .spend) (c .before .before .before .pre .0) _ _ (back64 _ (c .before .before .magnitude-arg .given)) (c .before .magnitude .ensures) (c .if1 .taken)
 
 shared-slice-copy-out-magnitude-2 : tie.Need-shared-slice-copy-out-magnitude-2
 shared-slice-copy-out-magnitude-2 c = search needs
@@ -42,15 +42,15 @@ look-past-requires-2 c κs = search needs
 
 returns-2 : tie.Need-returns-2
 returns-2 c =
-    look-take (now (c .before .before .before .before .before .before .before .before .before .args .row)) (c .before .before .before .before .before .before .before .before .before .args .target) (c .before .before .before .before .before .before .before .before .before .args .spend) (c .before .before .before .before .before .before .before .before .before .pre) _ _ (back64 _ (c .before .before .before .before .before .before .before .before .magnitude-arg .given)) (c .before .before .before .before .before .before .before .magnitude .ensures) (c .before .before .before .before .before .before .if1 .left) _ (c .before .before .before .flip-position .ensures) _ (c .before .position .given .1)
+    look-take (now (c .before .before .before .before .before .before .before .before .before .args .row)) (c .before .before .before .before .before .before .before .before .before .args .target) (c .before .before .before .before .before .before .before .before .before .args .spend) (c .before .before .before .before .before .before .before .before .before .pre .0) _ _ (back64 _ (c .before .before .before .before .before .before .before .before .magnitude-arg .given)) (c .before .before .before .before .before .before .before .magnitude .ensures) (c .before .before .before .before .before .before .if1 .left) _ (c .before .before .before .flip-position .ensures) _ (c .before .position .given .1)
 
 returns-3 : tie.Need-returns-3
 returns-3 c =
-    look-seen (now (c .before .before .before .before .before .before .before .before .before .args .row)) (c .before .before .before .before .before .before .before .before .before .args .target) (c .before .before .before .before .before .before .before .before .before .args .spend) (c .before .before .before .before .before .before .before .before .before .pre) _ _ (back64 _ (c .before .before .before .before .before .before .before .before .magnitude-arg .given)) (c .before .before .before .before .before .before .before .magnitude .ensures) (c .before .before .before .before .before .before .if1 .left) _ (c .before .before .before .flip-position .ensures) _ _ _ (back64 _ (c .before .before .before .before .before .magnitude-arg2 .given)) (c .before .before .before .before .magnitude2 .ensures) (c .before .enum-told .given .1) (c .look-past .ensures)
+    look-seen (now (c .before .before .before .before .before .before .before .before .before .args .row)) (c .before .before .before .before .before .before .before .before .before .args .target) (c .before .before .before .before .before .before .before .before .before .args .spend) (c .before .before .before .before .before .before .before .before .before .pre .0) _ _ (back64 _ (c .before .before .before .before .before .before .before .before .magnitude-arg .given)) (c .before .before .before .before .before .before .before .magnitude .ensures) (c .before .before .before .before .before .before .if1 .left) _ (c .before .before .before .flip-position .ensures) _ _ _ (back64 _ (c .before .before .before .before .before .magnitude-arg2 .given)) (c .before .before .before .before .magnitude2 .ensures) (c .before .enum-told .given .1) (c .look-past .ensures)
 
 returns-4 : tie.Need-returns-4
 returns-4 c =
-    look-absent (now (c .before .before .before .before .before .before .before .before .before .args .row)) (c .before .before .before .before .before .before .before .before .before .args .target) (c .before .before .before .before .before .before .before .before .before .args .spend) (c .before .before .before .before .before .before .before .before .before .pre) _ _ (back64 _ (c .before .before .before .before .before .before .before .before .magnitude-arg .given)) (c .before .before .before .before .before .before .before .magnitude .ensures) (c .before .before .before .before .before .before .if1 .left) _ (c .before .before .before .flip-position .ensures) _ _ _ (back64 _ (c .before .before .before .before .before .magnitude-arg2 .given)) (c .before .before .before .before .magnitude2 .ensures) (c .before .enum-told2 .given .1) (c .look-past2 .ensures)
+    look-absent (now (c .before .before .before .before .before .before .before .before .before .args .row)) (c .before .before .before .before .before .before .before .before .before .args .target) (c .before .before .before .before .before .before .before .before .before .args .spend) (c .before .before .before .before .before .before .before .before .before .pre .0) _ _ (back64 _ (c .before .before .before .before .before .before .before .before .magnitude-arg .given)) (c .before .before .before .before .before .before .before .magnitude .ensures) (c .before .before .before .before .before .before .if1 .left) _ (c .before .before .before .flip-position .ensures) _ _ _ (back64 _ (c .before .before .before .before .before .magnitude-arg2 .given)) (c .before .before .before .before .magnitude2 .ensures) (c .before .enum-told2 .given .1) (c .look-past2 .ensures)
 
 pub look-in-spec : {M : Type 1} → statement M
 look-in-spec =
