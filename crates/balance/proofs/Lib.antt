@@ -3,3 +3,5 @@ pub mod IdLaws
 pub mod TokenLaws
 pub mod RunLaws
 pub mod BoxLaws
+pub mod CloseLaws
+pub mod PassLaws

@@ -10,6 +10,8 @@ ghost use Rattle.balance.specs.Boxes.{buffers-ok, nanos-after, change-bo
 use refusal::Answer;
 use signed::Checked;
 
+pub mod parts;
+
 // The id at place i is `ids[32 * i..32 * i + 32]`, its amount `amounts[i]`; the first `count` places are in use.
 pub struct Balance {
     pub ids: [u8; 4096],
@@ -74,7 +76,7 @@ fn put_id(table: &mut [u8], i: usize, ids: &[u8], j: usize)
     stores::copy_bytes(table, i * 32, &ids[q..e]);
 }
 
-// Adds a token: its amount to the place that holds its id, or a new last place.
+// Adds a token: its amount to `at`, the place that holds its id, or a new last place.
 fn add_token(
     table: &mut [u8],
     sums: &mut [i64],
@@ -82,11 +84,11 @@ fn add_token(
     ids: &[u8],
     j: usize,
     amount: i64,
+    at: usize,
 ) -> Counted
-    requires { ⌜ (length (now table) ≡ 4096) × (length (now sums) ≡ 128) × (count ≤ 128) × (j * 32 + 32 ≤ length (now ids)) ⌝ }
+    requires { ⌜ (length (now table) ≡ 4096) × (length (now sums) ≡ 128) × (count ≤ 128) × (j * 32 + 32 ≤ length (now ids)) × (at ≡ place-of (id-at (now ids) j) (now table) count) ⌝ }
     ensures { λ r. ⌜ left-in r (now (table .exit)) (now (sums .exit)) ≡ add-token (record { ids = now (table .entry); amounts = now (sums .entry); count = count }) (id-at (now (ids .entry)) j) amount ⌝ }
 {
-    let at = find(table, count, ids, j);
     if at < count {
         let old = sums[at];
         match signed::checked_add(old, amount) {
@@ -125,7 +127,7 @@ fn close_amounts(sums: &mut [i64], at: usize, count: usize)
     stores::clear_numbers(sums, last, 1);
 }
 
-// Subtracts a token, which is dropped at 0 or below; an unknown id is ignored.
+// Subtracts a token at `at`, the place that holds its id, which is dropped at 0 or below; an unknown id is ignored.
 fn subtract_token(
     table: &mut [u8],
     sums: &mut [i64],
@@ -133,11 +135,11 @@ fn subtract_token(
     ids: &[u8],
     j: usize,
     amount: i64,
+    at: usize,
 ) -> Counted
-    requires { ⌜ (length (now table) ≡ 4096) × (length (now sums) ≡ 128) × (count ≤ 128) × (j * 32 + 32 ≤ length (now ids)) ⌝ }
+    requires { ⌜ (length (now table) ≡ 4096) × (length (now sums) ≡ 128) × (count ≤ 128) × (j * 32 + 32 ≤ length (now ids)) × (at ≡ place-of (id-at (now ids) j) (now table) count) ⌝ }
     ensures { λ r. ⌜ left-in r (now (table .exit)) (now (sums .exit)) ≡ subtract-token (record { ids = now (table .entry); amounts = now (sums .entry); count = count }) (id-at (now (ids .entry)) j) amount ⌝ }
 {
-    let at = find(table, count, ids, j);
     if at < count {
         let old = sums[at];
         match signed::checked_sub(old, amount) {
@@ -156,7 +158,7 @@ fn subtract_token(
     Counted::Count(count)
 }
 
-// Adds or subtracts a token.
+// Finds a token's place, and adds or subtracts it there.
 fn change_token(
     adding: bool,
     table: &mut [u8],
@@ -169,10 +171,11 @@ fn change_token(
     requires { ⌜ (length (now table) ≡ 4096) × (length (now sums) ≡ 128) × (count ≤ 128) × (j * 32 + 32 ≤ length (now ids)) ⌝ }
     ensures { λ r. ⌜ left-in r (now (table .exit)) (now (sums .exit)) ≡ change-token adding (record { ids = now (table .entry); amounts = now (sums .entry); count = count }) (id-at (now (ids .entry)) j) amount ⌝ }
 {
+    let at = find(table, count, ids, j);
     if adding {
-        add_token(table, sums, count, ids, j, amount)
+        add_token(table, sums, count, ids, j, amount, at)
     } else {
-        subtract_token(table, sums, count, ids, j, amount)
+        subtract_token(table, sums, count, ids, j, amount, at)
     }
 }
 

@@ -7,14 +7,15 @@ use mathlib.Core.Logic.{_⊎_, inl, inr}
 use mathlib.Core.Bool.{Bool, true, false, cond}
 use mathlib.Core.Path.{_≡_, refl, subst, sym, ap, _∙_}
 use mathlib.Core.List.{List, [], _∷_, _++_}
-use lib.ListN.{length, take, drop, getD, set, replicate, length-append, length-replicate, List·getD-append}
-use lib.Seq.{getD-set-same, getD-set-other, length-take-le, getD-take, getD-append-add, ext-getD}
+use lib.ListN.{length, getD, set}
+use lib.Seq.{getD-set-same, getD-set-other, ext-getD}
 use lib.IntN.{ℤ, pos}
 use Rattle.stores.specs.Stores.{write}
 use Rattle.stores.specs.Equal.{same-bytes}
 use Rattle.stores.proofs.EqualLaws.{same-refl, same-true}
 use Rattle.stores.proofs.StoreLaws.{length-write, length-part, part-at}
 use Rattle.balance.specs.Tokens.{id-at, place-from, place-of, closed-up}
+use Rattle.balance.proofs.CloseLaws.{write-before, write-in, closed-length, closed-lo, closed-hi}
 use Rattle.ledger.specs.Ledger.{TokenId, Tokens, ite, id-dec}
 use Rattle.fork_model.proofs.Balances as Ba
 use Rattle.balance_laws.specs.Calls.{tokens-from}
@@ -118,27 +119,7 @@ module _ (key ids : List ℕ) (ams : List ℤ) (w : ℤ) where
       set-by i n (place-from key ids (suc i) n) (same-bytes (id-at ids i) key) refl (omega arith) g (place-ge key ids ams (suc i) n) (set-place n (suc i) (omega arith))
       ∙ sym (ite-same (id-at ids i) key (id-dec (id-at ids i) key) ((key, w) ∷ tokens-from ids ams (suc i) n) ((id-at ids i, getD ams i (pos 0)) ∷ Ba.setTok (tokens-from ids ams (suc i) n) key w))
 
--- ---- elements of a list that was written to
-
-module _ {A : Type 0} (at : ℕ) (s d : List A) (z : A) (h : at ≤ length d) where
-  front : length (take at d ++ s) ≡ at + length s
-  front = let l : length (take at d) ≡ at = length-take-le at d h in omega (arith, length-append (take at d) s)
-
-  pub write-before : (j : ℕ) → j < at → getD (write at s d) j z ≡ getD d j z
-  unfolding write
-  write-before j g =
-      List·getD-append (take at d ++ s) (drop (at + length s) d) z j (omega (arith, front))
-      ∙ List·getD-append (take at d) s z j (omega (arith, length-take-le at d h))
-      ∙ getD-take at d j z g
-
-  pub write-in : (k : ℕ) → k < length s → getD (write at s d) (at + k) z ≡ getD s k z
-  unfolding write
-  write-in k g =
-      let l : length (take at d) ≡ at = length-take-le at d h in
-      let q : at + k ≡ length (take at d) + k = omega arith in
-      List·getD-append (take at d ++ s) (drop (at + length s) d) z (at + k) (omega (arith, front))
-      ∙ ap (λ (i : ℕ). getD (take at d ++ s) i z) q
-      ∙ getD-append-add (take at d) s k z
+-- ---- ids of a list that was written to
 
 -- two places hold the same id where their bytes are the same
 id-ext : (a b : List ℕ) (i j : ℕ) → i * 32 + 32 ≤ length a → j * 32 + 32 ≤ length b → ((k : ℕ) → k < 32 → getD a (i * 32 + k) 0 ≡ getD b (j * 32 + k) 0)
@@ -205,34 +186,6 @@ module _ (ids R : List ℕ) (ams S : List ℤ) (p n : ℕ)
       ∙ sym (ite-same (id-at ids i) key (id-dec (id-at ids i) key) (tokens-from ids ams (suc i) (suc m)) ((id-at ids i, getD ams i (pos 0)) ∷ Ba.dropTok (tokens-from ids ams (suc i) (suc m)) key))
 
 -- ---- the lists of `closed-up` are such
-
-module _ {A : Type 0} (w p n : ℕ) (z : A) (l : List A) (at from m : ℕ) (ea : at ≡ p * w) (ef : from ≡ (p + 1) * w) (em : m ≡ (n - (p + 1)) * w) (h : from + m ≤ length l)
-    (h′ : at + m + w ≤ length l) where
-  abbrev tail : List A
-  tail = take m (drop from l) ++ replicate w z
-
-  part-length : length (take m (drop from l)) ≡ m
-  part-length = length-part from m l h
-
-  tail-length : length tail ≡ m + w
-  tail-length = length-append (take m (drop from l)) (replicate w z) ∙ rw (part-length, length-replicate w z)
-
-  closed-is : closed-up w z p n l ≡ write at tail l
-  unfolding closed-up
-  closed-is = rw (ea, ef, em)
-
-  pub closed-length : length (closed-up w z p n l) ≡ length l
-  closed-length = ap length closed-is ∙ length-write at tail l (omega (arith, tail-length))
-
-  pub closed-lo : (j : ℕ) → j < at → getD (closed-up w z p n l) j z ≡ getD l j z
-  closed-lo j g = ap (λ (x : List A). getD x j z) closed-is ∙ write-before at tail l z (omega arith) j g
-
-  pub closed-hi : (k : ℕ) → k < m → getD (closed-up w z p n l) (at + k) z ≡ getD l (from + k) z
-  closed-hi k g =
-      ap (λ (x : List A). getD x (at + k) z) closed-is
-      ∙ write-in at tail l z (omega arith) k (omega (arith, tail-length))
-      ∙ List·getD-append (take m (drop from l)) (replicate w z) z k (omega (arith, part-length))
-      ∙ part-at from m k l z g
 
 module _ (ids : List ℕ) (ams : List ℤ) (p n : ℕ) (li : length ids ≡ 4096) (la : length ams ≡ 128) (c : n ≤ 128) (h : p < n) where
   abbrev R : List ℕ

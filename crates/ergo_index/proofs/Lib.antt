@@ -1,6 +1,5 @@
 -- The laws that the exports' proofs cite: one for each way out.
 pub mod AnswerLaws
-pub mod BalanceLaws
 pub mod BatchLaws
 pub mod BufferLaws
 pub mod InspectionLaws

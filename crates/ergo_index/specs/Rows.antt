@@ -10,7 +10,7 @@ use Rattle.segment_core.specs.declared.Loaded.the-variants as loaded
 use Rattle.segment_core.specs.Loading.{Loading}
 use Rattle.address_core.specs.declared.IndexedAddress.{IndexedAddress}
 use Rattle.address_core.specs.Loading.{AddressLoading}
-use Rattle.ergo_index.specs.Balances.{flat}
+use Rattle.balance.specs.Parts.{flat}
 
 -- ---- a segment row: how many transactions and boxes, and the spill counts
 pub record Counted : Type 0 where

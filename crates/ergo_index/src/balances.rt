@@ -1,10 +1,21 @@
-// Balances: 128 ids of 32 bytes, their amounts, the count and the nanoErgs, all borrowed. The balance that the call returns is stored: after a refusal it is
-// the one that was given.
+// Balances: 128 ids of 32 bytes, their amounts, the count and the nanoErgs, all borrowed and changed in place. A refusal leaves them as they were.
 ghost use mathlib.Core.Path.{_≡_};
+ghost use Rattle.refusal.specs.Refusal.{code-of};
 ghost use Rattle.balance.specs.Boxes.{add-box, subtract-box};
-ghost use Rattle.ergo_index.specs.Balances.{flat, balance-out, balance-export};
-use balance::Balance;
+ghost use Rattle.balance.specs.Parts.{flat};
+ghost use Rattle.ergo_index.specs.Balances.{balance-out, balance-export};
+use balance::parts;
 use refusal::Answer;
+
+// The code of an answer.
+fn code_of(answer: Answer) -> u8
+    ensures { λ r. ⌜ r ≡ code-of answer ⌝ }
+{
+    match answer {
+        Answer::Accepted => 0,
+        Answer::Refused(code) => code,
+    }
+}
 
 // Adds a box: its nanoErgs, then its tokens in list order; new ids go last.
 #[no_mangle]
@@ -21,28 +32,17 @@ pub extern "C" fn ergo_index_add_box(
     ensures { λ r. ⌜ balance-out r (flat (now («held_ids» .exit)) (now («held_amounts» .exit)) (now («held_count» .exit)) (now («held_nanos» .exit)))
         ≡ balance-export (add-box (flat (now («held_ids» .entry)) (now («held_amounts» .entry)) (now («held_count» .entry)) (now («held_nanos» .entry))) nanos (now (ids .entry)) (now (amounts .entry)) count) ⌝ }
 {
-    let table = *held_ids;
-    let sums = *held_amounts;
-    let held = Balance {
-        ids: table,
-        amounts: sums,
-        count: *held_count,
-        nanos: *held_nanos,
-    };
-    let outcome = balance::add_box(held, nanos, ids, amounts, count);
-    let answer = outcome.answer;
-    let after = outcome.balance;
-    let ids_after = after.ids;
-    let amounts_after = after.amounts;
-    let nanos_after = after.nanos;
-    *held_ids = ids_after;
-    *held_amounts = amounts_after;
-    *held_count = after.count;
-    *held_nanos = nanos_after;
-    match answer {
-        Answer::Accepted => 0,
-        Answer::Refused(code) => code,
-    }
+    let answer = parts::add_box(
+        held_ids,
+        held_amounts,
+        held_count,
+        held_nanos,
+        nanos,
+        ids,
+        amounts,
+        count,
+    );
+    code_of(answer)
 }
 
 // Subtracts a box: its nanoErgs, which stop at 0, then its tokens in list order; a token at 0 or below is dropped, an unknown id ignored.
@@ -60,26 +60,15 @@ pub extern "C" fn ergo_index_subtract_box(
     ensures { λ r. ⌜ balance-out r (flat (now («held_ids» .exit)) (now («held_amounts» .exit)) (now («held_count» .exit)) (now («held_nanos» .exit)))
         ≡ balance-export (subtract-box (flat (now («held_ids» .entry)) (now («held_amounts» .entry)) (now («held_count» .entry)) (now («held_nanos» .entry))) nanos (now (ids .entry)) (now (amounts .entry)) count) ⌝ }
 {
-    let table = *held_ids;
-    let sums = *held_amounts;
-    let held = Balance {
-        ids: table,
-        amounts: sums,
-        count: *held_count,
-        nanos: *held_nanos,
-    };
-    let outcome = balance::subtract_box(held, nanos, ids, amounts, count);
-    let answer = outcome.answer;
-    let after = outcome.balance;
-    let ids_after = after.ids;
-    let amounts_after = after.amounts;
-    let nanos_after = after.nanos;
-    *held_ids = ids_after;
-    *held_amounts = amounts_after;
-    *held_count = after.count;
-    *held_nanos = nanos_after;
-    match answer {
-        Answer::Accepted => 0,
-        Answer::Refused(code) => code,
-    }
+    let answer = parts::subtract_box(
+        held_ids,
+        held_amounts,
+        held_count,
+        held_nanos,
+        nanos,
+        ids,
+        amounts,
+        count,
+    );
+    code_of(answer)
 }

@@ -1,4 +1,4 @@
--- Each way out is a case of the definition, by the place that the search gave.
+-- Each way out is a case of the definition, by the place given.
 use mathlib.Core.Path.{_≡_, sym, _∙_}
 use lib.IntN.{pos, _-ℤ_}
 use lib.ListN.{getD}
@@ -15,9 +15,6 @@ use Rattle.balance.proofs.subtract_token.Tie as tie
 
 abbrev before : (s : tie.Start) → Held
 before s = record { ids = s .args .table .now; amounts = s .args .sums .now; count = s .args .count }
-
-find-requires : tie.Need-find-requires
-find-requires c κs = search needs
 
 mul-old : tie.Need-mul-old
 mul-old c = search needs
@@ -37,8 +34,8 @@ close-ids-requires c κs = search needs
 close-amounts-requires : tie.Need-close-amounts-requires
 close-amounts-requires c κs = search needs
 
-sub-t23 : tie.Need-sub-t23
-sub-t23 c = search needs
+sub-t21 : tie.Need-sub-t21
+sub-t21 c = search needs
 
 same-length : tie.Need-same-length
 same-length c = search needs
@@ -47,15 +44,14 @@ same-length-2 : tie.Need-same-length-2
 same-length-2 c = search needs
 
 -- the difference, of the numbers themselves, and the case of the definition for it
-by-difference : (a : tie.After-checked-sub) (x : Checked) → x ≡ a .checked-sub .result → let f = a .before .before .before in let s = f .before .before .before .before in
-    (x ≡ checked (getD (s .args .sums .now) (f .find .result) (pos 0) -ℤ s .args .amount))
-    × (difference-at (before s) (f .find .result) x ≡ subtract-token (before s) (id-at (s .args .ids .now) (s .args .j)) (s .args .amount))
+by-difference : (a : tie.After-checked-sub) (x : Checked) → x ≡ a .checked-sub .result → let s = a .before .before .before .before .before in
+    (x ≡ checked (getD (s .args .sums .now) (s .args .at) (pos 0) -ℤ s .args .amount))
+    × (difference-at (before s) (s .args .at) x ≡ subtract-token (before s) (id-at (s .args .ids .now) (s .args .j)) (s .args .amount))
 by-difference a x e =
-    let f = a .before .before .before in
-    let s = f .before .before .before .before in
-    let q : x ≡ checked (getD (s .args .sums .now) (f .find .result) (pos 0) -ℤ s .args .amount)
-    = e ∙ a .checked-sub .ensures ∙ rw (back64 (getD (s .args .sums .now) (f .find .result) (pos 0)) (a .before .old .given), back w64 (s .args .amount) (s .fits .amount)) in
-    (q, subtract-known (before s) (id-at (s .args .ids .now) (s .args .j)) (s .args .amount) (f .find .result) (f .find .ensures) x (a .before .before .if1 .taken) q)
+    let s = a .before .before .before .before .before in
+    let q : x ≡ checked (getD (s .args .sums .now) (s .args .at) (pos 0) -ℤ s .args .amount)
+    = e ∙ a .checked-sub .ensures ∙ rw (back64 (getD (s .args .sums .now) (s .args .at) (pos 0)) (a .before .old .given), back w64 (s .args .amount) (s .fits .amount)) in
+    (q, subtract-known (before s) (id-at (s .args .ids .now) (s .args .j)) (s .args .amount) (s .args .at) (s .pre .4) x (a .before .before .if1 .taken) q)
 
 returns : tie.Need-returns
 returns c =
@@ -77,9 +73,6 @@ slice-set-from-rest c = search needs
 same-length-3 : tie.Need-same-length-3
 same-length-3 c = search needs
 
-same-length-4 : tie.Need-same-length-4
-same-length-4 c = search needs
-
 returns-2 : tie.Need-returns-2
 returns-2 c =
     let a = c .before .before .before .before in
@@ -92,43 +85,32 @@ returns-2 c =
 enum-told : tie.Need-enum-told
 enum-told c = search needs
 
-same-length-5 : tie.Need-same-length-5
-same-length-5 c = search needs
-
 returns-3 : tie.Need-returns-3
 returns-3 c = by-difference (c .before .before) Out (sym (c .enum-told .given .1)) .1
 
-same-length-6 : tie.Need-same-length-6
-same-length-6 c = search needs
-
 returns-4 : tie.Need-returns-4
 returns-4 c =
-    let f = c .before in
-    let s = f .before .before .before .before in
-    subtract-unknown (before s) (id-at (s .args .ids .now) (s .args .j)) (s .args .amount) (f .find .result) (f .find .ensures) (c .if1 .left)
+    let s = c .before .before .before in
+    subtract-unknown (before s) (id-at (s .args .ids .now) (s .args .j)) (s .args .amount) (s .args .at) (s .pre .4) (c .if1 .left)
 
 pub subtract-token-spec : {M : Type 1} → statement M
 subtract-token-spec =
     tie.close
     (tie.spec
-    find-requires
     mul-old
     slice-copy-out-old
     checked-sub-requires
     enum-known-rest
     close-ids-requires
     close-amounts-requires
-    sub-t23
+    sub-t21
     same-length
     same-length-2
     returns
     mul-rest
     slice-set-from-rest
     same-length-3
-    same-length-4
     returns-2
     enum-told
-    same-length-5
     returns-3
-    same-length-6
     returns-4)
