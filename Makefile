@@ -4,7 +4,7 @@
 # make bindings  the Rust crate over the archive: proves and builds the archive, then builds and tests the crate, offline
 # make compare         the reference Rust (ERGO_REFERENCE, or ../shared/docs/src) and this index side by side, under a minute
 # make compare-full    the same with at least 10 million calls and 100,000 histories
-# make compare-sample  the fixed list of the reference's answers, made anew
+# make compare-sample  the fixed list of the reference's answers, made anew, and what the gate's program is held to
 # make bench           both sides timed in one run; plots go to docs/
 # make all-checks      the gate, the Rust crate and the short comparison
 # make fmt    the layout of all Rattle and antt files
@@ -74,6 +74,7 @@ compare-full: compare-build
 
 compare-sample: compare-build
 	@compare/target/release/compare --sample > target/sample.txt && mv target/sample.txt compare/sample.txt
+	@python3 compare/replayed.py compare/sample.txt crates/reference_answers
 
 bench: compare-build
 	@cd compare && target/release/bench ../docs

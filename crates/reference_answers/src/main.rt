@@ -1,5 +1,5 @@
 // Replays the sample of the reference's answers: takes records from standard input and prints a line for each, its name and the answer.
-// stdin and stdout are made from compare/sample.txt, which says how the reference Rust gave its answers, line by line. stdin has a line's inputs:
+// stdin and stdout are made from compare/sample.txt by compare/replayed.py; the sample says how the reference Rust gave its answers. stdin has a line's inputs:
 // the place of its name in `replay` (one byte), how many bytes follow (two, high byte first), and the bytes:
 //   i64, i32, row, b2b, adr, und, run   the line's bytes
 //   wrs        a zero byte, the length (two bytes) of a row, the row, which has both lists and counts of 0, and the two coded counts
