@@ -108,7 +108,7 @@ fn stage(
 // ---- the whole
 
 // The halving, the walk, and the match.
-fn flip_rows(
+fn flip_hinted(
     parent: &[u8; 32],
     target: u64,
     spend: bool,
@@ -173,6 +173,84 @@ fn flip_rows(
         }
         Low::Broken(code) => Flipped::Refused(code),
     }
+}
+
+// The same without hints that came from outside: where the records of the table stand is noted first.
+fn flip_noted(
+    parent: &[u8; 32],
+    target: u64,
+    spend: bool,
+    spills: usize,
+    seen: bool,
+    staged_counts: ListCounts,
+    staged: &mut [u8],
+    table_count: usize,
+    table: &[u8],
+) -> Flipped
+    requires { ⌜ RowsReady «staged_counts» (now staged) «table_count» (now table) × (spills < 2147483648) × (target < 9223372036854775808) ⌝ }
+    ensures { λ r. ⌜ Stages (in-rows edition-1 (sources (now (parent .entry)) (now (staged .entry)) («staged_counts» .count) (now (table .entry)) «table_count») («staged_counts» .capacity) target spend spills seen)
+        «staged_counts» (now (staged .entry)) r (now (staged .exit)) ⌝ }
+{
+    let mut hints = [0u16; 16384];
+    records::hints::note_places(table, buffer_core::RECORD, table_count, &mut hints);
+    flip_hinted(
+        parent,
+        target,
+        spend,
+        spills,
+        seen,
+        staged_counts,
+        staged,
+        table_count,
+        table,
+        &hints,
+    )
+}
+
+// The rows, by the hints that are there; for a table of many records there are always some.
+fn flip_rows(
+    parent: &[u8; 32],
+    target: u64,
+    spend: bool,
+    spills: usize,
+    seen: bool,
+    staged_counts: ListCounts,
+    staged: &mut [u8],
+    table_count: usize,
+    table: &[u8],
+    hints: &[u16],
+) -> Flipped
+    requires { ⌜ RowsReady «staged_counts» (now staged) «table_count» (now table) × (spills < 2147483648) × (target < 9223372036854775808) ⌝ }
+    ensures { λ r. ⌜ Stages (in-rows edition-1 (sources (now (parent .entry)) (now (staged .entry)) («staged_counts» .count) (now (table .entry)) «table_count») («staged_counts» .capacity) target spend spills seen)
+        «staged_counts» (now (staged .entry)) r (now (staged .exit)) ⌝ }
+{
+    if hints.len() == 0 {
+        if 128 < table_count {
+            return flip_noted(
+                parent,
+                target,
+                spend,
+                spills,
+                seen,
+                staged_counts,
+                staged,
+                table_count,
+                table,
+            );
+        }
+    }
+    flip_hinted(
+        parent,
+        target,
+        spend,
+        spills,
+        seen,
+        staged_counts,
+        staged,
+        table_count,
+        table,
+        hints,
+    )
 }
 
 // The head first, which is in order, then the rows.

@@ -1,4 +1,4 @@
--- `flip_core::flip_rows` meets its contract: the halving gives the row where the walk begins, and the walk the entry.
+-- `flip_core::flip_hinted` meets its contract: the halving gives the row where the walk begins, and the walk the entry.
 use native.Mathlib.Omega.{arith}
 use denote.Ref.{now}
 use Rattle.buffer_core.specs.Edition.{edition-1}
@@ -8,8 +8,8 @@ use Rattle.flip_core.proofs.RowLaws.{row-takes}
 use Rattle.flip_core.proofs.SearchLaws.{search-most, walk-hits}
 use Rattle.flip_core.proofs.EffectLaws.{walk-hit, walk-14, walk-15, walk-bad, rows-broken, rows-walked}
 use borrow.Author.Needs.{needs}
-use Rattle.flip_core.proofs.flip_rows.Statement.{statement}
-use Rattle.flip_core.proofs.flip_rows.Tie as tie
+use Rattle.flip_core.proofs.flip_hinted.Statement.{statement}
+use Rattle.flip_core.proofs.flip_hinted.Tie as tie
 
 search-requires : tie.Need-search-requires
 search-requires c κs = search needs
@@ -89,8 +89,8 @@ returns-5 c =
     let w = sources (now (a .parent)) (now (a .staged)) (a .staged-counts .count) (now (a .table)) (a .table-count) in
     rows-broken w (a .staged-counts) (now (a .staged)) (a .target) (a .spend) (a .spills) (a .seen) _ (c .before .before .before .search .ensures) _ (c .before .found2 .given .1)
 
-pub flip-rows-spec : {M : Type 1} → statement M
-flip-rows-spec =
+pub flip-hinted-spec : {M : Type 1} → statement M
+flip-hinted-spec =
     tie.close
     (tie.spec
     search-requires
