@@ -18,7 +18,7 @@ use Rattle.balance.specs.declared.Balance.{Balance}
 use Rattle.balance.specs.declared.Outcome.{Outcome}
 use Rattle.balance.specs.Tokens.{Held, Changed, held, turned, change-token, change-tokens}
 use Rattle.balance.specs.Boxes.{buffers-ok, stopped, nanos-after, held-by, settled, box-by, change-box}
-use Rattle.ledger.specs.Ledger.{TokenId, Tokens, Typed}
+use Rattle.ledger.specs.Ledger.{TokenId, Parent, Tokens, Typed}
 use Rattle.ledger.specs.Run.{Res, done, refused}
 use Rattle.fork_model.proofs.Balances as Ba
 use Rattle.fork_model.proofs.BalanceLaws as Bw
@@ -129,10 +129,10 @@ module _ (b : Balance) (I : Fits (held-by b)) (n : ℤ) (ts : Tokens) (t : Typed
 done-same : (X : Res Balance) (c : Balance) (Y : Res Ba.Bal) → mapRes bal-of X ≡ Y → X ≡ done c → Y ≡ done (bal-of c)
 done-same X c Y e f = sym e ∙ ap (mapRes bal-of) f
 
-module _ (ids : List ℕ) (amounts : List ℤ) (ids-in : length ids ≡ 4096) (amounts-in : length amounts ≡ 128) where
+module _ (ids : Parent → List ℕ) (amounts : Parent → List ℤ) (ids-in : (p : Parent) → length (ids p) ≡ 4096) (amounts-in : (p : Parent) → length (amounts p) ≡ 128) where
   -- an empty balance, whatever its places hold
-  abbrev pub none : Balance
-  none = record { ids = ids; amounts = amounts; count = 0; nanos = pos 0 }
+  abbrev pub none : Parent → Balance
+  none p = record { ids = ids p; amounts = amounts p; count = 0; nanos = pos 0 }
 
   abbrev pub balances : Wh.Balances
   balances = record { Bal = Balance; noBal = none; add = credited; sub = debited; nanoOf = λ b. b .nanos; amountOf = λ b t. amount-in (tokens-in b) t }
@@ -145,9 +145,9 @@ module _ (ids : List ℕ) (amounts : List ℤ) (ids-in : length ids ≡ 4096) (a
 
   pub laws : (E : St.Env) → Wh.BalanceLaws E balances Good
   laws E = record {
-    no-good = (record { few = omega arith; ids-in = ids-in; amounts-in = amounts-in }, Bw.no-good limit 128 (omega arith));
-    no-nano = refl;
-    no-amount = λ t. refl;
+    no-good = λ p. (record { few = omega arith; ids-in = ids-in p; amounts-in = amounts-in p }, Bw.no-good limit 128 (omega arith));
+    no-nano = λ p. refl;
+    no-amount = λ p t. refl;
     add-ok = λ b n ts c g R e.
         let D = add-same b (g .0) n ts (R .typed) in
         let a = Bw.add-ok limit 128 (bal-of b) n ts (bal-of c) (g .1) R (done-same (credited b n ts) c (Ba.add limit 128 (bal-of b) n ts) (D .same) e) in

@@ -175,11 +175,11 @@ module _ (M : Machine) (U : Series → ℕ → Type 0) (Good Tidy : M .Store →
     start-inv = record {
       holds = record {
         good = L .empty-good;
-        goodB = λ p. L .no-good;
+        goodB = L .no-good;
         numbers = λ ch. ap (map absℤ) (L .empty-entries ch);
         copies = λ ch k h. ap (negs k) (L .empty-entries ch) ∙ none ch k;
-        nanoErgs = λ p. L .no-nano;
-        amounts = λ p t. L .no-amount t;
+        nanoErgs = L .no-nano;
+        amounts = L .no-amount;
         past = tt;
       };
       tidy = L .empty-tidy;

@@ -75,9 +75,9 @@ module _ (M : Machine) (U : Series → ℕ → Type 0) (Good Tidy : M .Store →
     pub unspend-no : (σ : Store) (p : Parent) (t : ℤ) (k : ℕ) → Good σ → Sorted (map absℤ (entries σ (boxes p))) → List·Memᴰ (negℤ (absℤ t)) (entries σ (boxes p))
         → doUnspend σ p t ≡ refused k → (k ≡ 16) × StagingFull σ
     pub flush-ok : (σ τ : Store) → Good σ → doFlush σ ≡ done τ → Flushed Store entries Good Tidy σ τ
-    pub no-good : GoodB noBal
-    pub no-nano : nanoOf noBal ≡ pos 0
-    pub no-amount : (t : TokenId) → amountOf noBal t ≡ pos 0
+    pub no-good : (p : Parent) → GoodB (noBal p)
+    pub no-nano : (p : Parent) → nanoOf (noBal p) ≡ pos 0
+    pub no-amount : (p : Parent) (t : TokenId) → amountOf (noBal p) t ≡ pos 0
     pub add-ok : (b : Bal) (n : ℤ) (ts : Tokens) (b′ : Bal) → GoodB b → Paid n ts → add b n ts ≡ done b′ → GoodB b′ × Grew M b n ts b′
     pub sub-ok : (b : Bal) (n : ℤ) (ts : Tokens) (b′ : Bal) → GoodB b → Paid n ts → n ≤ℤ nanoOf b → ((t : TokenId) → sumOf t ts ≤ℤ amountOf b t)
         → sub b n ts ≡ done b′ → GoodB b′ × Shrank M b n ts b′

@@ -7,7 +7,7 @@ use native.Mathlib.Omega.{arith}
 use lib.IntN.{ℤ, pos, negℤ, natAbs}
 use lib.Signed.{_≤ℤ_}
 use Rattle.fork_model.proofs.Paid.{Paid}
-use Rattle.ledger.specs.Ledger.{TokenId, Series, boxes, Tokens, sumOf}
+use Rattle.ledger.specs.Ledger.{TokenId, Parent, Series, boxes, Tokens, sumOf}
 use Rattle.ledger.specs.Run.{Res, done, Machine}
 use Rattle.ledger.specs.Run as Mc
 use Rattle.fork_model.proofs.OperationLaws as Op
@@ -23,7 +23,7 @@ use Rattle.fork_model.proofs.Search as Se
 -- the operations on balances
 pub record Balances : Type 1 where
   pub Bal : Type 0
-  pub noBal : Bal
+  pub noBal : Parent → Bal
   pub add : Bal → ℤ → Tokens → Res Bal
   pub sub : Bal → ℤ → Tokens → Res Bal
   pub nanoOf : Bal → ℤ
@@ -55,9 +55,9 @@ module _ (E : St.Env) (B : Balances) where
   }
 
   pub record BalanceLaws (GoodB : B .Bal → Type 0) : Type 0 where
-    pub no-good : GoodB (B .noBal)
-    pub no-nano : B .nanoOf (B .noBal) ≡ pos 0
-    pub no-amount : (t : TokenId) → B .amountOf (B .noBal) t ≡ pos 0
+    pub no-good : (p : Parent) → GoodB (B .noBal p)
+    pub no-nano : (p : Parent) → B .nanoOf (B .noBal p) ≡ pos 0
+    pub no-amount : (p : Parent) (t : TokenId) → B .amountOf (B .noBal p) t ≡ pos 0
     pub add-ok : (b : B .Bal) (n : ℤ) (ts : Tokens) (b′ : B .Bal) → GoodB b → Paid n ts → B .add b n ts ≡ done b′ → GoodB b′ × Op.Grew machine b n ts b′
     pub sub-ok : (b : B .Bal) (n : ℤ) (ts : Tokens) (b′ : B .Bal) → GoodB b → Paid n ts → n ≤ℤ B .nanoOf b → ((t : TokenId) → sumOf t ts ≤ℤ B .amountOf b t)
         → B .sub b n ts ≡ done b′ → GoodB b′ × Op.Shrank machine b n ts b′

@@ -21,7 +21,7 @@ use Rattle.history.proofs.ExampleRules.{numbers-more, numbers-up-to, pl
 use Rattle.history.proofs.ExampleRun as Er
 
 -- for all parents' ids and all borrowed buffers in which each list has room for 600 records
-module _ (ids : Parent → List ℕ) (B : Borrowed edition-1) (s : Places) (table-room : 600 ≤ B .table-cap) (staged-room : 600 ≤ B .staged-cap) (deleted-room : 600 ≤ B .deleted-cap) where
+module _ (ids : Parent → List ℕ) (B : Borrowed edition-1) (s : Parent → Places) (table-room : 600 ≤ B .table-cap) (staged-room : 600 ≤ B .staged-cap) (deleted-room : 600 ≤ B .deleted-cap) where
   abbrev M : Machine
   M = index-machine edition-1 ids B s
 
@@ -29,13 +29,13 @@ module _ (ids : Parent → List ℕ) (B : Borrowed edition-1) (s : Places) (tabl
   ended = run M (start M) across-a-row
 
   abbrev Q : Wh.Balances
-  Q = Bl.balances (s .ids) (s .amounts) (s .ids-in) (s .amounts-in)
+  Q = Bl.balances (λ p. s p .ids) (λ p. s p .amounts) (λ p. s p .ids-in) (λ p. s p .amounts-in)
 
   abbrev GoodB : Balance → Type 0
-  GoodB b = Bl.Good (s .ids) (s .amounts) (s .ids-in) (s .amounts-in) b
+  GoodB b = Bl.Good (λ p. s p .ids) (λ p. s p .amounts) (λ p. s p .ids-in) (λ p. s p .amounts-in) b
 
   balance-laws : Wh.BalanceLaws (Ix.W edition-1 edition-1-laws ids B s Q) Q GoodB
-  balance-laws = Bl.laws (s .ids) (s .amounts) (s .ids-in) (s .amounts-in) (Ix.W edition-1 edition-1-laws ids B s Q)
+  balance-laws = Bl.laws (λ p. s p .ids) (λ p. s p .amounts) (λ p. s p .ids-in) (λ p. s p .amounts-in) (Ix.W edition-1 edition-1-laws ids B s Q)
 
   goes : Er.Goes edition-1 edition-1-laws ids B s Q GoodB balance-laws table-room staged-room deleted-room left-standing (start M) across-a-row
   goes = Er.goes edition-1 edition-1-laws ids B s Q GoodB balance-laws table-room staged-room deleted-room
@@ -94,7 +94,7 @@ no-tokens = record { ids = replicate 4096 0; amounts = replicate 128 (pos 0); id
 
 module _ (ids : Parent → List ℕ) (cap : ℕ) (h : 600 ≤ cap) where
   abbrev N : Machine
-  N = index-machine edition-1 ids (zeroed cap) no-tokens
+  N = index-machine edition-1 ids (zeroed cap) (λ p. no-tokens)
 
   pub premises-met : Legal N (start N) across-a-row × KeysApart N (InUse N (start N) across-a-row)
-  premises-met = (example-legal ids (zeroed cap) no-tokens h h h, example-keys-apart ids (zeroed cap) no-tokens h h h)
+  premises-met = (example-legal ids (zeroed cap) (λ p. no-tokens) h h h, example-keys-apart ids (zeroed cap) (λ p. no-tokens) h h h)

@@ -38,7 +38,7 @@ accepted : {A B : Type 0} (f : A → B) (X : Res A) (Y : Res B) → mapRes f X �
 accepted f (done a) Y e n = (a, refl, sym e)
 accepted f (refused k) Y e n = absurd (n k (sym e))
 
-module _ (E : Edition) (L : EditionLaws E) (ids : Parent → List ℕ) (B : Borrowed E) (s : Places) (Q : Wh.Balances) (GoodB : Q .Bal → Type 0) (BL : Wh.BalanceLaws (Ix.W E L ids B s Q) Q GoodB)
+module _ (E : Edition) (L : EditionLaws E) (ids : Parent → List ℕ) (B : Borrowed E) (s : Parent → Places) (Q : Wh.Balances) (GoodB : Q .Bal → Type 0) (BL : Wh.BalanceLaws (Ix.W E L ids B s Q) Q GoodB)
     (table-room : 600 ≤ B .table-cap) (staged-room : 600 ≤ B .staged-cap) (deleted-room : 600 ≤ B .deleted-cap) where
   abbrev W : St.Env
   W = Ix.W E L ids B s Q

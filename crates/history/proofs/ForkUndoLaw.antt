@@ -7,6 +7,6 @@ use Rattle.history.proofs.IndexTheorem as Ix
 
 pub fork-undo : Theorem
 fork-undo ids B s =
-    let Q = Bl.balances (s .ids) (s .amounts) (s .ids-in) (s .amounts-in) in
-    Ix.index-theorem edition-1 edition-1-laws ids B s Q (Bl.Good (s .ids) (s .amounts) (s .ids-in) (s .amounts-in))
-    (Bl.laws (s .ids) (s .amounts) (s .ids-in) (s .amounts-in) (Ix.W edition-1 edition-1-laws ids B s Q))
+    let Q = Bl.balances (λ p. s p .ids) (λ p. s p .amounts) (λ p. s p .ids-in) (λ p. s p .amounts-in) in
+    Ix.index-theorem edition-1 edition-1-laws ids B s Q (Bl.Good (λ p. s p .ids) (λ p. s p .amounts) (λ p. s p .ids-in) (λ p. s p .amounts-in))
+    (Bl.laws (λ p. s p .ids) (λ p. s p .amounts) (λ p. s p .ids-in) (λ p. s p .amounts-in) (Ix.W edition-1 edition-1-laws ids B s Q))

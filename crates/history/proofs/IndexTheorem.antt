@@ -41,7 +41,7 @@ none-keys : (cap : ℕ) (l : List ℕ) → cap * 32 ≤ length l → KeysOk (non
 unfolding records distinct
 none-keys cap l h = record { bounds = bounds-of 32 (none-of cap) l (omega arith) h; apart = refl }
 
-module _ (E : Edition) (L : EditionLaws E) (ids : Parent → List ℕ) (B : Borrowed E) (s : Places) (Q : Wh.Balances) where
+module _ (E : Edition) (L : EditionLaws E) (ids : Parent → List ℕ) (B : Borrowed E) (s : Parent → Places) (Q : Wh.Balances) where
   abbrev begin : Index
   begin = start E B
 

@@ -17,7 +17,7 @@ use Rattle.buffer_core.specs.Append.{counts-of, append-of, append-ok, append-co
 use Rattle.buffer_core.specs.Pop.{lists, pop-of, pop-ok, pop-core, lists-ok}
 use Rattle.buffer_core.specs.Flip.{flip-of, flip-ok, flip-core, flip-effect, in-order, in-rows, search-by, walk-from}
 use Rattle.buffer_core.specs.Flush.{flush-of, flush-core, flushed, table-after, put-undeleted, put-staged, remove-key, remove-keys, new-count}
-use Rattle.ledger.specs.Ledger.{ite, series-dec, Call}
+use Rattle.ledger.specs.Ledger.{Parent, ite, series-dec, Call}
 use Rattle.ledger.specs.Run.{Res, done, refused, Machine, Step, undo, flush, State, Undone, start, run, runUndo, StepsOk, flat}
 use Rattle.fork_model.proofs.SmallHistories.{append-box, spend-box, boxes-after}
 use Rattle.history.specs.Index.{Index, index, part, do-flush}
@@ -40,7 +40,7 @@ heads-only = record {
   deleted-in = omega arith;
 }
 
-module _ (s : Places) where
+module _ (s : Parent → Places) where
   abbrev M : Machine
   M = index-machine edition-1 (λ p. []) heads-only s
 

@@ -29,7 +29,7 @@ pub record Places : Type 0 where
 abbrev pub empty-balance : Places → Balance
 empty-balance s = record { ids = s .ids; amounts = s .amounts; count = 0; nanos = pos 0 }
 
-module _ (E : Edition) (ids : Parent → List ℕ) (B : Borrowed E) (s : Places) where
+module _ (E : Edition) (ids : Parent → List ℕ) (B : Borrowed E) (s : Parent → Places) where
   abbrev pub index-machine : Machine
   index-machine = record {
     Store = Index;
@@ -48,7 +48,7 @@ module _ (E : Edition) (ids : Parent → List ℕ) (B : Borrowed E) (s : Places)
     DeletionFull = λ b. b .lists .deleted-counts .capacity ≤ b .lists .deleted-counts .count;
     -- "credit, debit" and their undos, "`subtract_box` or `add_box` with the same arguments"
     Bal = Balance;
-    noBal = empty-balance s;
+    noBal = λ p. empty-balance (s p);
     add = credited;
     sub = debited;
     nanoOf = λ b. b .nanos;
@@ -65,4 +65,4 @@ module _ (E : Edition) (ids : Parent → List ℕ) (B : Borrowed E) (s : Places)
 -- for all parents' ids, all capacities and whatever the borrowed buffers hold at the start: every legal list in which no two row keys in use are equal.
 -- "Only the list writes parents and buffers"; that "25 never arises" is part of the proof (Inv of proofs/State.antt)
 abbrev pub Theorem : Type 0
-Theorem = (ids : Parent → List ℕ) (B : Borrowed edition-1) (s : Places) → Run.ForkUndo (index-machine edition-1 ids B s)
+Theorem = (ids : Parent → List ℕ) (B : Borrowed edition-1) (s : Parent → Places) → Run.ForkUndo (index-machine edition-1 ids B s)

@@ -33,7 +33,7 @@ use Rattle.history_runs.proofs.ViewLaws.{append-same, pop-same, flip-sa
 use Rattle.history_runs.proofs.BalanceLaws.{change-same}
 use Rattle.history_runs.proofs.NearLaws.{Near, NearRes, NearPop, append-near, pop-near, flip-near, flush-near}
 
-module _ (parents : ℕ) (ids : Parent → List ℕ) (B : Borrowed edition-1) (places : Places) where
+module _ (parents : ℕ) (ids : Parent → List ℕ) (B : Borrowed edition-1) (places : Parent → Places) where
   abbrev W : Run.Machine
   W = M parents ids B places
 

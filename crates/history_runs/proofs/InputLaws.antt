@@ -14,6 +14,7 @@ use Rattle.calls.specs.Calls.{call-at, size-of}
 use Rattle.calls.proofs.CallLaws.{call-sound}
 use Rattle.call_steps.specs.State.{State, state-ok}
 use Rattle.call_steps.specs.Steps.{step-of}
+use Rattle.ledger.specs.Ledger.{Parent}
 use Rattle.ledger.specs.Run.{Step}
 use Rattle.ledger.specs.Run as Mc
 use Rattle.history.specs.ForkUndo.{Places}
@@ -82,7 +83,7 @@ module _ (parents : ℕ) (input : List ℕ) where
 
   -- the fork-undo theorem of what the public function `run_calls` leaves: from an empty state, on an input whose calls spell a legal list of steps in which no
   -- two row keys in use are equal, and with room for the answers, the state at exit holds exactly what the standing calls alone give
-  pub fork-undo-of-input : (places : Places) (s : State) (E : Empty parents places s) (answers : List ℕ) (popped : List ℤ) (ts : List Step) (xs : List Call)
+  pub fork-undo-of-input : (places : Parent → Places) (s : State) (E : Empty parents places s) (answers : List ℕ) (popped : List ℤ) (ts : List Step) (xs : List Call)
       → state-ok edition-1 parents s ≡ true → length xs ≤ length popped → length xs * 2 ≤ length answers → Stand parents input 0 xs
       → Spells parents (ids-in s) (borrowed parents places s E) places (Mc.start (W parents places s E)) ts xs → Mc.Legal (W parents places s E) (Mc.start (W parents places s E)) ts
       → Mc.KeysApart (W parents places s E) (Mc.InUse (W parents places s E) (Mc.start (W parents places s E)) ts)

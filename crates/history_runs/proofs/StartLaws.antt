@@ -13,7 +13,7 @@ use Rattle.buffer_core.proofs.ListLaws.{lists-fit}
 use Rattle.calls.specs.declared.Call.{Call}
 use Rattle.call_steps.specs.State.{State}
 use Rattle.call_steps.proofs.KeepLaws.{within}
-use Rattle.ledger.specs.Ledger.{Series, parentOf, ite}
+use Rattle.ledger.specs.Ledger.{Parent, Series, parentOf, ite}
 use Rattle.ledger.specs.Run.{Step}
 use Rattle.ledger.specs.Run as Run
 use Rattle.ledger.proofs.TestLaws.{ite-yes}
@@ -25,7 +25,7 @@ use Rattle.history_runs.specs.Runs.{made, M, Holds, Spells, StepsSaid, A
 use Rattle.history_runs.proofs.ViewLaws.{head-long}
 use Rattle.history_runs.proofs.HoldLaws.{fork-undo-runs}
 
-module _ (parents : ℕ) (places : Places) (s : State) (E : Empty parents places s) where
+module _ (parents : ℕ) (places : Parent → Places) (s : State) (E : Empty parents places s) where
   pub lent-long : (ch : Series) → 512 ≤ length (lent parents s ch)
   unfolding ite
   lent-long ch = by-parent (decLt (parentOf ch) parents)

@@ -70,7 +70,7 @@ module _ (parents : ℕ) where
   UnmakesNewest [] x = ⊥
   UnmakesNewest (a ∷ cs) x = Unmakes a x
 
-  module _ (ids : Parent → List ℕ) (B : Borrowed edition-1) (places : Places) where
+  module _ (ids : Parent → List ℕ) (B : Borrowed edition-1) (places : Parent → Places) where
     abbrev pub M : Machine
     M = index-machine edition-1 ids B places
 
@@ -120,14 +120,14 @@ module _ (parents : ℕ) where
     pub nanoErgs : (p : Parent) → p < parents → balance-in s p .nanos ≡ ledger-nanos cs p
     pub amounts : (p : Parent) → p < parents → (t : TokenId) → amount-in (tokens-in (balance-in s p)) t ≡ ledger-amount cs p t
 
-  -- "Empty: each count, length and nanoErgs 0": the state that a history starts from, of each of so many parents, the balances' places all alike
-  pub record Empty (places : Places) (s : State) : Type 0 where
+  -- "Empty: each count, length and nanoErgs 0": the state that a history starts from, of each of so many parents, whatever each balance has in its places
+  pub record Empty (places : Parent → Places) (s : State) : Type 0 where
     pub ready : Ready parents s
     pub parts : (ch : Series) → parentOf ch < parents → part-in s ch .head ≡ counts-of 0 (pos 0)
     pub staged : s .lists .staged-counts .count ≡ 0
     pub table : s .lists .table-counts .count ≡ 0
     pub deleted : s .lists .deleted-counts .count ≡ 0
-    pub balances : (p : Parent) → p < parents → balance-in s p ≡ empty-balance places
+    pub balances : (p : Parent) → p < parents → balance-in s p ≡ empty-balance (places p)
 
   -- the places that the state lends to a head; 512 of them for a parent that it has not
   abbrev pub lent : State → Series → List ℤ

@@ -47,7 +47,7 @@ pub record Machine : Type 1 where
   pub StagingFull : Store → Type 0
   pub DeletionFull : Store → Type 0
   pub Bal : Type 0
-  pub noBal : Bal
+  pub noBal : Parent → Bal
   pub add : Bal → ℤ → Tokens → Res Bal
   pub sub : Bal → ℤ → Tokens → Res Bal
   pub nanoOf : Bal → ℤ
@@ -181,7 +181,7 @@ module _ (M : Machine) where
 
   -- "all empty or 0 at first": no call stands, every parent and every list is empty
   abbrev pub start : Conf
-  start = record { now = record { store = empty; bals = λ p. noBal }; standing = []; phase = clean }
+  start = record { now = record { store = empty; bals = noBal }; standing = []; phase = clean }
 
   unfoldable pub run : Conf → List Step → Conf
   run c [] = c
