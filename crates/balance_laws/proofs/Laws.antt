@@ -17,12 +17,12 @@ use Rattle.signed.specs.Checked.{checked}
 use Rattle.balance.specs.declared.Balance.{Balance}
 use Rattle.balance.specs.declared.Outcome.{Outcome}
 use Rattle.balance.specs.Tokens.{Held, Changed, held, turned, change-token, change-tokens}
-use Rattle.balance.specs.Boxes.{buffers-ok, stopped, nanos-after, held-by, settled, box-by, change-box}
+use Rattle.balance.specs.Boxes.{buffers-ok, stopped, nanos-after, held-by, settled, refused as refused-box, box-by, change-box}
 use Rattle.ledger.specs.Ledger.{TokenId, Parent, Tokens, Typed}
-use Rattle.ledger.specs.Run.{Res, done, refused}
+use Rattle.ledger.specs.Run.{Res, done, refused, Leaves}
 use Rattle.fork_model.proofs.Balances as Ba
 use Rattle.fork_model.proofs.BalanceLaws as Bw
-use Rattle.fork_model.proofs.Results.{mapRes, map-done}
+use Rattle.fork_model.proofs.Results.{mapRes, map-done, result-of}
 use Rattle.fork_model.proofs.Search.{done≢refused}
 use Rattle.fork_model.proofs.Store as St
 use Rattle.fork_model.proofs.Store.{andThen}
@@ -41,7 +41,7 @@ pub record DoesB (X : Res Balance) (Y : Res Ba.Bal) : Type 0 where
   pub same : mapRes bal-of X ≡ Y
   pub keeps : (c : Balance) → X ≡ done c → Fits (held-by c)
 
-settle : (b : Balance) (v : ℤ) (x : Changed) (Y : Res Tokens) → Does x Y → DoesB (outcome-of (settled b v x)) (andThen Y (λ l. done (bal v l)))
+settle : (b : Balance) (v : ℤ) (x : Changed) (Y : Res Tokens) → Does x Y → DoesB (result-of (outcome-of (settled b v x))) (andThen Y (λ l. done (bal v l)))
 settle b v (held h) Y d = record {
   same = ap (λ (y : Res Tokens). andThen y (λ l. done (bal v l))) (d .0);
   keeps = λ c e.
@@ -90,14 +90,14 @@ module _ (b : Balance) (I : Fits (held-by b)) (n : ℤ) (ts : Tokens) (t : Typed
   unfolding change-box
   on adds = rw passes
 
-  by-add : (x : ℤ) (u : Bool) → DoesB (outcome-of (box-by true b (ids-of ts) (amounts-of ts) (length ts) (cond u (Is x) Out)))
+  by-add : (x : ℤ) (u : Bool) → DoesB (result-of (outcome-of (box-by true b (ids-of ts) (amounts-of ts) (length ts) (cond u (Is x) Out))))
       (cond u (andThen (Ba.addToks limit 128 (tokens-in b) ts) (λ l. done (bal x l))) (refused 23))
   by-add x true =
       settle b x (change-tokens true (ids-of ts) (amounts-of ts) 0 (length ts) (held-by b)) (Ba.addToks limit 128 (tokens-in b) ts)
       (run-does true (Ba.addToks limit 128) (Ba.addTok limit 128) adds-none adds-more (λ h k v J g f. add-does h J k g v f) ts [] [] 0 refl refl t (held-by b) I)
   by-add x false = no-bal 23
 
-  pub add-same : DoesB (credited b n ts) (Ba.add limit 128 (bal-of b) n ts)
+  pub add-same : DoesB (result-of (credited b n ts)) (Ba.add limit 128 (bal-of b) n ts)
   unfolding checked
   add-same =
       rw (on true)
@@ -108,7 +108,7 @@ module _ (b : Balance) (I : Fits (held-by b)) (n : ℤ) (ts : Tokens) (t : Typed
   stop-same (pos m) = rw (le-ltb m 0 (omega arith))
   stop-same (negsuc m) = refl
 
-  by-sub : (x : ℤ) (u : Bool) → DoesB (outcome-of (box-by false b (ids-of ts) (amounts-of ts) (length ts) (stopped (cond u (Is x) Out))))
+  by-sub : (x : ℤ) (u : Bool) → DoesB (result-of (outcome-of (box-by false b (ids-of ts) (amounts-of ts) (length ts) (stopped (cond u (Is x) Out)))))
       (cond u (andThen (Ba.subToks limit 128 (tokens-in b) ts) (λ l. done (bal (Ba.stop0 x) l))) (refused 23))
   by-sub x true =
       to-bal
@@ -117,12 +117,29 @@ module _ (b : Balance) (I : Fits (held-by b)) (n : ℤ) (ts : Tokens) (t : Typed
       (ap (λ (z : ℤ). andThen (Ba.subToks limit 128 (tokens-in b) ts) (λ l. done (bal z l))) (stop-same x))
   by-sub x false = no-bal 23
 
-  pub sub-same : DoesB (debited b n ts) (Ba.sub limit 128 (bal-of b) n ts)
+  pub sub-same : DoesB (result-of (debited b n ts)) (Ba.sub limit 128 (bal-of b) n ts)
   unfolding checked
   sub-same =
       rw (on false)
       (to-bal (by-sub (b .nanos -ℤ n) (ltb (mag (b .nanos -ℤ n)) limit))
       (sym (ite-lt (mag (b .nanos -ℤ n)) limit (decLt (mag (b .nanos -ℤ n)) limit) _ (refused 23))))
+
+-- ---- a refusal gives back the old balance
+settled-leaves : (b : Balance) (v : ℤ) (x : Changed) → Leaves b (outcome-of (settled b v x))
+settled-leaves b v (held h) = tt
+settled-leaves b v (turned code) = refl
+
+pub change-leaves : (adds : Bool) (b : Balance) (n : ℤ) (ids : List ℕ) (amounts : List ℤ) (m : ℕ) → Leaves b (outcome-of (change-box adds b n ids amounts m))
+unfolding change-box
+change-leaves adds b n ids amounts m = by-buffers (buffers-ok (b .count) ids amounts m)
+  where
+    by-nanos : (x : Checked) → Leaves b (outcome-of (box-by adds b ids amounts m x))
+    by-nanos (Is v) = settled-leaves b v (change-tokens adds ids amounts 0 m (held-by b))
+    by-nanos Out = refl
+
+    by-buffers : (t : Bool) → Leaves b (outcome-of (cond t (box-by adds b ids amounts m (nanos-after adds (b .nanos) n)) (refused-box 25 b)))
+    by-buffers true = by-nanos (nanos-after adds (b .nanos) n)
+    by-buffers false = refl
 
 -- ---- the laws
 
@@ -145,21 +162,23 @@ module _ (ids : Parent → List ℕ) (amounts : Parent → List ℤ) (ids-in : (
 
   pub laws : (E : St.Env) → Wh.BalanceLaws E balances Good
   laws E = record {
+    credits = λ b n ts. change-leaves true b n (ids-of ts) (amounts-of ts) (length ts);
+    debits = λ b n ts. change-leaves false b n (ids-of ts) (amounts-of ts) (length ts);
     no-good = λ p. (record { few = omega arith; ids-in = ids-in p; amounts-in = amounts-in p }, Bw.no-good limit 128 (omega arith));
     no-nano = λ p. refl;
     no-amount = λ p t. refl;
     add-ok = λ b n ts c g R e.
         let D = add-same b (g .0) n ts (R .typed) in
-        let a = Bw.add-ok limit 128 (bal-of b) n ts (bal-of c) (g .1) R (done-same (credited b n ts) c (Ba.add limit 128 (bal-of b) n ts) (D .same) e) in
+        let a = Bw.add-ok limit 128 (bal-of b) n ts (bal-of c) (g .1) R (done-same (result-of (credited b n ts)) c (Ba.add limit 128 (bal-of b) n ts) (D .same) e) in
         ((D .keeps c e, a .0), record { nanoErgs = a .1 .nanoErgs; amounts = a .1 .amounts });
     sub-ok = λ b n ts c g R h k e.
         let D = sub-same b (g .0) n ts (R .typed) in
-        let a = Bw.sub-ok limit 128 (bal-of b) n ts (bal-of c) (g .1) R h k (done-same (debited b n ts) c (Ba.sub limit 128 (bal-of b) n ts) (D .same) e) in
+        let a = Bw.sub-ok limit 128 (bal-of b) n ts (bal-of c) (g .1) R h k (done-same (result-of (debited b n ts)) c (Ba.sub limit 128 (bal-of b) n ts) (D .same) e) in
         ((D .keeps c e, a .0), record { nanoErgs = a .1 .nanoErgs; amounts = a .1 .amounts });
     add-back = λ x n ts b g h R s.
         let D = add-same b (h .0) n ts (R .typed) in
         let a = Bw.add-back limit 128 (bal-of x) n ts (bal-of b) (g .1) (h .1) R (record { nanoErgs = s .nanoErgs; amounts = s .amounts }) in
-        let m = map-done bal-of (credited b n ts) (a .0) (D .same ∙ a .1) in (
+        let m = map-done bal-of (result-of (credited b n ts)) (a .0) (D .same ∙ a .1) in (
           m .0,
           m .1,
           (D .keeps (m .0) (m .1), subst G (sym (m .2)) (a .2)),
@@ -168,7 +187,7 @@ module _ (ids : Parent → List ℕ) (amounts : Parent → List ℤ) (ids-in : (
     sub-back = λ x n ts b g h R s.
         let D = sub-same b (h .0) n ts (R .typed) in
         let a = Bw.sub-back limit 128 (bal-of x) n ts (bal-of b) (g .1) (h .1) R (record { nanoErgs = s .nanoErgs; amounts = s .amounts }) in
-        let m = map-done bal-of (debited b n ts) (a .0) (D .same ∙ a .1) in (
+        let m = map-done bal-of (result-of (debited b n ts)) (a .0) (D .same ∙ a .1) in (
           m .0,
           m .1,
           (D .keeps (m .0) (m .1), subst G (sym (m .2)) (a .2)),

@@ -10,7 +10,7 @@ use Rattle.balance.specs.declared.Outcome.{Outcome}
 use Rattle.balance.specs.Tokens.{id-at}
 use Rattle.balance.specs.Boxes.{add-box, subtract-box}
 use Rattle.ledger.specs.Ledger.{Tokens}
-use Rattle.ledger.specs.Run.{Res, done, refused}
+use Rattle.ledger.specs.Run.{Made, accepted, refused-leaving}
 
 -- the ids one after the other, and the amounts at the same places
 abbrev pub ids-of : Tokens → List ℕ
@@ -21,17 +21,18 @@ abbrev pub amounts-of : Tokens → List ℤ
 amounts-of [] = []
 amounts-of (x ∷ ts) = x .1 ∷ amounts-of ts
 
-abbrev pub answered : Answer → Balance → Res Balance
-answered Accepted b = done b
-answered (Refused code) b = refused code
+-- the balance at exit, accepted or refused
+abbrev pub answered : Answer → Balance → Made Balance Balance
+answered Accepted b = accepted b
+answered (Refused code) b = refused-leaving code b
 
-abbrev pub outcome-of : Outcome → Res Balance
+abbrev pub outcome-of : Outcome → Made Balance Balance
 outcome-of o = answered (o .answer) (o .balance)
 
-abbrev pub credited : Balance → ℤ → Tokens → Res Balance
+abbrev pub credited : Balance → ℤ → Tokens → Made Balance Balance
 credited b n ts = outcome-of (add-box b n (ids-of ts) (amounts-of ts) (length ts))
 
-abbrev pub debited : Balance → ℤ → Tokens → Res Balance
+abbrev pub debited : Balance → ℤ → Tokens → Made Balance Balance
 debited b n ts = outcome-of (subtract-box b n (ids-of ts) (amounts-of ts) (length ts))
 
 -- n tokens from place i on

@@ -1,5 +1,6 @@
 -- The run of a list of steps keeps what holds between calls, and the theorem from the laws.
 use Rattle.ledger.proofs.TestLaws.{ite-yes}
+use Rattle.ledger.proofs.LeaveLaws.{store-left, balance-left}
 use mathlib.Core.Path.{_≡_, refl, sym, _∙_, ap, subst}
 use mathlib.Core.Logic.{inl, inr}
 use mathlib.Core.List.{List, [], _∷_, _++_, map}
@@ -9,9 +10,10 @@ use lib.IntN.{ℤ}
 use lib.Signed.{_≤ℤ_, mag}
 use lib.ListN.{length, length-append, length-map}
 use Rattle.ledger.specs.Ledger.{Parent, Series, boxes, txs, series-dec, Tokens, Call, append, spend, credit, debit, absℤ, sumOf, ledger-numbers, Rules, Typed}
-use Rattle.ledger.specs.Run.{Res, done, refused, Popped, Machine, Phase, clean, calls, undos, Step, call, undo, flush, MayCall, negs}
+use Rattle.ledger.specs.Run.{Made, accepted, refused-leaving, Popped, Machine, Phase, clean, calls, undos, Step, call, undo, flush, MayCall, negs}
 use Rattle.ledger.specs.Run as Mc
 use Rattle.fork_model.proofs.OperationLaws as Op
+use Rattle.fork_model.proofs.Results.{result-of, was-accepted}
 use Rattle.fork_model.proofs.Holding as Hd
 use Rattle.fork_model.proofs.Holding.{negCount}
 use Rattle.fork_model.proofs.EntryLaws.{Sorted, sorted-nums}
@@ -61,8 +63,10 @@ module _ (M : Machine) (U : Series → ℕ → Type 0) (Good Tidy : M .Store →
   none (txs p) k = refl
 
   module _ (L : Op.Laws M U Good Tidy GoodB) where
-    inv-refused : (c : Conf) → Inv c → MayCall (c .phase) → Inv (record { now = c .now; standing = c .standing; phase = calls })
-    inv-refused c I m = record { holds = I .holds; tidy = tidy-call (c .phase) (c .now .store) m (I .tidy); rules = I .rules; typed = I .typed }
+    inv-refused : (c : Conf) (τ : State) → τ ≡ c .now → Inv c → MayCall (c .phase) → Inv (record { now = τ; standing = c .standing; phase = calls })
+    inv-refused c τ e I m =
+        subst (λ (x : State). Inv (record { now = x; standing = c .standing; phase = calls })) (sym e)
+        (record { holds = I .holds; tidy = tidy-call (c .phase) (c .now .store) m (I .tidy); rules = I .rules; typed = I .typed })
 
     grows : (c : Conf) (ch : Series) (n : ℤ) → Inv c → (s : ℕ) → rowSize * suc s < suc (length (entries (c .now .store) ch)) → rowSize * suc s < length (ledger-numbers (append ch n ∷ c .standing) ch)
     grows c ch n I s h =
@@ -70,35 +74,35 @@ module _ (M : Machine) (U : Series → ℕ → Type 0) (Good Tidy : M .Store →
         let k = ap length (ite-yes (series-dec ch ch) (ledger-numbers (c .standing) ch ++ (n ∷ [])) (ledger-numbers (c .standing) ch) refl) in
         omega (arith, l, k, length-append (ledger-numbers (c .standing) ch) (n ∷ []), length-map (entries (c .now .store) ch) absℤ)
 
-    call-append : (c : Conf) (ch : Series) (n : ℤ) (r : Res Store) → mag n < limit → doAppend (c .now .store) ch n ≡ r → Inv c → MayCall (c .phase)
+    call-append : (c : Conf) (ch : Series) (n : ℤ) (r : Made Store Store) → mag n < limit → doAppend (c .now .store) ch n ≡ r → Inv c → MayCall (c .phase)
         → Rules (Mc.afterCall M c (append ch n) (Mc.withStore M (c .now) r) .standing) → Covered (Mc.afterCall M c (append ch n) (Mc.withStore M (c .now) r))
         → Inv (Mc.afterCall M c (append ch n) (Mc.withStore M (c .now) r))
-    call-append c ch n (done τ) v e I m R C =
-        let a = L .append-ok (c .now .store) ch n τ (I .holds .good) (tidy-call (c .phase) (c .now .store) m (I .tidy)) v e (λ s h. C ch s (grows c ch n I s h)) in
+    call-append c ch n (accepted τ) v e I m R C =
+        let a = L .append-ok (c .now .store) ch n τ (I .holds .good) (tidy-call (c .phase) (c .now .store) m (I .tidy)) v (ap result-of e) (λ s h. C ch s (grows c ch n I s h)) in
         record { holds = Hd.hold-append M U Good Tidy GoodB (I .holds) a; tidy = a .tidy; rules = R; typed = (v, I .typed) }
-    call-append c ch n (refused k) v e I m R C = inv-refused c I m
+    call-append c ch n (refused-leaving k τ) v e I m R C = inv-refused c (Mc.stored M (c .now) τ) (store-left M (c .now) (doAppend (c .now .store) ch n) k τ (L .leaves .appends (c .now .store) ch n) e) I m
 
-    call-spend : (c : Conf) (p : Parent) (t : ℤ) (r : Res Store) → mag t < limit → doSpend (c .now .store) p t ≡ r → Inv c → MayCall (c .phase)
+    call-spend : (c : Conf) (p : Parent) (t : ℤ) (r : Made Store Store) → mag t < limit → doSpend (c .now .store) p t ≡ r → Inv c → MayCall (c .phase)
         → Inv (Mc.afterCall M c (spend p t) (Mc.withStore M (c .now) r))
-    call-spend c p t (done τ) v e I m =
-        let a = L .spend-ok (c .now .store) p t τ (I .holds .good) e in
+    call-spend c p t (accepted τ) v e I m =
+        let a = L .spend-ok (c .now .store) p t τ (I .holds .good) (ap result-of e) in
         record { holds = Hd.hold-spend M U Good Tidy GoodB (I .holds) a; tidy = a .tidy (tidy-call (c .phase) (c .now .store) m (I .tidy)); rules = (tt, I .rules); typed = (v, I .typed) }
-    call-spend c p t (refused k) v e I m = inv-refused c I m
+    call-spend c p t (refused-leaving k τ) v e I m = inv-refused c (Mc.stored M (c .now) τ) (store-left M (c .now) (doSpend (c .now .store) p t) k τ (L .leaves .spends (c .now .store) p t) e) I m
 
-    call-credit : (c : Conf) (p : Parent) (n : ℤ) (ts : Tokens) (r : Res Bal) → (mag n < limit) × Typed ts → add (c .now .bals p) n ts ≡ r → Inv c → MayCall (c .phase)
+    call-credit : (c : Conf) (p : Parent) (n : ℤ) (ts : Tokens) (r : Made Bal Bal) → (mag n < limit) × Typed ts → add (c .now .bals p) n ts ≡ r → Inv c → MayCall (c .phase)
         → Rules (Mc.afterCall M c (credit p n ts) (Mc.withBal M (c .now) p r) .standing) → Inv (Mc.afterCall M c (credit p n ts) (Mc.withBal M (c .now) p r))
-    call-credit c p n ts (done b) v e I m R =
-        let a = L .add-ok (c .now .bals p) n ts b (I .holds .goodB p) (record { typed = v .1; nonneg = R .0 .nonneg; allpos = R .0 .allpos }) e in
+    call-credit c p n ts (accepted b) v e I m R =
+        let a = L .add-ok (c .now .bals p) n ts b (I .holds .goodB p) (record { typed = v .1; nonneg = R .0 .nonneg; allpos = R .0 .allpos }) (ap result-of e) in
         record { holds = Hd.hold-credit M U Good Tidy GoodB (I .holds) (a .0) (a .1); tidy = tidy-call (c .phase) (c .now .store) m (I .tidy); rules = R; typed = (v, I .typed) }
-    call-credit c p n ts (refused k) v e I m R = inv-refused c I m
+    call-credit c p n ts (refused-leaving k b) v e I m R = inv-refused c (Mc.paid M (c .now) p b) (balance-left M (c .now) p (add (c .now .bals p) n ts) k b (L .leaves .credits (c .now .bals p) n ts) e) I m
 
-    call-debit : (c : Conf) (p : Parent) (n : ℤ) (ts : Tokens) (r : Res Bal) → (mag n < limit) × Typed ts → sub (c .now .bals p) n ts ≡ r → Inv c → MayCall (c .phase)
+    call-debit : (c : Conf) (p : Parent) (n : ℤ) (ts : Tokens) (r : Made Bal Bal) → (mag n < limit) × Typed ts → sub (c .now .bals p) n ts ≡ r → Inv c → MayCall (c .phase)
         → Rules (Mc.afterCall M c (debit p n ts) (Mc.withBal M (c .now) p r) .standing) → Inv (Mc.afterCall M c (debit p n ts) (Mc.withBal M (c .now) p r))
-    call-debit c p n ts (done b) v e I m R =
+    call-debit c p n ts (accepted b) v e I m R =
         let a = L .sub-ok (c .now .bals p) n ts b (I .holds .goodB p) (record { typed = v .1; nonneg = R .0 .nonneg; allpos = R .0 .allpos })
-        (subst (λ (x : ℤ). n ≤ℤ x) (sym (I .holds .nanoErgs p)) (R .0 .within)) (λ t. subst (λ (x : ℤ). sumOf t ts ≤ℤ x) (sym (I .holds .amounts p t)) (R .0 .held t)) e in
+        (subst (λ (x : ℤ). n ≤ℤ x) (sym (I .holds .nanoErgs p)) (R .0 .within)) (λ t. subst (λ (x : ℤ). sumOf t ts ≤ℤ x) (sym (I .holds .amounts p t)) (R .0 .held t)) (ap result-of e) in
         record { holds = Hd.hold-debit M U Good Tidy GoodB (I .holds) (a .0) (a .1); tidy = tidy-call (c .phase) (c .now .store) m (I .tidy); rules = R; typed = (v, I .typed) }
-    call-debit c p n ts (refused k) v e I m R = inv-refused c I m
+    call-debit c p n ts (refused-leaving k b) v e I m R = inv-refused c (Mc.paid M (c .now) p b) (balance-left M (c .now) p (sub (c .now .bals p) n ts) k b (L .leaves .debits (c .now .bals p) n ts) e) I m
 
     step-call : (c : Conf) (a : Call) → Inv c → MayCall (c .phase) → Mc.Args limit a → Rules (Mc.step M c (call a) .standing) → Covered (Mc.step M c (call a)) → Inv (Mc.step M c (call a))
     step-call c (append ch n) I m v R C = call-append c ch n (doAppend (c .now .store) ch n) v refl I m R C
@@ -107,40 +111,43 @@ module _ (M : Machine) (U : Series → ℕ → Type 0) (Good Tidy : M .Store →
     step-call c (debit p n ts) I m v R C = call-debit c p n ts (sub (c .now .bals p) n ts) v refl I m R
 
     -- undo: what is left after the newest call a, and the answer
-    pub record Undid (c : Conf) (a : Call) (cs : List Call) (r : Res (Mc.Undone M)) : Type 0 where
+    pub record Undid (c : Conf) (a : Call) (cs : List Call) (r : Made State (Mc.Undone M)) : Type 0 where
       pub inv : Inv (Mc.afterUndo M c cs r)
       pub answer : Mc.UndoAnswer M (c .now) a r
 
     abbrev At : Conf → Call → List Call → Type 0
     At c a cs = Holds (c .now .store) (c .now .bals) (a ∷ cs) × Rules (a ∷ cs) × (c .standing ≡ a ∷ cs) × AllTyped (a ∷ cs)
 
-    kept : (c : Conf) (a : Call) (cs : List Call) → At c a cs → Inv (record { now = c .now; standing = c .standing; phase = undos })
-    kept c a cs A = record { holds = subst (Holds (c .now .store) (c .now .bals)) (sym (A .2)) (A .0); tidy = tt; rules = subst Rules (sym (A .2)) (A .1); typed = subst AllTyped (sym (A .2)) (A .3) }
+    kept : (c : Conf) (τ : State) (a : Call) (cs : List Call) → τ ≡ c .now → At c a cs → Inv (record { now = τ; standing = c .standing; phase = undos })
+    kept c τ a cs e A = subst (λ (x : State). Inv (record { now = x; standing = c .standing; phase = undos })) (sym e) (record { holds = subst (Holds (c .now .store) (c .now .bals)) (sym (A .2)) (A .0); tidy = tt; rules = subst Rules (sym (A .2)) (A .1); typed = subst AllTyped (sym (A .2)) (A .3) })
 
-    undo-append : (c : Conf) (ch : Series) (n : ℤ) (cs : List Call) (r : Res (Popped Store)) → doPop (c .now .store) ch ≡ r → At c (append ch n) cs → Undid c (append ch n) cs (Mc.popped M (c .now) r)
-    undo-append c ch n cs (done r) e A =
-        let a = L .pop-ok (c .now .store) ch r (A .0 .good) e in
+    undo-append : (c : Conf) (ch : Series) (n : ℤ) (cs : List Call) (r : Made Store (Popped Store)) → doPop (c .now .store) ch ≡ r → At c (append ch n) cs → Undid c (append ch n) cs (Mc.popped M (c .now) r)
+    undo-append c ch n cs (accepted r) e A =
+        let a = L .pop-ok (c .now .store) ch r (A .0 .good) (ap result-of e) in
         record { inv = record { holds = Hd.hold-pop M U Good Tidy GoodB (A .0) (A .1 .0) a; tidy = tt; rules = A .1 .1; typed = A .3 .1 }; answer = ap (λ z. z ∷ []) (Hd.pop-value M U Good Tidy GoodB (A .0) (A .1 .0) a) }
-    undo-append c ch n cs (refused k) e A = record { inv = kept c (append ch n) cs A; answer = inr (L .pop-no (c .now .store) ch k (A .0 .good) (Hd.pop-some M U Good Tidy GoodB (A .0)) e) }
+    undo-append c ch n cs (refused-leaving k τ) e A = record {
+      inv = kept c (Mc.stored M (c .now) τ) (append ch n) cs (store-left M (c .now) (doPop (c .now .store) ch) k τ (L .leaves .pops (c .now .store) ch) e) A;
+      answer = inr (L .pop-no (c .now .store) ch k (A .0 .good) (Hd.pop-some M U Good Tidy GoodB (A .0)) (ap result-of e));
+    }
 
-    undo-spend : (c : Conf) (p : Parent) (t : ℤ) (cs : List Call) (r : Res Store) → doUnspend (c .now .store) p t ≡ r → At c (spend p t) cs → Undid c (spend p t) cs (Mc.quiet M (Mc.withStore M (c .now) r))
-    undo-spend c p t cs (done τ) e A =
-        let a = L .unspend-ok (c .now .store) p t τ (A .0 .good) e in
+    undo-spend : (c : Conf) (p : Parent) (t : ℤ) (cs : List Call) (r : Made Store Store) → doUnspend (c .now .store) p t ≡ r → At c (spend p t) cs → Undid c (spend p t) cs (Mc.quiet M (Mc.withStore M (c .now) r))
+    undo-spend c p t cs (accepted τ) e A =
+        let a = L .unspend-ok (c .now .store) p t τ (A .0 .good) (ap result-of e) in
         record { inv = record { holds = Hd.hold-unspend M U Good Tidy GoodB (A .0) a; tidy = tt; rules = A .1 .1; typed = A .3 .1 }; answer = refl }
-    undo-spend c p t cs (refused k) e A = record {
-      inv = kept c (spend p t) cs A;
-      answer = inl (L .unspend-no (c .now .store) p t k (A .0 .good) (subst Sorted (sym (A .0 .numbers (boxes p))) (sorted-nums cs p (A .1 .1))) (Hd.copy-there M U Good Tidy GoodB (A .0)) e);
+    undo-spend c p t cs (refused-leaving k τ) e A = record {
+      inv = kept c (Mc.stored M (c .now) τ) (spend p t) cs (store-left M (c .now) (doUnspend (c .now .store) p t) k τ (L .leaves .unspends (c .now .store) p t) e) A;
+      answer = inl (L .unspend-no (c .now .store) p t k (A .0 .good) (subst Sorted (sym (A .0 .numbers (boxes p))) (sorted-nums cs p (A .1 .1))) (Hd.copy-there M U Good Tidy GoodB (A .0)) (ap result-of e));
     }
 
     undo-credit : (c : Conf) (p : Parent) (n : ℤ) (ts : Tokens) (cs : List Call) → At c (credit p n ts) cs → Undid c (credit p n ts) cs (Mc.quiet M (Mc.withBal M (c .now) p (sub (c .now .bals p) n ts)))
     undo-credit c p n ts cs A =
         let b = L .sub-back (A .0 .past .0 .bal) n ts (c .now .bals p) (A .0 .past .0 .good) (A .0 .goodB p) (record { typed = A .3 .0 .1; nonneg = A .1 .0 .nonneg; allpos = A .1 .0 .allpos }) (Hd.grew-from M U Good Tidy GoodB (A .0)) in
-        rw (b .1) (record { inv = record { holds = Hd.hold-uncredit M U Good Tidy GoodB (A .0) (b .2) (b .3); tidy = tt; rules = A .1 .1; typed = A .3 .1 }; answer = refl })
+        rw (was-accepted (sub (c .now .bals p) n ts) (b .0) (b .1)) (record { inv = record { holds = Hd.hold-uncredit M U Good Tidy GoodB (A .0) (b .2) (b .3); tidy = tt; rules = A .1 .1; typed = A .3 .1 }; answer = refl })
 
     undo-debit : (c : Conf) (p : Parent) (n : ℤ) (ts : Tokens) (cs : List Call) → At c (debit p n ts) cs → Undid c (debit p n ts) cs (Mc.quiet M (Mc.withBal M (c .now) p (add (c .now .bals p) n ts)))
     undo-debit c p n ts cs A =
         let b = L .add-back (A .0 .past .0 .bal) n ts (c .now .bals p) (A .0 .past .0 .good) (A .0 .goodB p) (record { typed = A .3 .0 .1; nonneg = A .1 .0 .nonneg; allpos = A .1 .0 .allpos }) (Hd.shrank-from M U Good Tidy GoodB (A .0)) in
-        rw (b .1) (record { inv = record { holds = Hd.hold-undebit M U Good Tidy GoodB (A .0) (b .2) (b .3); tidy = tt; rules = A .1 .1; typed = A .3 .1 }; answer = refl })
+        rw (was-accepted (add (c .now .bals p) n ts) (b .0) (b .1)) (record { inv = record { holds = Hd.hold-undebit M U Good Tidy GoodB (A .0) (b .2) (b .3); tidy = tt; rules = A .1 .1; typed = A .3 .1 }; answer = refl })
 
     undo-any : (c : Conf) (a : Call) (cs : List Call) → At c a cs → Undid c a cs (Mc.runUndo M (c .now) a)
     undo-any c (append ch n) cs A = undo-append c ch n cs (doPop (c .now .store) ch) refl A
@@ -154,9 +161,10 @@ module _ (M : Machine) (U : Series → ℕ → Type 0) (Good Tidy : M .Store →
         let u = undo-any c a cs (subst (Holds (c .now .store) (c .now .bals)) e (I .holds), subst Rules e (I .rules), e, subst AllTyped e (I .typed)) in
         (u .inv, u .answer)
 
-    step-flush : (c : Conf) (r : Res Store) → doFlush (c .now .store) ≡ r → Inv c → Inv (Mc.afterFlush M c (Mc.withStore M (c .now) r))
-    step-flush c (done τ) e I = let a = L .flush-ok (c .now .store) τ (I .holds .good) e in record { holds = Hd.hold-flush M U Good Tidy GoodB (I .holds) a; tidy = a .tidy; rules = I .rules; typed = I .typed }
-    step-flush c (refused k) e I = I
+    step-flush : (c : Conf) (r : Made Store Store) → doFlush (c .now .store) ≡ r → Inv c → Inv (Mc.afterFlush M c (Mc.withStore M (c .now) r))
+    step-flush c (accepted τ) e I = let a = L .flush-ok (c .now .store) τ (I .holds .good) (ap result-of e) in record { holds = Hd.hold-flush M U Good Tidy GoodB (I .holds) a; tidy = a .tidy; rules = I .rules; typed = I .typed }
+    step-flush c (refused-leaving k τ) e I =
+        subst (λ (x : State). Inv (record { now = x; standing = c .standing; phase = c .phase })) (sym (store-left M (c .now) (doFlush (c .now .store)) k τ (L .leaves .flushes (c .now .store)) e)) I
 
     pub one-step : (c : Conf) (s : Step) → Inv c → Mc.Allowed M c s → Rules (Mc.step M c s .standing) → Covered (Mc.step M c s) → Inv (Mc.step M c s) × Mc.StepOk M c s
     one-step c (call a) I m R C = (step-call c a I (m .0) (m .1) R C, tt)

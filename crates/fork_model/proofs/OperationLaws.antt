@@ -8,7 +8,8 @@ use lib.Signed.{_≤ℤ_, mag}
 use lib.ListN.{length}
 use Rattle.fork_model.proofs.Paid.{Paid}
 use Rattle.ledger.specs.Ledger.{TokenId, Parent, Series, boxes, Tokens, absℤ, sumOf}
-use Rattle.ledger.specs.Run.{done, refused, Popped, Machine}
+use Rattle.ledger.specs.Run.{done, refused, Popped, Machine, RefusalsLeave}
+use Rattle.fork_model.proofs.Results.{result-of}
 use Rattle.fork_model.proofs.Paid as Pd
 use Rattle.fork_model.proofs.EntryLaws.{Flip, Sorted}
 
@@ -63,24 +64,25 @@ module _ (M : Machine) (U : Series → ℕ → Type 0) (Good Tidy : M .Store →
   open Machine M using (Store, empty, doAppend, doPop, doSpend, doUnspend, doFlush, entries, StagingFull, DeletionFull, Bal, noBal, add, sub, nanoOf, amountOf, rowSize, limit, Key, key)
 
   pub record Laws : Type 0 where
+    pub leaves : RefusalsLeave M
     pub empty-good : Good empty
     pub empty-tidy : Tidy empty
     pub empty-entries : (ch : Series) → entries empty ch ≡ []
-    pub append-ok : (σ : Store) (ch : Series) (n : ℤ) (τ : Store) → Good σ → Tidy σ → mag n < limit → doAppend σ ch n ≡ done τ
+    pub append-ok : (σ : Store) (ch : Series) (n : ℤ) (τ : Store) → Good σ → Tidy σ → mag n < limit → result-of (doAppend σ ch n) ≡ done τ
         → ((s : ℕ) → rowSize * suc s < suc (length (entries σ ch)) → U ch s) → Appended Store entries Good Tidy σ ch n τ
-    pub pop-ok : (σ : Store) (ch : Series) (r : Popped Store) → Good σ → doPop σ ch ≡ done r → PoppedOff Store entries Good Tidy σ ch (r .value) (r .left)
-    pub pop-no : (σ : Store) (ch : Series) (k : ℕ) → Good σ → entries σ ch ≢ [] → doPop σ ch ≡ refused k → (k ≡ 21) × DeletionFull σ
-    pub spend-ok : (σ : Store) (p : Parent) (t : ℤ) (τ : Store) → Good σ → doSpend σ p t ≡ done τ → Spent Store entries Good Tidy σ p t τ
-    pub unspend-ok : (σ : Store) (p : Parent) (t : ℤ) (τ : Store) → Good σ → doUnspend σ p t ≡ done τ → Unspent Store entries Good Tidy σ p t τ
+    pub pop-ok : (σ : Store) (ch : Series) (r : Popped Store) → Good σ → result-of (doPop σ ch) ≡ done r → PoppedOff Store entries Good Tidy σ ch (r .value) (r .left)
+    pub pop-no : (σ : Store) (ch : Series) (k : ℕ) → Good σ → entries σ ch ≢ [] → result-of (doPop σ ch) ≡ refused k → (k ≡ 21) × DeletionFull σ
+    pub spend-ok : (σ : Store) (p : Parent) (t : ℤ) (τ : Store) → Good σ → result-of (doSpend σ p t) ≡ done τ → Spent Store entries Good Tidy σ p t τ
+    pub unspend-ok : (σ : Store) (p : Parent) (t : ℤ) (τ : Store) → Good σ → result-of (doUnspend σ p t) ≡ done τ → Unspent Store entries Good Tidy σ p t τ
     pub unspend-no : (σ : Store) (p : Parent) (t : ℤ) (k : ℕ) → Good σ → Sorted (map absℤ (entries σ (boxes p))) → List·Memᴰ (negℤ (absℤ t)) (entries σ (boxes p))
-        → doUnspend σ p t ≡ refused k → (k ≡ 16) × StagingFull σ
-    pub flush-ok : (σ τ : Store) → Good σ → doFlush σ ≡ done τ → Flushed Store entries Good Tidy σ τ
+        → result-of (doUnspend σ p t) ≡ refused k → (k ≡ 16) × StagingFull σ
+    pub flush-ok : (σ τ : Store) → Good σ → result-of (doFlush σ) ≡ done τ → Flushed Store entries Good Tidy σ τ
     pub no-good : (p : Parent) → GoodB (noBal p)
     pub no-nano : (p : Parent) → nanoOf (noBal p) ≡ pos 0
     pub no-amount : (p : Parent) (t : TokenId) → amountOf (noBal p) t ≡ pos 0
-    pub add-ok : (b : Bal) (n : ℤ) (ts : Tokens) (b′ : Bal) → GoodB b → Paid n ts → add b n ts ≡ done b′ → GoodB b′ × Grew M b n ts b′
+    pub add-ok : (b : Bal) (n : ℤ) (ts : Tokens) (b′ : Bal) → GoodB b → Paid n ts → result-of (add b n ts) ≡ done b′ → GoodB b′ × Grew M b n ts b′
     pub sub-ok : (b : Bal) (n : ℤ) (ts : Tokens) (b′ : Bal) → GoodB b → Paid n ts → n ≤ℤ nanoOf b → ((t : TokenId) → sumOf t ts ≤ℤ amountOf b t)
-        → sub b n ts ≡ done b′ → GoodB b′ × Shrank M b n ts b′
+        → result-of (sub b n ts) ≡ done b′ → GoodB b′ × Shrank M b n ts b′
     -- an undo gives back a balance that was there before
-    pub add-back : (b₀ : Bal) (n : ℤ) (ts : Tokens) (b : Bal) → GoodB b₀ → GoodB b → Paid n ts → Shrank M b₀ n ts b → (b′ : Bal) × (add b n ts ≡ done b′) × GoodB b′ × Alike M b₀ b′
-    pub sub-back : (b₀ : Bal) (n : ℤ) (ts : Tokens) (b : Bal) → GoodB b₀ → GoodB b → Paid n ts → Grew M b₀ n ts b → (b′ : Bal) × (sub b n ts ≡ done b′) × GoodB b′ × Alike M b₀ b′
+    pub add-back : (b₀ : Bal) (n : ℤ) (ts : Tokens) (b : Bal) → GoodB b₀ → GoodB b → Paid n ts → Shrank M b₀ n ts b → (b′ : Bal) × (result-of (add b n ts) ≡ done b′) × GoodB b′ × Alike M b₀ b′
+    pub sub-back : (b₀ : Bal) (n : ℤ) (ts : Tokens) (b : Bal) → GoodB b₀ → GoodB b → Paid n ts → Grew M b₀ n ts b → (b′ : Bal) × (result-of (sub b n ts) ≡ done b′) × GoodB b′ × Alike M b₀ b′

@@ -1,6 +1,6 @@
 -- The theorem for the store of tables and a balance that keeps its laws.
 use Rattle.ledger.specs.Run.{flat}
-use mathlib.Core.Path.{_≡_, refl}
+use mathlib.Core.Path.{_≡_, refl, sym, _∙_}
 use mathlib.Core.List.{List·Memᴰ·not-nil}
 use Prim.Native.Nat.{ℕ, suc}
 use native.Mathlib.Omega.{arith}
@@ -8,7 +8,7 @@ use lib.IntN.{ℤ, pos, negℤ, natAbs}
 use lib.Signed.{_≤ℤ_}
 use Rattle.fork_model.proofs.Paid.{Paid}
 use Rattle.ledger.specs.Ledger.{TokenId, Parent, Series, boxes, Tokens, sumOf}
-use Rattle.ledger.specs.Run.{Res, done, Machine}
+use Rattle.ledger.specs.Run.{Res, done, refused, Made, Leaves, Machine}
 use Rattle.ledger.specs.Run as Mc
 use Rattle.fork_model.proofs.OperationLaws as Op
 use Rattle.fork_model.proofs.History as Hi
@@ -19,13 +19,14 @@ use Rattle.fork_model.proofs.PopLaws as Pl
 use Rattle.fork_model.proofs.FlushLaws as Fu
 use Rattle.fork_model.proofs.FlipLaws as Fl
 use Rattle.fork_model.proofs.Search as Se
+use Rattle.fork_model.proofs.Results.{result-of, keeping, result-keeping, keeping-leaves}
 
 -- the operations on balances
 pub record Balances : Type 1 where
   pub Bal : Type 0
   pub noBal : Parent → Bal
-  pub add : Bal → ℤ → Tokens → Res Bal
-  pub sub : Bal → ℤ → Tokens → Res Bal
+  pub add : Bal → ℤ → Tokens → Made Bal Bal
+  pub sub : Bal → ℤ → Tokens → Made Bal Bal
   pub nanoOf : Bal → ℤ
   pub amountOf : Bal → TokenId → ℤ
 
@@ -34,11 +35,11 @@ module _ (E : St.Env) (B : Balances) where
   machine = record {
     Store = St.Store E;
     empty = St.noStore E;
-    doAppend = St.doAppend E;
-    doPop = St.doPop E;
-    doSpend = St.doSpend E;
-    doUnspend = St.doUnspend E;
-    doFlush = St.doFlush E;
+    doAppend = λ σ ch n. keeping σ (St.doAppend E σ ch n);
+    doPop = λ σ ch. keeping σ (St.doPop E σ ch);
+    doSpend = λ σ p t. keeping σ (St.doSpend E σ p t);
+    doUnspend = λ σ p t. keeping σ (St.doUnspend E σ p t);
+    doFlush = λ σ. keeping σ (St.doFlush E σ);
     entries = St.entries E;
     StagingFull = St.StagingFull E;
     DeletionFull = St.DeletionFull E;
@@ -55,31 +56,42 @@ module _ (E : St.Env) (B : Balances) where
   }
 
   pub record BalanceLaws (GoodB : B .Bal → Type 0) : Type 0 where
+    pub credits : (b : B .Bal) (n : ℤ) (ts : Tokens) → Leaves b (B .add b n ts)
+    pub debits : (b : B .Bal) (n : ℤ) (ts : Tokens) → Leaves b (B .sub b n ts)
     pub no-good : (p : Parent) → GoodB (B .noBal p)
     pub no-nano : (p : Parent) → B .nanoOf (B .noBal p) ≡ pos 0
     pub no-amount : (p : Parent) (t : TokenId) → B .amountOf (B .noBal p) t ≡ pos 0
-    pub add-ok : (b : B .Bal) (n : ℤ) (ts : Tokens) (b′ : B .Bal) → GoodB b → Paid n ts → B .add b n ts ≡ done b′ → GoodB b′ × Op.Grew machine b n ts b′
+    pub add-ok : (b : B .Bal) (n : ℤ) (ts : Tokens) (b′ : B .Bal) → GoodB b → Paid n ts → result-of (B .add b n ts) ≡ done b′ → GoodB b′ × Op.Grew machine b n ts b′
     pub sub-ok : (b : B .Bal) (n : ℤ) (ts : Tokens) (b′ : B .Bal) → GoodB b → Paid n ts → n ≤ℤ B .nanoOf b → ((t : TokenId) → sumOf t ts ≤ℤ B .amountOf b t)
-        → B .sub b n ts ≡ done b′ → GoodB b′ × Op.Shrank machine b n ts b′
-    pub add-back : (b₀ : B .Bal) (n : ℤ) (ts : Tokens) (b : B .Bal) → GoodB b₀ → GoodB b → Paid n ts → Op.Shrank machine b₀ n ts b → (b′ : B .Bal) × (B .add b n ts ≡ done b′) × GoodB b′ × Op.Alike machine b₀ b′
-    pub sub-back : (b₀ : B .Bal) (n : ℤ) (ts : Tokens) (b : B .Bal) → GoodB b₀ → GoodB b → Paid n ts → Op.Grew machine b₀ n ts b → (b′ : B .Bal) × (B .sub b n ts ≡ done b′) × GoodB b′ × Op.Alike machine b₀ b′
+        → result-of (B .sub b n ts) ≡ done b′ → GoodB b′ × Op.Shrank machine b n ts b′
+    pub add-back : (b₀ : B .Bal) (n : ℤ) (ts : Tokens) (b : B .Bal) → GoodB b₀ → GoodB b → Paid n ts → Op.Shrank machine b₀ n ts b → (b′ : B .Bal) × (result-of (B .add b n ts) ≡ done b′) × GoodB b′ × Op.Alike machine b₀ b′
+    pub sub-back : (b₀ : B .Bal) (n : ℤ) (ts : Tokens) (b : B .Bal) → GoodB b₀ → GoodB b → Paid n ts → Op.Grew machine b₀ n ts b → (b′ : B .Bal) × (result-of (B .sub b n ts) ≡ done b′) × GoodB b′ × Op.Alike machine b₀ b′
 
   module _ (code : Gs.Coded E) (GoodB : B .Bal → Type 0) (BL : BalanceLaws GoodB) where
     pub store-laws : (U : Series → ℕ → Type 0) → Mc.KeysApart machine U → Op.Laws machine U (Gs.Good E code U) (Gs.Tidy E code U) GoodB
     unfolding flat
     store-laws U apart = record {
+      leaves = record {
+        appends = λ σ ch n. keeping-leaves σ (St.doAppend E σ ch n);
+        pops = λ σ ch. keeping-leaves σ (St.doPop E σ ch);
+        spends = λ σ p t. keeping-leaves σ (St.doSpend E σ p t);
+        unspends = λ σ p t. keeping-leaves σ (St.doUnspend E σ p t);
+        flushes = λ σ. keeping-leaves σ (St.doFlush E σ);
+        credits = BL .credits;
+        debits = BL .debits;
+      };
       empty-good = record { full = λ ch s h. absurd (omega arith); used = λ ch s h. absurd (omega arith); kept = λ ch s h i. i; fits = λ ch. omega arith; small = λ ch x t. absurd (List·Memᴰ·not-nil t); oneStaged = tt; oneTable = tt; capStaged = omega arith; capTable = omega arith; capDeleted = omega arith };
       empty-tidy = refl;
       empty-entries = λ ch. refl;
-      append-ok = Al.append-ok E code U apart;
-      pop-ok = Pl.pop-ok E code U apart;
-      pop-no = Pl.pop-no E code U apart;
-      spend-ok = λ σ p t τ G e. let a = Fl.guard-ok E code U apart σ (boxes p) (pos (natAbs t)) t τ G e in
+      append-ok = λ σ ch n τ G t v e u. Al.append-ok E code U apart σ ch n τ G t v (sym (result-keeping σ (St.doAppend E σ ch n)) ∙ e) u;
+      pop-ok = λ σ ch r G e. Pl.pop-ok E code U apart σ ch r G (sym (result-keeping σ (St.doPop E σ ch)) ∙ e);
+      pop-no = λ σ ch k G n e. Pl.pop-no E code U apart σ ch k G n (sym (result-keeping σ (St.doPop E σ ch)) ∙ e);
+      spend-ok = λ σ p t τ G e. let a = Fl.guard-ok E code U apart σ (boxes p) (pos (natAbs t)) t τ G (sym (result-keeping σ (St.doSpend E σ p t)) ∙ e) in
           record { good = a .good; tidy = a .tidy; flip = Se.flip-of-split (natAbs t) (a .split); beside = a .beside };
-      unspend-ok = λ σ p t τ G e. let a = Fl.guard-ok E code U apart σ (boxes p) (negℤ (pos (natAbs t))) t τ G e in
+      unspend-ok = λ σ p t τ G e. let a = Fl.guard-ok E code U apart σ (boxes p) (negℤ (pos (natAbs t))) t τ G (sym (result-keeping σ (St.doUnspend E σ p t)) ∙ e) in
           record { good = a .good; flip = Se.unflip-of-split (natAbs t) (a .split); beside = a .beside };
-      unspend-no = λ σ p t k G S m e. Fl.guard-no E code U apart σ (boxes p) (negℤ (pos (natAbs t))) t k G (Se.sorted-unmap (St.entries E σ (boxes p)) S) (Gs.abs-neg (pos (natAbs t))) m e;
-      flush-ok = Fu.flush-ok E code U apart;
+      unspend-no = λ σ p t k G S m e. Fl.guard-no E code U apart σ (boxes p) (negℤ (pos (natAbs t))) t k G (Se.sorted-unmap (St.entries E σ (boxes p)) S) (Gs.abs-neg (pos (natAbs t))) m (sym (result-keeping σ (St.doUnspend E σ p t)) ∙ e);
+      flush-ok = λ σ τ G e. Fu.flush-ok E code U apart σ τ G (sym (result-keeping σ (St.doFlush E σ)) ∙ e);
       no-good = BL .no-good;
       no-nano = BL .no-nano;
       no-amount = BL .no-amount;

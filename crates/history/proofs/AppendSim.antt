@@ -34,7 +34,7 @@ use Rattle.ledger.specs.Run.{Res, done, refused}
 use Rattle.fork_model.proofs.Store as St
 use Rattle.fork_model.proofs.Store.{andThen}
 use Rattle.fork_model.proofs.Search.{done≢refused}
-use Rattle.fork_model.proofs.Results.{mapRes}
+use Rattle.fork_model.proofs.Results.{mapRes, result-of}
 use Rattle.history.specs.Index.{Part, part, Index, index, kind-of, set-part, with-staged, after-append, id-of, do-append}
 use Rattle.history.proofs.Tables.{Table, tab, put}
 use Rattle.history.proofs.State as S
@@ -87,7 +87,7 @@ module _ (E : Edition) (L : EditionLaws E) (ids : Parent → List ℕ) (caps : C
     row = E .encode kind (take 512 (p .places))
 
     abbrev end : Appending → Res Index
-    end o = after-append b ch (o .answer) (o .head) (o .staged)
+    end o = result-of (after-append b ch (o .answer) (o .head) (o .staged))
 
     abbrev no-append : ℕ → Appending
     no-append k = appending (Refused k) (p .places) l
@@ -162,7 +162,7 @@ module _ (E : Edition) (L : EditionLaws E) (ids : Parent → List ℕ) (caps : C
         by-count (pos m) (leb 2147483647 spills) (omega (arith, ltb-false len 512 e, hf .len-in)) refl
         ∙ sym (ite-no (decLe (length (abs b .heads ch)) 511) _ _ (λ h. omega (arith, long, ltb-false len 512 e)))
 
-    pub append-same : (n : ℤ) → mapRes abs (do-append E ids b ch n) ≡ St.doAppend W (abs b) ch n
+    pub append-same : (n : ℤ) → mapRes abs (result-of (do-append E ids b ch n)) ≡ St.doAppend W (abs b) ch n
     unfolding append-of append-core
     append-same (negsuc k) = rw (ok, I .not-below ch)
     append-same (pos m) = rw (ok, I .not-below ch) (by-len m (ltb len 512) refl)
@@ -220,6 +220,6 @@ module _ (E : Edition) (L : EditionLaws E) (ids : Parent → List ℕ) (caps : C
     keeps-sign n true = no-keeps 17
     keeps-sign n false = keeps-len n (ltb len 512) refl
 
-    pub append-inv : (n : ℤ) (d : Index) → do-append E ids b ch n ≡ done d → S.Inv E ids caps d
+    pub append-inv : (n : ℤ) (d : Index) → result-of (do-append E ids b ch n) ≡ done d → S.Inv E ids caps d
     unfolding append-of append-core
     append-inv n d e = keeps-sign n (is-negative n) d (rw (ok, I .not-below ch) at e)

@@ -50,7 +50,7 @@ use Rattle.fork_model.proofs.GoodStore as Gs
 use Rattle.fork_model.proofs.Search as Se
 use Rattle.fork_model.proofs.Search.{done≢refused}
 use Rattle.fork_model.proofs.Table.{orElse}
-use Rattle.fork_model.proofs.Results.{mapRes}
+use Rattle.fork_model.proofs.Results.{mapRes, result-of}
 use Rattle.history.specs.Index.{Part, part, Index, index, set-part, with-staged, after-flip, to-res, sources-of, do-flip}
 use Rattle.history.proofs.Tables.{tab, put, lookup-is, row-opt}
 use Rattle.history.proofs.Tables as Tab
@@ -113,7 +113,7 @@ module _ (E : Edition) (L : EditionLaws E) (ids : Parent → List ℕ) (caps : C
     cap = c .capacity
 
     abbrev end : Effect → Res Index
-    end e = let o = done-by E e c (q .places) (x .staged) in after-flip b (boxes p) (o .answer) (o .head) (o .staged)
+    end e = let o = done-by E e c (q .places) (x .staged) in result-of (after-flip b (boxes p) (o .answer) (o .head) (o .staged))
 
     abbrev rd : ℕ → Res (List ℤ)
     rd n = St.readRow W (abs b) (boxes p) n
@@ -379,12 +379,12 @@ module _ (E : Edition) (L : EditionLaws E) (ids : Parent → List ℕ) (caps : C
       pub same : mapRes abs X ≡ Y
       pub keeps : (d : Index) → X ≡ done d → S.Inv E ids caps d
 
-    flip-does : (d : Direction) (z : ℤ) → FlipDoes (do-flip E ids d b p z) (ite (decLe 9223372036854775808 (natAbs z)) (refused 9) (St.doFlip W (abs b) (boxes p) (copyOf (spends d) (natAbs z))))
+    flip-does : (d : Direction) (z : ℤ) → FlipDoes (result-of (do-flip E ids d b p z)) (ite (decLe 9223372036854775808 (natAbs z)) (refused 9) (St.doFlip W (abs b) (boxes p) (copyOf (spends d) (natAbs z))))
     unfolding flip-of flip-core
     flip-does d z = rw ok (record { same = effect-does z d .same; keeps = effect-does z d .keeps })
 
-    pub spend-does : (z : ℤ) → FlipDoes (do-flip E ids Spend b p z) (St.doSpend W (abs b) p z)
+    pub spend-does : (z : ℤ) → FlipDoes (result-of (do-flip E ids Spend b p z)) (St.doSpend W (abs b) p z)
     spend-does z = flip-does Spend z
 
-    pub unspend-does : (z : ℤ) → FlipDoes (do-flip E ids Unspend b p z) (St.doUnspend W (abs b) p z)
+    pub unspend-does : (z : ℤ) → FlipDoes (result-of (do-flip E ids Unspend b p z)) (St.doUnspend W (abs b) p z)
     unspend-does z = flip-does Unspend z

@@ -35,7 +35,7 @@ use Rattle.ledger.specs.Ledger.{Parent, Series, ite}
 use Rattle.ledger.specs.Run.{Res, done, refused}
 use Rattle.fork_model.proofs.Store as St
 use Rattle.fork_model.proofs.Search.{done≢refused}
-use Rattle.fork_model.proofs.Results.{mapRes}
+use Rattle.fork_model.proofs.Results.{mapRes, result-of}
 use Rattle.history.specs.Index.{Index, index, after-flush, do-flush}
 use Rattle.history.proofs.Tables.{Bytes, Table, tab, put, remove, in-dec, ite-in, writeAll, removeAll, fresh, fresh-is}
 use Rattle.history.proofs.State as S
@@ -198,7 +198,7 @@ module _ (E : Edition) (L : EditionLaws E) (ids : Parent → List ℕ) (caps : C
     new = new-keys E x
 
     abbrev end : Flushing → Res Index
-    end o = after-flush b (o .answer) (o .table) (o .staged) (o .deleted)
+    end o = result-of (after-flush b (o .answer) (o .table) (o .staged) (o .deleted))
 
     abbrev refuse : Flushing
     refuse = flushing (Refused 22) (x .table) (x .staged) (x .deleted)
@@ -243,7 +243,7 @@ module _ (E : Edition) (L : EditionLaws E) (ids : Parent → List ℕ) (caps : C
         sym (ite-yes (decLt (caps .table) (length (abs b .table) + fresh (abs b .staging) (abs b .deletion) (abs b .table))) (refused 22) (done (St.flushed W (abs b)))
         (omega (arith, fresh-same, I .table-at, lf .in-table .bounds .counted)))
 
-    pub flush-same : mapRes abs (do-flush E ids b) ≡ St.doFlush W (abs b)
+    pub flush-same : mapRes abs (result-of (do-flush E ids b)) ≡ St.doFlush W (abs b)
     unfolding flush-of flush-core
     flush-same = rw (I .lists-in) (by-room (leb new (x .table-counts .capacity - x .table-counts .count)) refl)
 
@@ -273,6 +273,6 @@ module _ (E : Edition) (L : EditionLaws E) (ids : Parent → List ℕ) (caps : C
     by-keeps true e d q = keeps-done d (leb-true new (x .table-counts .capacity - x .table-counts .count) e) q
     by-keeps false e d q = absurd (done≢refused (sym q))
 
-    pub flush-inv : (d : Index) → do-flush E ids b ≡ done d → S.Inv E ids caps d
+    pub flush-inv : (d : Index) → result-of (do-flush E ids b) ≡ done d → S.Inv E ids caps d
     unfolding flush-of flush-core
     flush-inv d e = by-keeps (leb new (x .table-counts .capacity - x .table-counts .count)) refl d (rw (I .lists-in) at e)

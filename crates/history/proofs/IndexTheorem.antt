@@ -1,5 +1,5 @@
 -- The fork-undo theorem of the index in bytes, for any edition that keeps its laws and any balances that keep theirs.
-use mathlib.Core.Path.{_≡_, refl, ap}
+use mathlib.Core.Path.{_≡_, refl, sym, ap, _∙_}
 use mathlib.Core.List.{List}
 use Prim.Native.Nat.{ℕ, _*_, _≤_}
 use native.Mathlib.Omega.{arith}
@@ -21,12 +21,14 @@ use Rattle.fork_model.proofs.Store as St
 use Rattle.fork_model.proofs.GoodStore as Gs
 use Rattle.fork_model.proofs.FlushLaws as Fl
 use Rattle.fork_model.proofs.Whole as Wh
+use Rattle.fork_model.proofs.Results.{result-of, result-keeping}
 use Rattle.history.specs.Index.{Index, kind-of, to-res, do-flush}
 use Rattle.history.specs.Machine.{Borrowed, none-of, start}
 use Rattle.history.specs.ForkUndo.{Places, index-machine}
 use Rattle.history.proofs.State as S
 use Rattle.history.proofs.State.{EditionLaws, Capacities, fit-head}
 use Rattle.history.proofs.Lists.{length-table}
+use Rattle.history.proofs.RefusalLaws.{refusals-leave}
 use Rattle.history.proofs.Sim as Sm
 use Rattle.history.proofs.AppendSim as Ap
 use Rattle.history.proofs.PopSim as Po
@@ -93,36 +95,37 @@ module _ (E : Edition) (L : EditionLaws E) (ids : Parent → List ℕ) (B : Borr
 
   pub sims : (U : Series → ℕ → Type 0) → Sm.Sims M N abs Inv (Gs.Good W code U)
   sims U = record {
+    leaves = refusals-leave E ids B s;
     start = start-same;
     start-inv = start-inv;
     shows = λ b I ch. Po.shows E ids caps b ch;
     staging-full = λ b I h. omega (arith, length-table (E .size) (b .lists .staged-counts .count) (b .lists .staged), I .staged-at);
     deletion-full = λ b I h. omega (arith, length-keys 32 (b .lists .deleted-counts .count) (b .lists .deleted), I .deleted-at);
     append = λ b ch n I G. record {
-      same = Ap.append-same E L ids caps b ch I (G .small ch) n;
+      same = Ap.append-same E L ids caps b ch I (G .small ch) n ∙ sym (result-keeping (abs b) (St.doAppend W (abs b) ch n));
       keeps = λ d e. Ap.append-inv E L ids caps b ch I (G .small ch) n d e;
     };
     pop = λ b ch I G. record {
-      same = Po.pop-same E L ids caps b ch I;
+      same = Po.pop-same E L ids caps b ch I ∙ sym (result-keeping (abs b) (St.doPop W (abs b) ch));
       keeps = λ d e. Po.pop-inv E L ids caps b ch I d e;
     };
     spend = λ b p t I G.
         let D = Fp.spend-does E L ids caps b p I (G .small (boxes p)) (G .full (boxes p)) t in
-        record { same = D .same; keeps = D .keeps };
+        record { same = D .same ∙ sym (result-keeping (abs b) (St.doSpend W (abs b) p t)); keeps = D .keeps };
     unspend = λ b p t I G.
         let D = Fp.unspend-does E L ids caps b p I (G .small (boxes p)) (G .full (boxes p)) t in
-        record { same = D .same; keeps = D .keeps };
+        record { same = D .same ∙ sym (result-keeping (abs b) (St.doUnspend W (abs b) p t)); keeps = D .keeps };
     flush = λ b I G. record {
-      same = Fu.flush-same E L ids caps b I;
+      same = Fu.flush-same E L ids caps b I ∙ sym (result-keeping (abs b) (St.doFlush W (abs b)));
       keeps = λ d e. Fu.flush-inv E L ids caps b I d e;
     };
   }
 
   -- after a flush the segments table has no row under a key that was deleted
-  pub flush-deletes : (U : Series → ℕ → Type 0) → Mc.KeysApart M U → (b d : Index) → Inv b → Gs.Good W code U (abs b) → do-flush E ids b ≡ done d
+  pub flush-deletes : (U : Series → ℕ → Type 0) → Mc.KeysApart M U → (b d : Index) → Inv b → Gs.Good W code U (abs b) → result-of (do-flush E ids b) ≡ done d
       → (k : List ℕ) → Gs.In W code k (abs b .deletion) → Tb.Absent (List ℕ) (List ℕ) id-dec k (abs d .table)
   flush-deletes U apart b d I G e k h =
-      Fl.flush-deletes W code U apart (abs b) (abs d) G (Sm.map-keeps-done abs (do-flush E ids b) d (St.doFlush W (abs b)) (sims U .flush b I G .same) e) k h
+      Fl.flush-deletes W code U apart (abs b) (abs d) G (Sm.map-keeps-done abs (result-of (do-flush E ids b)) d (St.doFlush W (abs b)) (Fu.flush-same E L ids caps b I) e) k h
 
   -- the index in bytes, with balances
   abbrev pub machine : Mc.Machine

@@ -6,6 +6,7 @@ pub mod PopSim
 pub mod FlushSim
 pub mod FlipLists
 pub mod FlipSim
+pub mod RefusalLaws
 pub mod Sim
 pub mod IndexTheorem
 pub mod EditionOne

@@ -41,7 +41,7 @@ use Rattle.fork_model.proofs.Store as St
 use Rattle.fork_model.proofs.Store.{andThen, Ends, nothing, ends, unsnoc, consEnd}
 use Rattle.fork_model.proofs.Table.{orElse}
 use Rattle.fork_model.proofs.Search.{done≢refused}
-use Rattle.fork_model.proofs.Results.{mapRes, mapPop}
+use Rattle.fork_model.proofs.Results.{mapRes, mapPop, result-of}
 use Rattle.history.specs.Index.{Part, part, Index, index, kind-of, set-part, after-pop, to-res, id-of, do-pop, sources-of, row-of-spill, entries-of}
 use Rattle.history.proofs.Tables.{Bytes, tab, remove, lookup-is, row-opt, in-dec}
 use Rattle.history.proofs.State as S
@@ -137,7 +137,7 @@ module _ (E : Edition) (L : EditionLaws E) (ids : Parent → List ℕ) (caps : C
     kind = kind-of ch
 
     abbrev end : Popping → Res (Mc.Popped Index)
-    end o = after-pop b ch (o .answer) (o .head) (o .staged) (o .deleted)
+    end o = result-of (after-pop b ch (o .answer) (o .head) (o .staged) (o .deleted))
 
     abbrev no-pop : ℕ → Popping
     no-pop k = popping (Refused k) (p .places) (x .staged) (x .deleted)
@@ -287,7 +287,7 @@ module _ (E : Edition) (L : EditionLaws E) (ids : Parent → List ℕ) (caps : C
         let z : 0 ≡ len = omega (arith, ltb-false 0 len e) in
         by-spills (natAbs (p .head .spills)) (eqb (natAbs (p .head .spills)) 0) refl ∙ ap (λ (n : ℕ). St.popFrom W (abs b) ch (unsnoc (take n (p .places)))) z
 
-    pub pop-same : mapRes (mapPop abs) (do-pop E ids b ch) ≡ St.doPop W (abs b) ch
+    pub pop-same : mapRes (mapPop abs) (result-of (do-pop E ids b ch)) ≡ St.doPop W (abs b) ch
     unfolding pop-of pop-core
     pop-same = rw (ok, I .not-below ch) (by-len (ltb 0 len) refl)
 
@@ -307,6 +307,6 @@ module _ (E : Edition) (L : EditionLaws E) (ids : Parent → List ℕ) (caps : C
     keeps-len true e = last-keeps (ltb-true 0 len e)
     keeps-len false e = keeps-spills (natAbs (p .head .spills)) (eqb (natAbs (p .head .spills)) 0) (I .spills-in ch)
 
-    pub pop-inv : (d : Mc.Popped Index) → do-pop E ids b ch ≡ done d → S.Inv E ids caps (d .left)
+    pub pop-inv : (d : Mc.Popped Index) → result-of (do-pop E ids b ch) ≡ done d → S.Inv E ids caps (d .left)
     unfolding pop-of pop-core
     pop-inv d e = keeps-len (ltb 0 len) refl d (rw (ok, I .not-below ch) at e)

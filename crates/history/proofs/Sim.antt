@@ -4,11 +4,11 @@ use mathlib.Core.List.{[], _∷_, _++_}
 use Prim.Native.Nat.{ℕ}
 use lib.IntN.{ℤ}
 use Rattle.ledger.specs.Ledger.{Parent, Series, boxes}
-use Rattle.ledger.specs.Run.{Res, done, refused, Popped, Machine}
+use Rattle.ledger.specs.Run.{Res, done, refused, Made, Popped, Machine, RefusalsLeave}
 use Rattle.ledger.specs.Run as Mc
 use Rattle.fork_model.proofs.OperationLaws as Op
 use Rattle.fork_model.proofs.History as Hi
-use Rattle.fork_model.proofs.Results.{mapRes, mapPop}
+use Rattle.fork_model.proofs.Results.{mapRes, mapPop, result-of}
 
 pub map-keeps-done : {A B : Type 0} (f : A → B) (X : Res A) (a : A) (Y : Res B) → mapRes f X ≡ Y → X ≡ done a → Y ≡ done (f a)
 map-keeps-done f X a Y e q = sym e ∙ ap (mapRes f) q
@@ -44,15 +44,16 @@ module _ (M N : Machine) where
 
   module _ (abs : N .Store → M .Store) (Inv : N .Store → Type 0) (Good : M .Store → Type 0) where
     -- an operation does what that of M does, and keeps Inv
-    pub record Does (X : Res (N .Store)) (Y : Res (M .Store)) : Type 0 where
-      pub same : mapRes abs X ≡ Y
-      pub keeps : (c : N .Store) → X ≡ done c → Inv c
+    pub record Does (X : Made (N .Store) (N .Store)) (Y : Made (M .Store) (M .Store)) : Type 0 where
+      pub same : mapRes abs (result-of X) ≡ result-of Y
+      pub keeps : (c : N .Store) → result-of X ≡ done c → Inv c
 
-    pub record DoesPop (X : Res (Popped (N .Store))) (Y : Res (Popped (M .Store))) : Type 0 where
-      pub same : mapRes (mapPop abs) X ≡ Y
-      pub keeps : (c : Popped (N .Store)) → X ≡ done c → Inv (c .left)
+    pub record DoesPop (X : Made (N .Store) (Popped (N .Store))) (Y : Made (M .Store) (Popped (M .Store))) : Type 0 where
+      pub same : mapRes (mapPop abs) (result-of X) ≡ result-of Y
+      pub keeps : (c : Popped (N .Store)) → result-of X ≡ done c → Inv (c .left)
 
     pub record Sims : Type 0 where
+      pub leaves : RefusalsLeave N
       pub start : abs (N .empty) ≡ M .empty
       pub start-inv : Inv (N .empty)
       pub shows : (b : N .Store) → Inv b → (ch : Series) → N .entries b ch ≡ M .entries (abs b) ch
@@ -70,6 +71,15 @@ module _ (M N : Machine) where
     module _ (U : Series → ℕ → Type 0) (Tidy : M .Store → Type 0) (GoodB : M .Bal → Type 0) (L : Op.Laws M U Good Tidy GoodB) (S : Sims) where
       pub lower-laws : Op.Laws lower U Fine (λ b. Tidy (abs b)) GoodB
       lower-laws = record {
+        leaves = record {
+          appends = S .leaves .appends;
+          pops = S .leaves .pops;
+          spends = S .leaves .spends;
+          unspends = S .leaves .unspends;
+          flushes = S .leaves .flushes;
+          credits = L .leaves .credits;
+          debits = L .leaves .debits;
+        };
         empty-good = (S .start-inv, subst Good (sym (S .start)) (L .empty-good));
         empty-tidy = subst Tidy (sym (S .start)) (L .empty-tidy);
         empty-entries = λ ch. S .shows (N .empty) (S .start-inv) ch ∙ ap (λ x. M .entries x ch) (S .start) ∙ L .empty-entries ch;
@@ -78,42 +88,42 @@ module _ (M N : Machine) where
             let I = s .keeps c e in
             let f = S .shows b (G .0) in
             let g = S .shows c I in
-            let a = L .append-ok (abs b) ch n (abs c) (G .1) t v (map-keeps-done abs (N .doAppend b ch n) c (M .doAppend (abs b) ch n) (s .same) e) (rw (← f ch) u) in
+            let a = L .append-ok (abs b) ch n (abs c) (G .1) t v (map-keeps-done abs (result-of (N .doAppend b ch n)) c (result-of (M .doAppend (abs b) ch n)) (s .same) e) (rw (← f ch) u) in
             record { good = (I, a .good); tidy = a .tidy; nonneg = a .nonneg; grown = g ch ∙ a .grown ∙ ap (λ l. l ++ (n ∷ [])) (sym (f ch)); beside = λ d q. g d ∙ a .beside d q ∙ sym (f d) };
         pop-ok = λ b ch c G e.
             let s = S .pop b ch (G .0) (G .1) in
             let I = s .keeps c e in
             let f = S .shows b (G .0) in
             let g = S .shows (c .left) I in
-            let a = L .pop-ok (abs b) ch (mapPop abs c) (G .1) (map-keeps-done (mapPop abs) (N .doPop b ch) c (M .doPop (abs b) ch) (s .same) e) in
+            let a = L .pop-ok (abs b) ch (mapPop abs c) (G .1) (map-keeps-done (mapPop abs) (result-of (N .doPop b ch)) c (result-of (M .doPop (abs b) ch)) (s .same) e) in
             record { good = (I, a .good); last = f ch ∙ a .last ∙ ap (λ l. l ++ (c .value ∷ [])) (sym (g ch)); beside = λ d q. g d ∙ a .beside d q ∙ sym (f d) };
         pop-no = λ b ch k G n e.
             let s = S .pop b ch (G .0) (G .1) in
-            let a = L .pop-no (abs b) ch k (G .1) (λ q. n (S .shows b (G .0) ch ∙ q)) (map-keeps-refused (mapPop abs) (N .doPop b ch) k (M .doPop (abs b) ch) (s .same) e) in
+            let a = L .pop-no (abs b) ch k (G .1) (λ q. n (S .shows b (G .0) ch ∙ q)) (map-keeps-refused (mapPop abs) (result-of (N .doPop b ch)) k (result-of (M .doPop (abs b) ch)) (s .same) e) in
             (a .0, S .deletion-full b (G .0) (a .1));
         spend-ok = λ b p t c G e.
             let s = S .spend b p t (G .0) (G .1) in
             let I = s .keeps c e in
             let f = S .shows b (G .0) in
             let g = S .shows c I in
-            let a = L .spend-ok (abs b) p t (abs c) (G .1) (map-keeps-done abs (N .doSpend b p t) c (M .doSpend (abs b) p t) (s .same) e) in
+            let a = L .spend-ok (abs b) p t (abs c) (G .1) (map-keeps-done abs (result-of (N .doSpend b p t)) c (result-of (M .doSpend (abs b) p t)) (s .same) e) in
             record { good = (I, a .good); tidy = a .tidy; flip = rw (f (boxes p), g (boxes p)) (a .flip); beside = λ d q. g d ∙ a .beside d q ∙ sym (f d) };
         unspend-ok = λ b p t c G e.
             let s = S .unspend b p t (G .0) (G .1) in
             let I = s .keeps c e in
             let f = S .shows b (G .0) in
             let g = S .shows c I in
-            let a = L .unspend-ok (abs b) p t (abs c) (G .1) (map-keeps-done abs (N .doUnspend b p t) c (M .doUnspend (abs b) p t) (s .same) e) in
+            let a = L .unspend-ok (abs b) p t (abs c) (G .1) (map-keeps-done abs (result-of (N .doUnspend b p t)) c (result-of (M .doUnspend (abs b) p t)) (s .same) e) in
             record { good = (I, a .good); flip = rw (f (boxes p), g (boxes p)) (a .flip); beside = λ d q. g d ∙ a .beside d q ∙ sym (f d) };
         unspend-no = λ b p t k G T m e.
             let s = S .unspend b p t (G .0) (G .1) in
             let f = S .shows b (G .0) (boxes p) in
-            let a = L .unspend-no (abs b) p t k (G .1) (rw (← f) T) (rw (← f) m) (map-keeps-refused abs (N .doUnspend b p t) k (M .doUnspend (abs b) p t) (s .same) e) in
+            let a = L .unspend-no (abs b) p t k (G .1) (rw (← f) T) (rw (← f) m) (map-keeps-refused abs (result-of (N .doUnspend b p t)) k (result-of (M .doUnspend (abs b) p t)) (s .same) e) in
             (a .0, S .staging-full b (G .0) (a .1));
         flush-ok = λ b c G e.
             let s = S .flush b (G .0) (G .1) in
             let I = s .keeps c e in
-            let a = L .flush-ok (abs b) (abs c) (G .1) (map-keeps-done abs (N .doFlush b) c (M .doFlush (abs b)) (s .same) e) in
+            let a = L .flush-ok (abs b) (abs c) (G .1) (map-keeps-done abs (result-of (N .doFlush b)) c (result-of (M .doFlush (abs b))) (s .same) e) in
             record { good = (I, a .good); tidy = a .tidy; same = λ ch. S .shows c I ch ∙ a .same ch ∙ sym (S .shows b (G .0) ch) };
         no-good = L .no-good;
         no-nano = L .no-nano;

@@ -18,7 +18,7 @@ use Rattle.buffer_core.specs.Pop.{lists, pop-of, pop-ok, pop-core, lists-ok}
 use Rattle.buffer_core.specs.Flip.{flip-of, flip-ok, flip-core, flip-effect, in-order, in-rows, search-by, walk-from}
 use Rattle.buffer_core.specs.Flush.{flush-of, flush-core, flushed, table-after, put-undeleted, put-staged, remove-key, remove-keys, new-count}
 use Rattle.ledger.specs.Ledger.{Parent, ite, series-dec, Call}
-use Rattle.ledger.specs.Run.{Res, done, refused, Machine, Step, undo, flush, State, Undone, start, run, runUndo, StepsOk, flat}
+use Rattle.ledger.specs.Run.{Made, accepted, refused-leaving, Machine, Step, undo, flush, State, Undone, start, run, runUndo, StepsOk, flat}
 use Rattle.fork_model.proofs.SmallHistories.{append-box, spend-box, boxes-after}
 use Rattle.history.specs.Index.{Index, index, part, do-flush}
 use Rattle.history.specs.Machine.{Borrowed}
@@ -45,9 +45,9 @@ module _ (s : Parent → Places) where
   M = index-machine edition-1 (λ p. []) heads-only s
 
   -- what the undo of the newest standing call answers, after the steps
-  abbrev answer-of : Res (Undone M) → List ℤ
-  answer-of (done u) = u .answer
-  answer-of (refused k) = []
+  abbrev answer-of : Made (State M) (Undone M) → List ℤ
+  answer-of (accepted u) = u .answer
+  answer-of (refused-leaving k σ) = []
 
   abbrev answer-to : State M → List Call → List ℤ
   answer-to σ [] = []
@@ -95,9 +95,9 @@ deleted-row =
     index (λ ch. part (counts-of 0 (pos 0)) [])
     (lists (record { count = 1; capacity = 1 }) (replicate 36 0) (record { count = 0; capacity = 1 }) (replicate 36 0) (record { count = 1; capacity = 1 }) (replicate 32 0))
 
-abbrev rows-in-table : Res Index → ℕ
-rows-in-table (done b) = b .lists .table-counts .count
-rows-in-table (refused k) = k
+abbrev rows-in-table : Made Index Index → ℕ
+rows-in-table (accepted b) = b .lists .table-counts .count
+rows-in-table (refused-leaving k b) = k
 
 pub deleted-row-left-out : rows-in-table (do-flush short-records (λ p. []) deleted-row) ≡ 0
 unfolding flush-of flush-core flushed table-after put-undeleted put-staged remove-key remove-keys new-count lists-ok records-ok keys-ok lengths-ok distinct records find-from same-bytes

@@ -66,3 +66,7 @@ module _ (E : Edition) (ids : Parent → List ℕ) (B : Borrowed E) (s : Parent 
 -- "Only the list writes parents and buffers"; that "25 never arises" is part of the proof (Inv of proofs/State.antt)
 abbrev pub Theorem : Type 0
 Theorem = (ids : Parent → List ℕ) (B : Borrowed edition-1) (s : Parent → Places) → Run.ForkUndo (index-machine edition-1 ids B s)
+
+-- "A refusal .. changes nothing": a step starts from what the one before left in parts, lists and balances, and where that one was refused, it is what was there
+abbrev pub Refusals : Type 0
+Refusals = (ids : Parent → List ℕ) (B : Borrowed edition-1) (s : Parent → Places) → Run.RefusalsLeave (index-machine edition-1 ids B s)

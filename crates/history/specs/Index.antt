@@ -26,7 +26,7 @@ use Rattle.buffer_core.specs.Pop.{Popping, Lists, lists, pop-of}
 use Rattle.buffer_core.specs.Flip.{Flipping, flip-of}
 use Rattle.buffer_core.specs.Flush.{Flushing, flush-of}
 use Rattle.ledger.specs.Ledger.{Parent, Series, boxes, txs, parentOf, series-dec, ite}
-use Rattle.ledger.specs.Run.{Res, done, refused}
+use Rattle.ledger.specs.Run.{Res, done, refused, Made, accepted, refused-leaving}
 use Rattle.ledger.specs.Run as Mc
 
 -- a parent's list of one kind: its counts beside the places that are borrowed
@@ -55,26 +55,32 @@ set-part f ch v d = ite (series-dec ch d) v (f d)
 abbrev pub with-staged : ListCounts → List ℕ → Lists → Lists
 with-staged c staged b = lists c staged (b .table-counts) (b .table) (b .deleted-counts) (b .deleted)
 
--- ---- the index after each call's answer
-abbrev pub after-append : Index → Series → Appended → List ℤ → List ℕ → Res Index
-after-append b ch (appended.Done h c) head staged = done (index (set-part (b .parts) ch (part h head)) (with-staged c staged (b .lists)))
-after-append b ch (appended.Refused code) head staged = refused code
+-- ---- the index after each call: the counts that an accepted call answers (a refused one answers none, so they stay), and the places and bytes that the
+-- definition leaves, accepted or refused
+abbrev pub after-append : Index → Series → Appended → List ℤ → List ℕ → Made Index Index
+after-append b ch (appended.Done h c) head staged = accepted (index (set-part (b .parts) ch (part h head)) (with-staged c staged (b .lists)))
+after-append b ch (appended.Refused code) head staged =
+    refused-leaving code (index (set-part (b .parts) ch (part (b .parts ch .head) head)) (with-staged (b .lists .staged-counts) staged (b .lists)))
 
-abbrev pub after-pop : Index → Series → Popped → List ℤ → (staged deleted : List ℕ) → Res (Mc.Popped Index)
+abbrev pub after-pop : Index → Series → Popped → List ℤ → (staged deleted : List ℕ) → Made Index (Mc.Popped Index)
 after-pop b ch (popped.Number n h c d) head staged deleted =
-    done (record {
+    accepted (record {
       left = index (set-part (b .parts) ch (part h head)) (lists c staged (b .lists .table-counts) (b .lists .table) d deleted);
       value = n;
     })
-after-pop b ch (popped.Refused code) head staged deleted = refused code
+after-pop b ch (popped.Refused code) head staged deleted =
+    refused-leaving code (index (set-part (b .parts) ch (part (b .parts ch .head) head))
+    (lists (b .lists .staged-counts) staged (b .lists .table-counts) (b .lists .table) (b .lists .deleted-counts) deleted))
 
-abbrev pub after-flip : Index → Series → Flipped → List ℤ → List ℕ → Res Index
-after-flip b ch (flipped.Done c) head staged = done (index (set-part (b .parts) ch (part (b .parts ch .head) head)) (with-staged c staged (b .lists)))
-after-flip b ch (flipped.Refused code) head staged = refused code
+abbrev pub after-flip : Index → Series → Flipped → List ℤ → List ℕ → Made Index Index
+after-flip b ch (flipped.Done c) head staged = accepted (index (set-part (b .parts) ch (part (b .parts ch .head) head)) (with-staged c staged (b .lists)))
+after-flip b ch (flipped.Refused code) head staged =
+    refused-leaving code (index (set-part (b .parts) ch (part (b .parts ch .head) head)) (with-staged (b .lists .staged-counts) staged (b .lists)))
 
-abbrev pub after-flush : Index → Flushed → (table staged deleted : List ℕ) → Res Index
-after-flush b (flushed.Done t c d) table staged deleted = done (index (b .parts) (lists c staged t table d deleted))
-after-flush b (flushed.Refused code) table staged deleted = refused code
+abbrev pub after-flush : Index → Flushed → (table staged deleted : List ℕ) → Made Index Index
+after-flush b (flushed.Done t c d) table staged deleted = accepted (index (b .parts) (lists c staged t table d deleted))
+after-flush b (flushed.Refused code) table staged deleted =
+    refused-leaving code (index (b .parts) (lists (b .lists .staged-counts) staged (b .lists .table-counts) table (b .lists .deleted-counts) deleted))
 
 abbrev pub to-res : RowRead → Res (List ℤ)
 to-res (bad code) = refused code
@@ -87,26 +93,26 @@ module _ (E : Edition) (ids : Parent → List ℕ) where
   abbrev pub appending-to : Index → Series → ℤ → Appending
   appending-to b ch n = append-of E (kind-of ch) (id-of ch) (b .parts ch .head) n (b .lists .staged-counts) (b .parts ch .places) (b .lists .staged)
 
-  abbrev pub do-append : Index → Series → ℤ → Res Index
+  abbrev pub do-append : Index → Series → ℤ → Made Index Index
   do-append b ch n = let o = appending-to b ch n in after-append b ch (o .answer) (o .head) (o .staged)
 
   abbrev pub popping-from : Index → Series → Popping
   popping-from b ch = pop-of E (kind-of ch) (id-of ch) (b .parts ch .head) (b .lists) (b .parts ch .places)
 
-  abbrev pub do-pop : Index → Series → Res (Mc.Popped Index)
+  abbrev pub do-pop : Index → Series → Made Index (Mc.Popped Index)
   do-pop b ch = let o = popping-from b ch in after-pop b ch (o .answer) (o .head) (o .staged) (o .deleted)
 
   abbrev pub flipping-in : Direction → Index → Parent → ℤ → Flipping
   flipping-in d b p t =
       flip-of E d (ids p) (b .parts (boxes p) .head) t (b .lists .staged-counts) (b .lists .staged) (b .lists .table-counts) (b .lists .table) (b .parts (boxes p) .places)
 
-  abbrev pub do-flip : Direction → Index → Parent → ℤ → Res Index
+  abbrev pub do-flip : Direction → Index → Parent → ℤ → Made Index Index
   do-flip d b p t = let o = flipping-in d b p t in after-flip b (boxes p) (o .answer) (o .head) (o .staged)
 
   abbrev pub flushing-of : Index → Flushing
   flushing-of b = flush-of E (b .lists)
 
-  abbrev pub do-flush : Index → Res Index
+  abbrev pub do-flush : Index → Made Index Index
   do-flush b = let o = flushing-of b in after-flush b (o .answer) (o .table) (o .staged) (o .deleted)
 
   -- ---- the entries, "spill 0 up with rows as inspection shows them, then the head"

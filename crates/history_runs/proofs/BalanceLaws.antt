@@ -31,9 +31,10 @@ use Rattle.call_steps.proofs.StateLaws.{kind-few}
 use Rattle.call_steps.proofs.RefusedLaws.{both}
 use Rattle.call_steps.proofs.KeepLaws.{within}
 use Rattle.ledger.specs.Ledger.{Parent, parent-dec, Series, parentOf, ite, Tokens, Typed}
-use Rattle.ledger.specs.Run.{Res}
+use Rattle.ledger.specs.Run.{Made}
 use Rattle.balance_laws.specs.Calls.{ids-of, amounts-of, answered, outcome-of}
 use Rattle.balance_laws.proofs.Turns.{Fits}
+use Rattle.fork_model.proofs.Results.{result-of}
 use Rattle.balance_laws.proofs.Laws.{add-same, sub-same}
 use Rattle.history.specs.Index.{part, index, kind-of}
 use Rattle.history_runs.specs.View.{ids-in, view, balance-in, set-balance, SameBalance, changed, one-token}
@@ -193,14 +194,14 @@ module _ (s : State) (p : ℕ) (w : Within p (s .ids) (s .numbers) (s .lengths) 
         typed : Typed ts
         typed = (length-replicate 32 token, m, tt)
 
-        by-adding : Fits (held-by b) → (t : Bool) → (c : Balance) → changed t b nanos ts ≡ answered Accepted c → Fits (held-by c)
+        by-adding : Fits (held-by b) → (t : Bool) → (c : Balance) → result-of (changed t b nanos ts) ≡ result-of (answered Accepted c) → Fits (held-by c)
         by-adding f true c q = add-same b f nanos ts typed .keeps c q
         by-adding f false c q = sub-same b f nanos ts typed .keeps c q
 
         by-count : Dec (b .count ≤ 128) → Fits (held-by (out .balance))
         by-count (yes f) =
             by-adding (record { few = f; ids-in = ids-long; amounts-in = amounts-long }) adding (out .balance)
-            (sym (as-changed adding) ∙ ap (λ (a : Answer). answered a (out .balance)) e)
+            (ap result-of (sym (as-changed adding) ∙ ap (λ (a : Answer). answered a (out .balance)) e))
         by-count (no f) =
             let o = box-25 adding b nanos (ids-of ts) (amounts-of ts) (length ts) (sym (count-above (b .count) (ids-of ts) (amounts-of ts) (length ts) (omega (arith, f)))) in
             let y : Refused 25 ≡ out .answer = ap (λ (x : Outcome). x .answer) o in
@@ -211,7 +212,7 @@ module _ (s : State) (p : ℕ) (w : Within p (s .ids) (s .numbers) (s .lengths) 
     change-in m =
         subst (λ (o : Outcome). SameBalance s p (of-change (changed-by o p (s .ids) (s .numbers) (s .lengths)) s) (changed adding b nanos ts))
         (ap (λ (l : List ℕ). change-box adding b nanos l (amount ∷ []) 1) (append-nil (replicate 32 token)))
-        (subst (λ (x : Res Balance). SameBalance s p (of-change (changed-by out p (s .ids) (s .numbers) (s .lengths)) s) x) (as-changed adding)
+        (subst (λ (x : Made Balance Balance). SameBalance s p (of-change (changed-by out p (s .ids) (s .numbers) (s .lengths)) s) x) (as-changed adding)
         (by-answer (out .answer) (out .balance) (accepted-fits m) refused-same))
 
 -- in a state that refusal 25 passed, on one of its parents; the amount is a number of 64 signed bits

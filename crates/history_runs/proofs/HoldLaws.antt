@@ -15,18 +15,20 @@ use Rattle.buffer_core.specs.Spills.{sources, spill-read}
 use Rattle.calls.specs.declared.Call.{Call}
 use Rattle.calls.specs.declared.Call.the-variants.{Append, Flip, Pop, Flush, Change}
 use Rattle.call_steps.specs.State.{State, Ready}
-use Rattle.call_steps.specs.Steps.{Stepping, accepted, number-popped, step-of}
+use Rattle.call_steps.specs.Steps.{Stepping, number-popped, step-of}
 use Rattle.call_steps.specs.Steps as steps
 use Rattle.call_steps.proofs.KeepLaws.{step-kept}
 use Rattle.ledger.specs.Ledger.{Parent, parent-dec, Series, boxes, parentOf, Tokens, ite, append, spend, credit, debit, absℤ, amount-in}
 use Rattle.ledger.specs.Ledger as ledger
-use Rattle.ledger.specs.Run.{Res, done, refused, Step, call, undo, flush, flat, negs}
+use Rattle.ledger.specs.Run.{Made, accepted, refused-leaving, Leaves, RefusalsLeave, Step, call, undo, flush, flat, negs}
 use Rattle.ledger.specs.Run as Run
 use Rattle.balance_laws.specs.Calls.{tokens-in}
 use Rattle.history.specs.Index.{Index, kind-of, to-res, entries-of, do-append, do-pop, do-flip, do-flush}
 use Rattle.history.specs.Machine.{Borrowed}
 use Rattle.history.specs.ForkUndo.{Places}
 use Rattle.history.proofs.ForkUndoLaw.{fork-undo}
+use Rattle.history.proofs.RefusalLaws.{flip-leaves, refusals-leave}
+use Rattle.ledger.proofs.LeaveLaws.{paid-back}
 use Rattle.history_runs.specs.View.{ids-in, view, balance-in, Same, SamePop, SameBalance, changed, one-token}
 use Rattle.history_runs.specs.Runs.{made, says, Changes, Makes, Unmakes, UnmakesNewest, M, Holds, Tells, Spells, UndoSaid, StepSaid, StepsSaid, Agrees}
 use Rattle.history_runs.proofs.ViewLaws.{append-same, pop-same, flip-same, flush-same}
@@ -41,24 +43,35 @@ module _ (parents : ℕ) (ids : Parent → List ℕ) (B : Borrowed edition-1) (p
   H σ s = Holds parents ids B places σ s
 
   -- what the runner says and holds after a call, an undo or a flush
-  abbrev After : Run.State W → Stepping → Res (Run.State W) → Type 0
-  After σ x (done τ) = (x .said ≡ accepted) × H τ (x .after)
-  After σ x (refused k) = (x .said ≡ steps.refused k) × H σ (x .after)
+  abbrev After : Stepping → Made (Run.State W) (Run.State W) → Type 0
+  After x (accepted τ) = (x .said ≡ steps.accepted) × H τ (x .after)
+  After x (refused-leaving k τ) = (x .said ≡ steps.refused k) × H τ (x .after)
 
-  abbrev AfterUndo : Run.State W → Stepping → Res (Run.Undone W) → Type 0
-  AfterUndo σ x (done u) = (x .said ≡ says (u .answer)) × H (u .after) (x .after)
-  AfterUndo σ x (refused k) = (x .said ≡ steps.refused k) × H σ (x .after)
+  abbrev AfterUndo : Stepping → Made (Run.State W) (Run.Undone W) → Type 0
+  AfterUndo x (accepted u) = (x .said ≡ says (u .answer)) × H (u .after) (x .after)
+  AfterUndo x (refused-leaving k τ) = (x .said ≡ steps.refused k) × H τ (x .after)
 
-  quiet-after : (σ : Run.State W) (x : Stepping) (R : Res (Run.State W)) → After σ x R → AfterUndo σ x (Run.quiet W R)
-  quiet-after σ x (done τ) a = a
-  quiet-after σ x (refused k) a = a
+  quiet-after : (x : Stepping) (R : Made (Run.State W) (Run.State W)) → After x R → AfterUndo x (Run.quiet W R)
+  quiet-after x (accepted τ) a = a
+  quiet-after x (refused-leaving k τ) a = a
+
+  leaves : RefusalsLeave W
+  leaves = refusals-leave edition-1 ids B places
+
+  changed-leaves : (adding : Bool) (b : Balance) (n : ℤ) (ts : Tokens) → Leaves b (changed adding b n ts)
+  changed-leaves true b n ts = leaves .credits b n ts
+  changed-leaves false b n ts = leaves .debits b n ts
 
   module _ (σ : Run.State W) (s : State) (h : H σ s) where
     near : Near parents (view s) (σ .store)
     near = record { parts = h .parts; lists = h .lists }
 
-    store-after : (x : Stepping) → Ready parents (x .after) → (R Q : Res Index) → Same s x R → NearRes parents R Q → After σ x (Run.withStore W σ Q)
-    store-after x r (done b) (done c) e n =
+    -- a refusal leaves the runner's state and the machine's as they were
+    left : (t : State) (τ : Run.State W) → t ≡ s → τ ≡ σ → H τ t
+    left t τ e q = subst (λ (x : Run.State W). H x t) (sym q) (subst (H σ) (sym e) h)
+
+    store-after : (x : Stepping) → Ready parents (x .after) → (R Q : Made Index Index) → Same s x R → NearRes parents R Q → Leaves (σ .store) Q → After x (Run.withStore W σ Q)
+    store-after x r (accepted b) (accepted c) e n z =
         let v : view (x .after) ≡ b = e .1 in
         let w : balance-in (x .after) ≡ balance-in s = e .2 in
         let i : ids-in (x .after) ≡ ids-in s = e .3 in (
@@ -71,12 +84,12 @@ module _ (parents : ℕ) (ids : Parent → List ℕ) (B : Borrowed edition-1) (p
             balances = λ p l. ap (λ (f : Parent → Balance). f p) w ∙ h .balances p l;
           },
         )
-    store-after x r (done b) (refused k) e n = absurd n
-    store-after x r (refused j) (done c) e n = absurd n
-    store-after x r (refused j) (refused k) e n = (e .0 ∙ ap steps.refused n, subst (H σ) (sym (e .1)) h)
+    store-after x r (accepted b) (refused-leaving k c) e n z = absurd n
+    store-after x r (refused-leaving j b) (accepted c) e n z = absurd n
+    store-after x r (refused-leaving j b) (refused-leaving k c) e n z = (e .0 ∙ ap steps.refused n, left (x .after) (Run.stored W σ c) (e .1) (ap (Run.stored W σ) z))
 
-    pop-after : (x : Stepping) → Ready parents (x .after) → (R Q : Res (Run.Popped Index)) → SamePop s x R → NearPop parents R Q → AfterUndo σ x (Run.popped W σ Q)
-    pop-after x r (done b) (done c) e n =
+    pop-after : (x : Stepping) → Ready parents (x .after) → (R Q : Made Index (Run.Popped Index)) → SamePop s x R → NearPop parents R Q → Leaves (σ .store) Q → AfterUndo x (Run.popped W σ Q)
+    pop-after x r (accepted b) (accepted c) e n z =
         let v : view (x .after) ≡ b .left = e .1 in
         let w : balance-in (x .after) ≡ balance-in s = e .2 in
         let i : ids-in (x .after) ≡ ids-in s = e .3 in (
@@ -89,12 +102,12 @@ module _ (parents : ℕ) (ids : Parent → List ℕ) (B : Borrowed edition-1) (p
             balances = λ p l. ap (λ (f : Parent → Balance). f p) w ∙ h .balances p l;
           },
         )
-    pop-after x r (done b) (refused k) e n = absurd n
-    pop-after x r (refused j) (done c) e n = absurd n
-    pop-after x r (refused j) (refused k) e n = (e .0 ∙ ap steps.refused n, subst (H σ) (sym (e .1)) h)
+    pop-after x r (accepted b) (refused-leaving k c) e n z = absurd n
+    pop-after x r (refused-leaving j b) (accepted c) e n z = absurd n
+    pop-after x r (refused-leaving j b) (refused-leaving k c) e n z = (e .0 ∙ ap steps.refused n, left (x .after) (Run.stored W σ c) (e .1) (ap (Run.stored W σ) z))
 
-    balance-after : (p : Parent) (x : Stepping) → Ready parents (x .after) → (R : Res Balance) → SameBalance s p x R → After σ x (Run.withBal W σ p R)
-    balance-after p x r (done b) e =
+    balance-after : (p : Parent) (x : Stepping) → Ready parents (x .after) → (R : Made Balance Balance) → SameBalance s p x R → Leaves (σ .bals p) R → After x (Run.withBal W σ p R)
+    balance-after p x r (accepted b) e z =
         let w = e .1 in
         let v : view (x .after) ≡ view s = e .2 in
         let i : ids-in (x .after) ≡ ids-in s = e .3 in (
@@ -107,70 +120,71 @@ module _ (parents : ℕ) (ids : Parent → List ℕ) (B : Borrowed edition-1) (p
             balances = λ q l. ap (λ (f : Parent → Balance). f q) w ∙ ap (λ (y : Balance). ite (parent-dec p q) b y) (h .balances q l);
           },
         )
-    balance-after p x r (refused k) e = (e .0, subst (H σ) (sym (e .1)) h)
+    balance-after p x r (refused-leaving k b) e z = (e .0, left (x .after) (Run.paid W σ p b) (e .1) (ap (Run.paid W σ p) z ∙ paid-back W σ p))
 
     changes : (adding : Bool) (p : Parent) (n : ℤ) (ts : Tokens) (x : Call) → Changes parents adding p n ts x
-        → After σ (step-of edition-1 x s) (Run.withBal W σ p (changed adding (σ .bals p) n ts))
+        → After (step-of edition-1 x s) (Run.withBal W σ p (changed adding (σ .bals p) n ts))
     changes adding p n ts x c =
         let y = Change adding p n (c .token) (c .amount) in
         let a = balance-after p (step-of edition-1 y s) (step-kept parents s (h .ready) y (c .among)) (changed adding (balance-in s p) n (one-token (c .token) (c .amount)))
-        (change-same parents s (h .ready) adding p (c .among) n (c .token) (c .amount) (c .small)) in
-        subst (λ (z : Call). After σ (step-of edition-1 z s) (Run.withBal W σ p (changed adding (σ .bals p) n ts))) (sym (c .is))
-        (subst (λ (R : Res Balance). After σ (step-of edition-1 y s) (Run.withBal W σ p R)) (λ i. changed adding (h .balances p (c .among) i) n (sym (c .one) i)) a)
+        (change-same parents s (h .ready) adding p (c .among) n (c .token) (c .amount) (c .small)) (subst (λ (z : Balance). Leaves z (changed adding (balance-in s p) n (one-token (c .token) (c .amount)))) (h .balances p (c .among))
+        (changed-leaves adding (balance-in s p) n (one-token (c .token) (c .amount)))) in
+        subst (λ (z : Call). After (step-of edition-1 z s) (Run.withBal W σ p (changed adding (σ .bals p) n ts))) (sym (c .is))
+        (subst (λ (R : Made Balance Balance). After (step-of edition-1 y s) (Run.withBal W σ p R)) (λ i. changed adding (h .balances p (c .among) i) n (sym (c .one) i)) a)
 
     abbrev did : Call → Stepping
     did x = step-of edition-1 x s
 
-    appends : (ch : Series) → parentOf ch < parents → (n : ℤ) → After σ (did (Append (kind-of ch) (parentOf ch) n)) (Run.runCall W σ (append ch n))
+    appends : (ch : Series) → parentOf ch < parents → (n : ℤ) → After (did (Append (kind-of ch) (parentOf ch) n)) (Run.runCall W σ (append ch n))
     appends ch l n =
         let x = Append (kind-of ch) (parentOf ch) n in
         store-after (did x) (step-kept parents s (h .ready) x l) (do-append edition-1 (ids-in s) (view s) ch n) (do-append edition-1 ids (σ .store) ch n)
-        (append-same parents s (h .ready) ch l n) (append-near parents (ids-in s) ids (view s) (σ .store) near ch l (h .names (parentOf ch) l) n)
+        (append-same parents s (h .ready) ch l n) (append-near parents (ids-in s) ids (view s) (σ .store) near ch l (h .names (parentOf ch) l) n) (leaves .appends (σ .store) ch n)
 
-    flips : (d : Direction) (p : Parent) → p < parents → (t : ℤ) → After σ (did (Flip d p t)) (Run.withStore W σ (do-flip edition-1 ids d (σ .store) p t))
+    flips : (d : Direction) (p : Parent) → p < parents → (t : ℤ) → After (did (Flip d p t)) (Run.withStore W σ (do-flip edition-1 ids d (σ .store) p t))
     flips d p l t =
         store-after (did (Flip d p t)) (step-kept parents s (h .ready) (Flip d p t) l) (do-flip edition-1 (ids-in s) d (view s) p t)
         (do-flip edition-1 ids d (σ .store) p t) (flip-same parents s (h .ready) d p l t)
-        (flip-near parents (ids-in s) ids (view s) (σ .store) near p l (h .names p l) d t)
+        (flip-near parents (ids-in s) ids (view s) (σ .store) near p l (h .names p l) d t) (flip-leaves edition-1 ids (σ .store) p d t)
 
-    pops : (ch : Series) → parentOf ch < parents → (n : ℤ) → AfterUndo σ (did (Pop (kind-of ch) (parentOf ch))) (Run.runUndo W σ (append ch n))
+    pops : (ch : Series) → parentOf ch < parents → (n : ℤ) → AfterUndo (did (Pop (kind-of ch) (parentOf ch))) (Run.runUndo W σ (append ch n))
     pops ch l n =
         let x = Pop (kind-of ch) (parentOf ch) in
         pop-after (did x) (step-kept parents s (h .ready) x l) (do-pop edition-1 (ids-in s) (view s) ch) (do-pop edition-1 ids (σ .store) ch)
-        (pop-same parents s (h .ready) ch l) (pop-near parents (ids-in s) ids (view s) (σ .store) near ch l (h .names (parentOf ch) l))
+        (pop-same parents s (h .ready) ch l) (pop-near parents (ids-in s) ids (view s) (σ .store) near ch l (h .names (parentOf ch) l)) (leaves .pops (σ .store) ch)
 
-    pub call-after : (a : ledger.Call) (x : Call) → Makes parents a x → After σ (did x) (Run.runCall W σ a)
-    call-after (append ch n) x m = subst (λ (z : Call). After σ (did z) (Run.runCall W σ (append ch n))) (sym (m .1)) (appends ch (m .0) n)
-    call-after (spend p t) x m = subst (λ (z : Call). After σ (did z) (Run.runCall W σ (spend p t))) (sym (m .1)) (flips Spend p (m .0) t)
+    pub call-after : (a : ledger.Call) (x : Call) → Makes parents a x → After (did x) (Run.runCall W σ a)
+    call-after (append ch n) x m = subst (λ (z : Call). After (did z) (Run.runCall W σ (append ch n))) (sym (m .1)) (appends ch (m .0) n)
+    call-after (spend p t) x m = subst (λ (z : Call). After (did z) (Run.runCall W σ (spend p t))) (sym (m .1)) (flips Spend p (m .0) t)
     call-after (credit p n ts) x m = changes true p n ts x m
     call-after (debit p n ts) x m = changes false p n ts x m
 
-    pub undo-after : (a : ledger.Call) (x : Call) → Unmakes parents a x → AfterUndo σ (did x) (Run.runUndo W σ a)
-    undo-after (append ch n) x m = subst (λ (z : Call). AfterUndo σ (did z) (Run.runUndo W σ (append ch n))) (sym (m .1)) (pops ch (m .0) n)
+    pub undo-after : (a : ledger.Call) (x : Call) → Unmakes parents a x → AfterUndo (did x) (Run.runUndo W σ a)
+    undo-after (append ch n) x m = subst (λ (z : Call). AfterUndo (did z) (Run.runUndo W σ (append ch n))) (sym (m .1)) (pops ch (m .0) n)
     undo-after (spend p t) x m =
-        subst (λ (z : Call). AfterUndo σ (did z) (Run.runUndo W σ (spend p t))) (sym (m .1))
-        (quiet-after σ (did (Flip Unspend p t)) (Run.withStore W σ (do-flip edition-1 ids Unspend (σ .store) p t)) (flips Unspend p (m .0) t))
-    undo-after (credit p n ts) x m = quiet-after σ (did x) (Run.withBal W σ p (changed false (σ .bals p) n ts)) (changes false p n ts x m)
-    undo-after (debit p n ts) x m = quiet-after σ (did x) (Run.withBal W σ p (changed true (σ .bals p) n ts)) (changes true p n ts x m)
+        subst (λ (z : Call). AfterUndo (did z) (Run.runUndo W σ (spend p t))) (sym (m .1))
+        (quiet-after (did (Flip Unspend p t)) (Run.withStore W σ (do-flip edition-1 ids Unspend (σ .store) p t)) (flips Unspend p (m .0) t))
+    undo-after (credit p n ts) x m = quiet-after (did x) (Run.withBal W σ p (changed false (σ .bals p) n ts)) (changes false p n ts x m)
+    undo-after (debit p n ts) x m = quiet-after (did x) (Run.withBal W σ p (changed true (σ .bals p) n ts)) (changes true p n ts x m)
 
-    pub flush-after : After σ (did Flush) (Run.withStore W σ (do-flush edition-1 ids (σ .store)))
+    pub flush-after : After (did Flush) (Run.withStore W σ (do-flush edition-1 ids (σ .store)))
     flush-after =
         store-after (did Flush) (step-kept parents s (h .ready) Flush tt) (do-flush edition-1 (ids-in s) (view s)) (do-flush edition-1 ids (σ .store)) (flush-same s)
-        (flush-near parents (ids-in s) ids (view s) (σ .store) near)
+        (flush-near parents (ids-in s) ids (view s) (σ .store) near) (leaves .flushes (σ .store))
 
   -- ---- a step of the list
 
-  call-holds : (c : Run.Conf W) (a : ledger.Call) (x : Stepping) (R : Res (Run.State W)) → After (c .now) x R → H (Run.afterCall W c a R .now) (x .after)
-  call-holds c a x (done τ) e = e .1
-  call-holds c a x (refused k) e = e .1
+  call-holds : (c : Run.Conf W) (a : ledger.Call) (x : Stepping) (R : Made (Run.State W) (Run.State W)) → After x R → H (Run.afterCall W c a R .now) (x .after)
+  call-holds c a x (accepted τ) e = e .1
+  call-holds c a x (refused-leaving k τ) e = e .1
 
-  undo-holds : (c : Run.Conf W) (cs : List ledger.Call) (x : Stepping) (R : Res (Run.Undone W)) → AfterUndo (c .now) x R → H (Run.afterUndo W c cs R .now) (x .after)
-  undo-holds c cs x (done u) e = e .1
-  undo-holds c cs x (refused k) e = e .1
+  undo-holds : (c : Run.Conf W) (cs : List ledger.Call) (x : Stepping) (R : Made (Run.State W) (Run.Undone W)) → AfterUndo x R → H (Run.afterUndo W c cs R .now) (x .after)
+  undo-holds c cs x (accepted u) e = e .1
+  undo-holds c cs x (refused-leaving k τ) e = e .1
 
-  flush-holds : (c : Run.Conf W) (x : Stepping) (R : Res (Run.State W)) → After (c .now) x R → H (Run.afterFlush W c R .now) (x .after)
-  flush-holds c x (done τ) e = e .1
-  flush-holds c x (refused k) e = e .1
+  flush-holds : (c : Run.Conf W) (x : Stepping) (R : Made (Run.State W) (Run.State W)) → After x R → H (Run.afterFlush W c R .now) (x .after)
+  flush-holds c x (accepted τ) e = e .1
+  flush-holds c x (refused-leaving k τ) e = e .1
 
   newest-holds : (c : Run.Conf W) (s : State) → H (c .now) s → (l : List ledger.Call) (x : Call) → UnmakesNewest parents l x
       → H (Run.undoNewest W c l .now) (step-of edition-1 x s .after)
@@ -194,12 +208,12 @@ module _ (parents : ℕ) (ids : Parent → List ℕ) (B : Borrowed edition-1) (p
   run-holds (t ∷ ts) (x ∷ xs) c s h m = run-holds ts xs (Run.step W c t) (step-of edition-1 x s .after) (step-holds c s h t x (m .0)) (m .1)
 
   -- ---- what an undo says
-  undo-said : (σ : Run.State W) (s : State) → H σ s → (a : ledger.Call) (cs : List ledger.Call) (x : Stepping) (R : Res (Run.Undone W)) → AfterUndo σ x R
+  undo-said : (σ : Run.State W) (s : State) → H σ s → (a : ledger.Call) (cs : List ledger.Call) (x : Stepping) (R : Made (Run.State W) (Run.Undone W)) → AfterUndo x R
       → Run.UndoAnswer W σ a R → UndoSaid parents ids B places (a ∷ cs) s (x .said)
-  undo-said σ s h a cs x (done u) e k = inl (e .0 ∙ ap says k)
-  undo-said σ s h a cs x (refused n) e (inl k) =
+  undo-said σ s h a cs x (accepted u) e k = inl (e .0 ∙ ap says k)
+  undo-said σ s h a cs x (refused-leaving n τ) e (inl k) =
       inr (inl (e .0 ∙ ap steps.refused (k .0), subst (λ (b : Lists). b .staged-counts .capacity ≤ b .staged-counts .count) (sym (h .lists)) (k .1)))
-  undo-said σ s h a cs x (refused n) e (inr k) =
+  undo-said σ s h a cs x (refused-leaving n τ) e (inr k) =
       inr (inr (e .0 ∙ ap steps.refused (k .0), subst (λ (b : Lists). b .deleted-counts .capacity ≤ b .deleted-counts .count) (sym (h .lists)) (k .1)))
 
   newest-said : (c : Run.Conf W) (s : State) → H (c .now) s → (l : List ledger.Call) (x : Call) → UnmakesNewest parents l x → Run.NewestOk W c l

@@ -19,7 +19,7 @@ use Rattle.buffer_core.specs.Pop.{Popping, Lists, lists, pop-of}
 use Rattle.buffer_core.specs.Flip.{Flipping, flip-of}
 use Rattle.buffer_core.specs.Flush.{Flushing, flush-of}
 use Rattle.ledger.specs.Ledger.{Parent, Series, boxes, parentOf, series-dec, ite}
-use Rattle.ledger.specs.Run.{Res, done, refused}
+use Rattle.ledger.specs.Run.{Made, accepted, refused-leaving}
 use Rattle.ledger.specs.Run as Run
 use Rattle.history.specs.Index.{Part, part, Index, index, kind-of, set-part, with-staged, after-append, after-pop, after-flip, after-flush, appending-to, popping-from, flipping-in, do-append, do-pop, do-flip, do-flush}
 
@@ -29,17 +29,17 @@ module _ (parents : ℕ) where
     pub parts : (ch : Series) → parentOf ch < parents → b .parts ch ≡ c .parts ch
     pub lists : b .lists ≡ c .lists
 
-  abbrev pub NearRes : Res Index → Res Index → Type 0
-  NearRes (done b) (done c) = Near b c
-  NearRes (done b) (refused k) = ⊥
-  NearRes (refused j) (done c) = ⊥
-  NearRes (refused j) (refused k) = j ≡ k
+  abbrev pub NearRes : Made Index Index → Made Index Index → Type 0
+  NearRes (accepted b) (accepted c) = Near b c
+  NearRes (accepted b) (refused-leaving k c) = ⊥
+  NearRes (refused-leaving j b) (accepted c) = ⊥
+  NearRes (refused-leaving j b) (refused-leaving k c) = j ≡ k
 
-  abbrev pub NearPop : Res (Run.Popped Index) → Res (Run.Popped Index) → Type 0
-  NearPop (done b) (done c) = (b .value ≡ c .value) × Near (b .left) (c .left)
-  NearPop (done b) (refused k) = ⊥
-  NearPop (refused j) (done c) = ⊥
-  NearPop (refused j) (refused k) = j ≡ k
+  abbrev pub NearPop : Made Index (Run.Popped Index) → Made Index (Run.Popped Index) → Type 0
+  NearPop (accepted b) (accepted c) = (b .value ≡ c .value) × Near (b .left) (c .left)
+  NearPop (accepted b) (refused-leaving k c) = ⊥
+  NearPop (refused-leaving j b) (accepted c) = ⊥
+  NearPop (refused-leaving j b) (refused-leaving k c) = j ≡ k
 
   module _ (names ids : Parent → List ℕ) (b c : Index) (N : Near b c) where
     near-set : (ch : Series) (v w : Part) (l m : Lists) → v ≡ w → l ≡ m → Near (index (set-part (b .parts) ch v) l) (index (set-part (c .parts) ch w) m)

@@ -1,3 +1,4 @@
 -- Laws of the ledger.
 pub mod TestLaws
 pub mod RuleLaws
+pub mod LeaveLaws

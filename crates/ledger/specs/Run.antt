@@ -11,10 +11,21 @@ use lib.Signed.{_≤ℤ_, mag}
 use lib.ListN.{length}
 use Rattle.ledger.specs.Ledger.{TokenId, Parent, parent-dec, id-dec, Series, boxes, txs, ite, Tokens, Call, append, spend, credit, debit, absℤ, sumOf, ledger-numbers, ledger-spent, ledger-nanos, ledger-amount, AllPos, Typed, Rules}
 
--- what a call answers: accepted, with what it leaves, or refused with a number. "A refusal returns its number only and changes nothing"
+-- what is answered: done, with a result, or refused with a number. "A refusal returns its number only"
 pub data Res (A : Type 0) : Type 0 where
   done : A → Res A
   refused : ℕ → Res A
+
+-- what a call answers and leaves: accepted, or refused with a number, and what its definition then leaves of S. That a refusal "changes nothing" is not
+-- assumed: the next step starts from what was left, and what was left is proved to be what was there (`RefusalsLeave`)
+pub data Made (S A : Type 0) : Type 0 where
+  accepted : A → Made S A
+  refused-leaving : ℕ → S → Made S A
+
+-- a refusal left what was there
+abbrev pub Leaves : {S A : Type 0} → S → Made S A → Type 0
+Leaves σ (accepted a) = Unit {0}
+Leaves σ (refused-leaving n τ) = τ ≡ σ
 
 -- the numbers of a row that was read; none where it was not
 abbrev pub rowOr : Res (List ℤ) → List ℤ
@@ -36,11 +47,11 @@ pub record Machine : Type 1 where
   pub Store : Type 0
   -- "Empty: each count, length and nanoErgs 0"
   pub empty : Store
-  pub doAppend : Store → Series → ℤ → Res Store
-  pub doPop : Store → Series → Res (Popped Store)
-  pub doSpend : Store → Parent → ℤ → Res Store
-  pub doUnspend : Store → Parent → ℤ → Res Store
-  pub doFlush : Store → Res Store
+  pub doAppend : Store → Series → ℤ → Made Store Store
+  pub doPop : Store → Series → Made Store (Popped Store)
+  pub doSpend : Store → Parent → ℤ → Made Store Store
+  pub doUnspend : Store → Parent → ℤ → Made Store Store
+  pub doFlush : Store → Made Store Store
   -- "spill 0 up with rows as inspection shows them, then the head"
   pub entries : Store → Series → List ℤ
   -- refusals 16 and 21 of document 01's table: "staging full", "list full"
@@ -48,8 +59,8 @@ pub record Machine : Type 1 where
   pub DeletionFull : Store → Type 0
   pub Bal : Type 0
   pub noBal : Parent → Bal
-  pub add : Bal → ℤ → Tokens → Res Bal
-  pub sub : Bal → ℤ → Tokens → Res Bal
+  pub add : Bal → ℤ → Tokens → Made Bal Bal
+  pub sub : Bal → ℤ → Tokens → Made Bal Bal
   pub nanoOf : Bal → ℤ
   pub amountOf : Bal → TokenId → ℤ
   -- numbers of a row; arguments have a size below the limit; the key of a row
@@ -121,57 +132,64 @@ module _ (M : Machine) where
     pub after : State
     pub answer : List ℤ
 
-  abbrev pub withStore : State → Res Store → Res State
-  withStore σ (done s) = done (record { store = s; bals = σ .bals })
-  withStore σ (refused n) = refused n
+  abbrev pub stored : State → Store → State
+  stored σ s = record { store = s; bals = σ .bals }
+
+  abbrev pub withStore : State → Made Store Store → Made State State
+  withStore σ (accepted s) = accepted (stored σ s)
+  withStore σ (refused-leaving n s) = refused-leaving n (stored σ s)
 
   abbrev pub setBal : (Parent → Bal) → Parent → Bal → Parent → Bal
   setBal f p b q = ite (parent-dec p q) b (f q)
 
-  abbrev pub withBal : State → Parent → Res Bal → Res State
-  withBal σ p (done b) = done (record { store = σ .store; bals = setBal (σ .bals) p b })
-  withBal σ p (refused n) = refused n
+  abbrev pub paid : State → Parent → Bal → State
+  paid σ p b = record { store = σ .store; bals = setBal (σ .bals) p b }
+
+  abbrev pub withBal : State → Parent → Made Bal Bal → Made State State
+  withBal σ p (accepted b) = accepted (paid σ p b)
+  withBal σ p (refused-leaving n b) = refused-leaving n (paid σ p b)
 
   -- a call of the list runs the operation with its arguments
-  abbrev pub runCall : State → Call → Res State
+  abbrev pub runCall : State → Call → Made State State
   runCall σ (append ch n) = withStore σ (doAppend (σ .store) ch n)
   runCall σ (spend p t) = withStore σ (doSpend (σ .store) p t)
   runCall σ (credit p n ts) = withBal σ p (add (σ .bals p) n ts)
   runCall σ (debit p n ts) = withBal σ p (sub (σ .bals p) n ts)
 
-  abbrev pub quiet : Res State → Res Undone
-  quiet (done σ) = done (record { after = σ; answer = [] })
-  quiet (refused n) = refused n
+  abbrev pub quiet : Made State State → Made State Undone
+  quiet (accepted σ) = accepted (record { after = σ; answer = [] })
+  quiet (refused-leaving n σ) = refused-leaving n σ
 
-  abbrev pub popped : State → Res (Popped Store) → Res Undone
-  popped σ (done r) = done (record { after = record { store = r .left; bals = σ .bals }; answer = r .value ∷ [] })
-  popped σ (refused n) = refused n
+  abbrev pub popped : State → Made Store (Popped Store) → Made State Undone
+  popped σ (accepted r) = accepted (record { after = stored σ (r .left); answer = r .value ∷ [] })
+  popped σ (refused-leaving n s) = refused-leaving n (stored σ s)
 
   -- "Undo means pop, unspend, `subtract_box` or `add_box` with the same arguments"
-  abbrev pub runUndo : State → Call → Res Undone
+  abbrev pub runUndo : State → Call → Made State Undone
   runUndo σ (append ch n) = popped σ (doPop (σ .store) ch)
   runUndo σ (spend p t) = quiet (withStore σ (doUnspend (σ .store) p t))
   runUndo σ (credit p n ts) = quiet (withBal σ p (sub (σ .bals p) n ts))
   runUndo σ (debit p n ts) = quiet (withBal σ p (add (σ .bals p) n ts))
 
-  -- "An accepted call becomes the newest standing call"; "flushes and refusals change nothing"
-  abbrev pub afterCall : Conf → Call → Res State → Conf
-  afterCall c a (done σ) = record { now = σ; standing = a ∷ c .standing; phase = calls }
-  afterCall c a (refused n) = record { now = c .now; standing = c .standing; phase = calls }
+  -- "An accepted call becomes the newest standing call"; "flushes and refusals change nothing" of the standing calls.
+  -- The next step starts "from what the one before left", accepted or refused
+  abbrev pub afterCall : Conf → Call → Made State State → Conf
+  afterCall c a (accepted σ) = record { now = σ; standing = a ∷ c .standing; phase = calls }
+  afterCall c a (refused-leaving n σ) = record { now = σ; standing = c .standing; phase = calls }
 
   -- "an accepted undo removes that one": the calls cs that stood before it are left
-  abbrev pub afterUndo : Conf → List Call → Res Undone → Conf
-  afterUndo c cs (done u) = record { now = u .after; standing = cs; phase = undos }
-  afterUndo c cs (refused n) = record { now = c .now; standing = c .standing; phase = undos }
+  abbrev pub afterUndo : Conf → List Call → Made State Undone → Conf
+  afterUndo c cs (accepted u) = record { now = u .after; standing = cs; phase = undos }
+  afterUndo c cs (refused-leaving n σ) = record { now = σ; standing = c .standing; phase = undos }
 
   abbrev pub undoNewest : Conf → List Call → Conf
   undoNewest c [] = c
   undoNewest c (a ∷ cs) = afterUndo c cs (runUndo (c .now) a)
 
   -- an accepted flush lets the other side follow; a refused one (22) does not
-  abbrev pub afterFlush : Conf → Res State → Conf
-  afterFlush c (done σ) = record { now = σ; standing = c .standing; phase = clean }
-  afterFlush c (refused n) = c
+  abbrev pub afterFlush : Conf → Made State State → Conf
+  afterFlush c (accepted σ) = record { now = σ; standing = c .standing; phase = clean }
+  afterFlush c (refused-leaving n σ) = record { now = σ; standing = c .standing; phase = c .phase }
 
   -- one step of the list; an undo is that of the newest standing call
   abbrev pub step : Conf → Step → Conf
@@ -212,9 +230,9 @@ module _ (M : Machine) where
   KeysApart U = (d e : Series) (s t : ℕ) → U d s → U e t → key d s ≡ key e t → (d ≡ e) × (s ≡ t)
 
   -- an accepted undo answers the number of its append; a refused one has 16 or 21, and that list is full
-  abbrev pub UndoAnswer : State → Call → Res Undone → Type 0
-  UndoAnswer σ a (done u) = u .answer ≡ answerOf a
-  UndoAnswer σ a (refused n) = ((n ≡ 16) × StagingFull (σ .store)) ⊎ ((n ≡ 21) × DeletionFull (σ .store))
+  abbrev pub UndoAnswer : State → Call → Made State Undone → Type 0
+  UndoAnswer σ a (accepted u) = u .answer ≡ answerOf a
+  UndoAnswer σ a (refused-leaving n τ) = ((n ≡ 16) × StagingFull (σ .store)) ⊎ ((n ≡ 21) × DeletionFull (σ .store))
 
   abbrev pub NewestOk : Conf → List Call → Type 0
   NewestOk c [] = Unit {0}
@@ -240,6 +258,16 @@ module _ (M : Machine) where
     -- nanoErgs, and the amount of every token id, 0 if absent. "Places of copies and tokens are not compared"
     pub nanoErgs : (p : Parent) → nanoOf (c .now .bals p) ≡ ledger-nanos (c .standing) p
     pub amounts : (p : Parent) (t : TokenId) → amountOf (c .now .bals p) t ≡ ledger-amount (c .standing) p t
+
+  -- "A refusal .. changes nothing": what each operation leaves where it refuses is what was there, whatever that was
+  pub record RefusalsLeave : Type 0 where
+    pub appends : (σ : Store) (ch : Series) (n : ℤ) → Leaves σ (doAppend σ ch n)
+    pub pops : (σ : Store) (ch : Series) → Leaves σ (doPop σ ch)
+    pub spends : (σ : Store) (p : Parent) (t : ℤ) → Leaves σ (doSpend σ p t)
+    pub unspends : (σ : Store) (p : Parent) (t : ℤ) → Leaves σ (doUnspend σ p t)
+    pub flushes : (σ : Store) → Leaves σ (doFlush σ)
+    pub credits : (b : Bal) (n : ℤ) (ts : Tokens) → Leaves b (add b n ts)
+    pub debits : (b : Bal) (n : ℤ) (ts : Tokens) → Leaves b (sub b n ts)
 
   -- the fork-undo theorem of a machine: for every legal list of steps in which no two row keys in use are equal, every undo answers as it should, and at the
   -- end the index agrees with the standing calls. As every beginning of a legal list is legal, it agrees after each step
