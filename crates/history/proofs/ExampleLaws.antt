@@ -89,7 +89,7 @@ zeroed cap = record {
   deleted-in = room-of (cap * 32) (cap * 32) (omega arith);
 }
 
-pub no-tokens : Places
+unfoldable pub no-tokens : Places
 no-tokens = record { ids = replicate 4096 0; amounts = replicate 128 (pos 0); ids-in = length-replicate {A = ℕ} 4096 0; amounts-in = length-replicate {A = ℤ} 128 (pos 0) }
 
 module _ (ids : Parent → List ℕ) (cap : ℕ) (h : 600 ≤ cap) where

@@ -15,3 +15,4 @@ pub mod ExampleRules
 pub mod ExampleRun
 pub mod ExampleLaws
 pub mod SmallHistories
+pub mod TwoParentsLaws

@@ -2,3 +2,4 @@
 pub mod TestLaws
 pub mod RuleLaws
 pub mod LeaveLaws
+pub mod ShortLaws

@@ -1,0 +1,117 @@
+-- The theorem's premises hold of the history of two parents, and what the machine computes on the way: transactions, credits, debits and refused calls.
+use mathlib.Core.Path.{_≡_, refl, sym, ap, _∙_}
+use mathlib.Core.Logic.{_≢_}
+use mathlib.Core.List.{List, [], _∷_, map, List·Memᴰ, List·Memᴰ·not-nil, List·Memᴰ·eq-of-singleton, nil≢cons}
+use Prim.Native.Nat.{ℕ, _≤_}
+use native.Mathlib.Omega.{arith}
+use native.Mathlib.Decide.{ℕ-discrete}
+use lib.IntN.{ℤ, pos, negsuc, _+ℤ_, natAbs}
+use lib.Signed.{_≤ℤ_}
+use Rattle.stores.specs.Stores.{write}
+use Rattle.stores.specs.Equal.{same-bytes}
+use Rattle.signed.specs.Checked.{checked}
+use Rattle.records.specs.Records.{records}
+use Rattle.records.specs.Find.{distinct}
+use Rattle.records.specs.Changes.{clear-records}
+use Rattle.records.specs.Checks.{lengths-ok, records-ok, keys-ok}
+use Rattle.balance.specs.Tokens.{place-from, add-token, subtract-token, change-tokens, closed-up}
+use Rattle.balance.specs.Boxes.{buffers-ok, change-box}
+use Rattle.buffer_core.specs.Edition.{edition-1}
+use Rattle.buffer_core.specs.Append.{append-of, append-ok, append-core, spill-of}
+use Rattle.buffer_core.specs.Pop.{pop-of, pop-ok, pop-core, lists-ok}
+use Rattle.buffer_core.specs.Flip.{flip-of, flip-ok, flip-core, flip-effect, in-order, in-rows, search-by, walk-from}
+use Rattle.buffer_core.specs.Flush.{flush-of, flush-core, flushed, table-after, put-undeleted, remove-keys, new-count}
+use Rattle.ledger.specs.Ledger.{TokenId, id-dec, Series, boxes, txs, series-dec, ite, Call, append, spend, credit, debit, absℤ, ledger-numbers, Rules}
+use Rattle.ledger.specs.Run.{flat, Machine, Conf, start, run, Legal, InUse, KeysApart, StepsOk, Agrees}
+use Rattle.ledger.proofs.ShortLaws.{short-apart}
+use Rattle.history.specs.ForkUndo.{index-machine}
+use Rattle.history.specs.Example.{token-of-sevens, credit-ten, before-the-fork, two-parents, three-appends, two-parents-standing}
+use Rattle.history.proofs.SmallHistories.{heads-only}
+use Rattle.history.proofs.ExampleLaws.{no-tokens}
+use Rattle.history.proofs.ForkUndoLaw.{fork-undo}
+
+-- lists without room: no row is made
+abbrev M : Machine
+M = index-machine edition-1 (λ p. []) heads-only (λ p. no-tokens)
+
+abbrev ended : Conf M
+ended = run M (start M) two-parents
+
+-- the three refused calls and the undone ones do not stand
+pub two-parents-stand : ended .standing ≡ two-parents-standing
+unfolding run ite series-dec ℕ-discrete append-of append-ok append-core spill-of records-ok lengths-ok distinct records no-tokens
+    flip-of flip-ok flip-core flip-effect in-order in-rows search-by walk-from pop-of pop-ok pop-core flush-of flush-core flushed table-after put-undeleted remove-keys new-count lists-ok keys-ok clear-records write
+    buffers-ok change-box place-from add-token subtract-token change-tokens closed-up checked same-bytes
+two-parents-stand = refl
+
+-- before the fork the second parent holds what the credit and the debit give, the refused credit nothing, and the spent number is marked
+pub before-nanos : M .nanoOf (run M (start M) (before-the-fork []) .now .bals 1) ≡ pos 6
+unfolding run ite series-dec ℕ-discrete append-of append-ok append-core spill-of records-ok lengths-ok distinct records no-tokens
+    flip-of flip-ok flip-core flip-effect in-order in-rows search-by walk-from flush-of flush-core flushed table-after put-undeleted remove-keys new-count lists-ok keys-ok clear-records write
+    buffers-ok change-box place-from add-token subtract-token change-tokens closed-up checked same-bytes
+before-nanos = refl
+
+pub before-amount : M .amountOf (run M (start M) (before-the-fork []) .now .bals 1) token-of-sevens ≡ pos 3
+unfolding run ite series-dec id-dec ℕ-discrete append-of append-ok append-core spill-of records-ok lengths-ok distinct records no-tokens
+    flip-of flip-ok flip-core flip-effect in-order in-rows search-by walk-from flush-of flush-core flushed table-after put-undeleted remove-keys new-count lists-ok keys-ok clear-records write
+    buffers-ok change-box place-from add-token subtract-token change-tokens closed-up checked same-bytes
+before-amount = refl
+
+pub before-entries : M .entries (run M (start M) (before-the-fork []) .now .store) (boxes 0) ≡ negsuc 4 ∷ []
+unfolding run flat ite series-dec ℕ-discrete append-of append-ok append-core spill-of records-ok lengths-ok distinct records no-tokens
+    flip-of flip-ok flip-core flip-effect in-order in-rows search-by walk-from flush-of flush-core flushed table-after put-undeleted remove-keys new-count lists-ok keys-ok clear-records write
+    buffers-ok change-box place-from add-token subtract-token change-tokens closed-up checked same-bytes
+before-entries = refl
+
+pub two-parents-apart : KeysApart M (InUse M (start M) two-parents)
+two-parents-apart = short-apart M two-parents (omega arith)
+
+-- ---- the standing calls keep the history rules after each step
+none : (m : ℤ) (n : ℕ) → List·Memᴰ m [] → natAbs m ≤ n
+none m n t = absurd (List·Memᴰ·not-nil t)
+
+first-append : Rules (append (boxes 0) (pos 5) ∷ [])
+first-append = (record { rises = λ m t. none m 5 t; unspent = refl }, tt)
+
+two-appends : Rules (append (boxes 1) (pos 5) ∷ append (boxes 0) (pos 5) ∷ [])
+unfolding ite series-dec ℕ-discrete
+two-appends = (record { rises = λ m t. none m 5 t; unspent = refl }, first-append)
+
+appends : Rules three-appends
+appends = (tt, two-appends)
+
+spent : Rules (spend 0 (pos 5) ∷ three-appends)
+spent = (tt, appends)
+
+credited : Rules (credit-ten ∷ spend 0 (pos 5) ∷ three-appends)
+credited = (record { nonneg = omega arith; allpos = (omega arith, tt) }, spent)
+
+some : (t : TokenId) (d : Dec (token-of-sevens ≡ t)) → pos 0 ≤ℤ (pos 0 +ℤ ite d (pos 3 +ℤ pos 0) (pos 0))
+unfolding ite
+some t (yes e) = omega arith
+some t (no f) = omega arith
+
+debited : Rules (debit 1 (pos 4) [] ∷ credit-ten ∷ spend 0 (pos 5) ∷ three-appends)
+unfolding ite ℕ-discrete
+debited = (record { nonneg = omega arith; allpos = tt; within = omega arith; held = λ t. some t (id-dec token-of-sevens t) }, credited)
+
+last-rules : Rules two-parents-standing
+unfolding ite series-dec ℕ-discrete
+last-rules = (record { rises = λ m t. let e : natAbs m ≡ 5 = ap natAbs (List·Memᴰ·eq-of-singleton t) in omega arith; unspent = refl }, appends)
+
+stands : {a : Call} {cs : List Call} → (a ∷ cs) ≢ []
+stands e = nil≢cons (sym e)
+
+pub two-parents-legal : Legal M (start M) two-parents
+unfolding Legal run ite series-dec ℕ-discrete append-of append-ok append-core spill-of records-ok lengths-ok distinct records no-tokens
+    flip-of flip-ok flip-core flip-effect in-order in-rows search-by walk-from pop-of pop-ok pop-core flush-of flush-core flushed table-after put-undeleted remove-keys new-count lists-ok keys-ok clear-records write
+    buffers-ok change-box place-from add-token subtract-token change-tokens closed-up checked same-bytes
+two-parents-legal =
+    ((tt, omega arith), first-append, ((tt, omega arith), two-appends, ((tt, omega arith), appends, ((tt, omega arith), appends, ((tt, omega arith), spent, ((tt, omega arith), spent, ((tt, (omega arith, (refl, omega arith, tt))), credited, ((tt, (omega arith, tt)), credited, ((tt, (omega arith, tt)), debited, (tt, debited, ((tt, stands), credited, ((tt, stands), spent, ((tt, stands), appends, (tt, appends, ((tt, omega arith), last-rules, tt)))))))))))))))
+
+-- ---- what the theorem says of it
+pub two-parents-hold : StepsOk M (start M) two-parents × Agrees M ended
+two-parents-hold = fork-undo (λ p. []) heads-only (λ p. no-tokens) two-parents two-parents-legal two-parents-apart
+
+pub two-parents-numbers : (ch : Series) → map absℤ (M .entries (ended .now .store) ch) ≡ ledger-numbers two-parents-standing ch
+two-parents-numbers ch = two-parents-hold .1 .numbers ch ∙ ap (λ (cs : List Call). ledger-numbers cs ch) two-parents-stand
