@@ -1,26 +1,29 @@
 -- Small histories, computed by the machine of the theorem: what a wrong undo would break.
 use mathlib.Core.Path.{_≡_, refl}
-use mathlib.Core.List.{List, [], _∷_}
-use Prim.Native.Nat.{ℕ}
+use mathlib.Core.List.{List, [], _∷_, _++_}
+use Prim.Native.Nat.{ℕ, zero, suc}
 use native.Mathlib.Omega.{arith}
 use native.Mathlib.Decide.{ℕ-discrete}
 use lib.IntN.{ℤ, pos, negsuc}
-use lib.ListN.{replicate, length-replicate}
+use lib.ListN.{getD, take, replicate, length-replicate}
 use Rattle.stores.specs.Stores.{write}
 use Rattle.stores.specs.Equal.{same-bytes}
-use Rattle.records.specs.Records.{records}
+use Rattle.records.specs.Records.{records, stored-row, record-of}
 use Rattle.records.specs.Find.{find-from, distinct}
 use Rattle.records.specs.Changes.{clear-records}
 use Rattle.records.specs.Checks.{lengths-ok, records-ok, keys-ok}
-use Rattle.buffer_core.specs.Edition.{Edition, edition-1}
+use Rattle.buffer_core.specs.declared.Direction.{Direction}
+use Rattle.buffer_core.specs.declared.Direction.the-variants.{Spend, Unspend}
+use Rattle.buffer_core.specs.Edition.{Edition, good, edition-1}
+use Rattle.buffer_core.specs.Spills.{place-at, spill-read}
 use Rattle.buffer_core.specs.Append.{counts-of, append-of, append-ok, append-core, spill-of}
 use Rattle.buffer_core.specs.Pop.{lists, pop-of, pop-ok, pop-core, lists-ok}
-use Rattle.buffer_core.specs.Flip.{flip-of, flip-ok, flip-core, flip-effect, in-order, in-rows, search-by, walk-from}
+use Rattle.buffer_core.specs.Flip.{flip-of, flip-ok, flip-core, flip-effect, in-order, in-rows, search-by, walk-from, look-in, stage-at, row-flipped}
 use Rattle.buffer_core.specs.Flush.{flush-of, flush-core, flushed, table-after, put-undeleted, put-staged, remove-key, remove-keys, new-count}
-use Rattle.ledger.specs.Ledger.{Parent, ite, series-dec, Call}
+use Rattle.ledger.specs.Ledger.{Parent, boxes, ite, series-dec, Call}
 use Rattle.ledger.specs.Run.{Made, accepted, refused-leaving, Machine, Step, undo, flush, State, Undone, start, run, runUndo, StepsOk, flat}
 use Rattle.fork_model.proofs.SmallHistories.{append-box, spend-box, boxes-after}
-use Rattle.history.specs.Index.{Index, index, part, do-flush}
+use Rattle.history.specs.Index.{Index, index, part, do-flip, do-flush, entries-of}
 use Rattle.history.specs.Machine.{Borrowed}
 use Rattle.history.specs.ForkUndo.{Places, index-machine}
 
@@ -86,19 +89,80 @@ module _ (s : Parent → Places) where
       let z : _≡_ {A = ℕ} 0 1 = cc in
       omega arith
 
--- "Staged rows whose key is not deleted are written": one staged row, its key (32 zeros) deleted, and a table that has room for it; with records of 36 bytes
+-- ---- rows: computed with records of 36 bytes
+
 abbrev short-records : Edition
 short-records = record { size = 36; limit = 2; key = edition-1 .key; encode = edition-1 .encode; decode = edition-1 .decode; with-boxes = edition-1 .with-boxes }
 
-abbrev deleted-row : Index
-deleted-row =
+-- one staged row, its key (32 zeros) deleted or not, and a table that has room for it
+abbrev staged-row : (deleted : ℕ) → Index
+staged-row n =
     index (λ ch. part (counts-of 0 (pos 0)) [])
-    (lists (record { count = 1; capacity = 1 }) (replicate 36 0) (record { count = 0; capacity = 1 }) (replicate 36 0) (record { count = 1; capacity = 1 }) (replicate 32 0))
+    (lists (record { count = 1; capacity = 1 }) (replicate 36 0) (record { count = 0; capacity = 1 }) (replicate 36 0) (record { count = n; capacity = 1 }) (replicate 32 0))
 
-abbrev rows-in-table : Made Index Index → ℕ
-rows-in-table (accepted b) = b .lists .table-counts .count
-rows-in-table (refused-leaving k b) = k
+abbrev after-flush : (Index → ℕ) → ℕ → ℕ
+after-flush f n = of-answer (do-flush short-records (λ p. []) (staged-row n))
+  where
+    of-answer : Made Index Index → ℕ
+    of-answer (accepted b) = f b
+    of-answer (refused-leaving k b) = k
 
-pub deleted-row-left-out : rows-in-table (do-flush short-records (λ p. []) deleted-row) ≡ 0
+-- "Staged rows whose key is not deleted are written"
+pub row-written : after-flush (λ b. b .lists .table-counts .count) 0 ≡ 1
+unfolding flush-of flush-core flushed table-after put-undeleted put-staged remove-key remove-keys new-count lists-ok records-ok keys-ok lengths-ok distinct records find-from same-bytes
+row-written = refl
+
+pub deleted-row-left-out : after-flush (λ b. b .lists .table-counts .count) 1 ≡ 0
 unfolding flush-of flush-core flushed table-after put-undeleted put-staged remove-key remove-keys new-count lists-ok records-ok keys-ok lengths-ok distinct records find-from same-bytes
 deleted-row-left-out = refl
+
+-- "staging and deletion list end empty"
+pub deletion-list-emptied : after-flush (λ b. b .lists .deleted-counts .count) 1 ≡ 0
+unfolding flush-of flush-core flushed table-after put-undeleted put-staged remove-key remove-keys new-count lists-ok records-ok keys-ok lengths-ok distinct records find-from same-bytes
+deletion-list-emptied = refl
+
+pub staging-emptied : after-flush (λ b. b .lists .staged-counts .count) 0 ≡ 0
+unfolding flush-of flush-core flushed table-after put-undeleted put-staged remove-key remove-keys new-count lists-ok records-ok keys-ok lengths-ok distinct records find-from same-bytes
+staging-emptied = refl
+
+-- ---- a spend in a row: rows of one byte, 512 times the number 5, the first of them spent where the byte is not 0
+abbrev first-five : ℕ → ℤ
+first-five zero = pos 5
+first-five (suc n) = negsuc 4
+
+abbrev mark-of : List ℤ → ℕ
+mark-of [] = 0
+mark-of (pos n ∷ zs) = 0
+mark-of (negsuc n ∷ zs) = 1
+
+abbrev marked-rows : Edition
+marked-rows = record {
+  size = 36;
+  limit = 2;
+  key = λ kind parent n. replicate 32 0;
+  encode = λ kind zs. mark-of zs ∷ [];
+  decode = λ kind row. good (first-five (getD row 0 0) ∷ replicate 511 (pos 5));
+  with-boxes = λ row zs. mark-of zs ∷ [];
+}
+
+-- one row of parent 0 in the table, an empty head, and room for one staged row
+abbrev one-row : (mark : ℕ) → Index
+one-row m =
+    index (λ ch. part (counts-of 0 (pos 1)) (replicate 512 (pos 0)))
+    (lists (record { count = 0; capacity = 1 }) (replicate 36 0) (record { count = 1; capacity = 1 }) (replicate 32 0 ++ (0 ∷ 1 ∷ m ∷ 0 ∷ [])) (record { count = 0; capacity = 0 }) [])
+
+-- the first number of the row, as it reads after the call
+abbrev first-after : Direction → ℕ → List ℤ
+first-after d m = of-answer (do-flip marked-rows (λ p. []) d (one-row m) 0 (pos 5))
+  where
+    of-answer : Made Index Index → List ℤ
+    of-answer (accepted b) = take 1 (entries-of marked-rows (λ p. []) b (boxes 0))
+    of-answer (refused-leaving k b) = []
+
+pub spent-in-a-row : first-after Spend 0 ≡ negsuc 4 ∷ []
+unfolding flat ite series-dec ℕ-discrete flip-of flip-ok flip-core flip-effect in-order in-rows search-by walk-from look-in stage-at row-flipped place-at spill-read records-ok lengths-ok distinct records find-from stored-row record-of same-bytes write
+spent-in-a-row = refl
+
+pub unspent-in-a-row : first-after Unspend 1 ≡ pos 5 ∷ []
+unfolding flat ite series-dec ℕ-discrete flip-of flip-ok flip-core flip-effect in-order in-rows search-by walk-from look-in stage-at row-flipped place-at spill-read records-ok lengths-ok distinct records find-from stored-row record-of same-bytes write
+unspent-in-a-row = refl
