@@ -22,6 +22,7 @@ use Rattle.ledger.specs.Ledger.{TokenId, Parent, Tokens, Typed}
 use Rattle.ledger.specs.Run.{Res, done, refused, Leaves}
 use Rattle.fork_model.proofs.Balances as Ba
 use Rattle.fork_model.proofs.BalanceLaws as Bw
+use Rattle.fork_model.proofs.CodeLaws as Co
 use Rattle.fork_model.proofs.Results.{mapRes, map-done, result-of}
 use Rattle.fork_model.proofs.Search.{done≢refused}
 use Rattle.fork_model.proofs.Store as St
@@ -164,6 +165,8 @@ module _ (ids : Parent → List ℕ) (amounts : Parent → List ℤ) (ids-in : (
   laws E = record {
     credits = λ b n ts. change-leaves true b n (ids-of ts) (amounts-of ts) (length ts);
     debits = λ b n ts. change-leaves false b n (ids-of ts) (amounts-of ts) (length ts);
+    add-25 = λ b n ts g v e. Co.never (Ba.add limit 128 (bal-of b) n ts) (Co.add-not limit 128 (bal-of b) n ts) (sym (add-same b (g .0) n ts v .same) ∙ ap (mapRes bal-of) e);
+    sub-25 = λ b n ts g v e. Co.never (Ba.sub limit 128 (bal-of b) n ts) (Co.sub-not limit 128 (bal-of b) n ts) (sym (sub-same b (g .0) n ts v .same) ∙ ap (mapRes bal-of) e);
     no-good = λ p. (record { few = omega arith; ids-in = ids-in p; amounts-in = amounts-in p }, Bw.no-good limit 128 (omega arith));
     no-nano = λ p. refl;
     no-amount = λ p t. refl;

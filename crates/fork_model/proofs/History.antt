@@ -2,19 +2,20 @@
 use Rattle.ledger.proofs.TestLaws.{ite-yes}
 use Rattle.ledger.proofs.LeaveLaws.{store-left, balance-left}
 use mathlib.Core.Path.{_≡_, refl, sym, _∙_, ap, subst}
-use mathlib.Core.Logic.{inl, inr}
-use mathlib.Core.List.{List, [], _∷_, _++_, map}
+use mathlib.Core.Logic.{inl, inr, ⊎-elim}
+use mathlib.Core.List.{List, [], _∷_, _++_, map, List·Memᴰ, List·Memᴰ·not-nil, List·Memᴰ·cases-cons}
 use Prim.Native.Nat.{ℕ, suc, _*_, _<_}
 use native.Mathlib.Omega.{arith}
 use lib.IntN.{ℤ}
 use lib.Signed.{_≤ℤ_, mag}
 use lib.ListN.{length, length-append, length-map}
 use Rattle.ledger.specs.Ledger.{Parent, Series, boxes, txs, series-dec, Tokens, Call, append, spend, credit, debit, absℤ, sumOf, ledger-numbers, Rules, Typed}
-use Rattle.ledger.specs.Run.{Made, accepted, refused-leaving, Popped, Machine, Phase, clean, calls, undos, Step, call, undo, flush, MayCall, negs}
+use Rattle.ledger.specs.Run.{Res, done, refused, Made, accepted, refused-leaving, Popped, Machine, Phase, clean, calls, undos, Step, call, undo, flush, MayCall, negs}
 use Rattle.ledger.specs.Run as Mc
 use Rattle.fork_model.proofs.OperationLaws as Op
 use Rattle.fork_model.proofs.Results.{result-of, was-accepted}
 use Rattle.fork_model.proofs.Holding as Hd
+use Rattle.fork_model.proofs.Search.{done≢refused}
 use Rattle.fork_model.proofs.Holding.{negCount}
 use Rattle.fork_model.proofs.EntryLaws.{Sorted, sorted-nums}
 
@@ -171,13 +172,49 @@ module _ (M : Machine) (U : Series → ℕ → Type 0) (Good Tidy : M .Store →
     one-step c undo I m R C = undo-newest c (c .standing) refl I
     one-step c flush I m R C = (step-flush c (doFlush (c .now .store)) refl I, tt)
 
-    all-steps : (ss : List Step) (c : Conf) → Inv c → Mc.Legal M c ss → ((ch : Series) (s : ℕ) → Mc.InUse M c ss ch s → U ch s) → Mc.StepsOk M c ss × Inv (Mc.run M c ss)
+    pub all-steps : (ss : List Step) (c : Conf) → Inv c → Mc.Legal M c ss → ((ch : Series) (s : ℕ) → Mc.InUse M c ss ch s → U ch s) → Mc.StepsOk M c ss × Inv (Mc.run M c ss)
     unfolding Mc.Legal Mc.InUse Mc.StepsOk Mc.run
     all-steps [] c I l C = (tt, I)
     all-steps (s ∷ ss) c I l C =
         let o = one-step c s I (l .0) (l .1) (λ ch k h. C ch k (inr (first ss (Mc.step M c s) ch k h))) in
         let r = all-steps ss (Mc.step M c s) (o .0) (l .2) (λ ch k h. C ch k (inr h)) in
         ((o .1, r .0), r .1)
+
+    -- 25 never arises: a call or a flush is not refused with it, and an undo is refused with 16 or 21 only
+    store-25 : (σ : State) (X : Made Store Store) → (result-of X ≡ refused 25 → ⊥) → Mc.said M (Mc.withStore M σ X) ≡ refused 25 → ⊥
+    store-25 σ (accepted τ) f e = done≢refused e
+    store-25 σ (refused-leaving k τ) f e = f (let q : k ≡ 25 = cc in ap refused q)
+
+    balance-25 : (σ : State) (p : Parent) (X : Made Bal Bal) → (result-of X ≡ refused 25 → ⊥) → Mc.said M (Mc.withBal M σ p X) ≡ refused 25 → ⊥
+    balance-25 σ p (accepted b) f e = done≢refused e
+    balance-25 σ p (refused-leaving k b) f e = f (let q : k ≡ 25 = cc in ap refused q)
+
+    undo-25 : (σ : State) (a : Call) (X : Made State (Mc.Undone M)) → Mc.UndoAnswer M σ a X → Mc.undoSaid M X ≡ refused 25 → ⊥
+    undo-25 σ a (accepted u) h e = done≢refused e
+    undo-25 σ a (refused-leaving k τ) (inl h) e = let q : k ≡ 25 = cc in omega (arith, h .0)
+    undo-25 σ a (refused-leaving k τ) (inr h) e = let q : k ≡ 25 = cc in omega (arith, h .0)
+
+    newest-25 : (c : Conf) (l : List Call) → Mc.NewestOk M c l → Mc.newestSaid M c l ≡ refused 25 → ⊥
+    newest-25 c [] h e = done≢refused e
+    newest-25 c (a ∷ cs) h e = undo-25 (c .now) a (Mc.runUndo M (c .now) a) h e
+
+    call-25 : (c : Conf) (a : Call) → Inv c → Mc.Args limit a → Mc.answerTo M c (call a) ≡ refused 25 → ⊥
+    call-25 c (append ch n) I v = store-25 (c .now) (doAppend (c .now .store) ch n) (L .append-25 (c .now .store) ch n (I .holds .good))
+    call-25 c (spend p t) I v = store-25 (c .now) (doSpend (c .now .store) p t) (L .spend-25 (c .now .store) p t (I .holds .good))
+    call-25 c (credit p n ts) I v = balance-25 (c .now) p (add (c .now .bals p) n ts) (L .add-25 (c .now .bals p) n ts (I .holds .goodB p) (v .1))
+    call-25 c (debit p n ts) I v = balance-25 (c .now) p (sub (c .now .bals p) n ts) (L .sub-25 (c .now .bals p) n ts (I .holds .goodB p) (v .1))
+
+    step-25 : (c : Conf) (s : Step) → Inv c → Mc.Allowed M c s → Mc.StepOk M c s → Mc.answerTo M c s ≡ refused 25 → ⊥
+    step-25 c (call a) I m k = call-25 c a I (m .1)
+    step-25 c undo I m k = newest-25 c (c .standing) k
+    step-25 c flush I m k = store-25 (c .now) (doFlush (c .now .store)) (L .flush-25 (c .now .store) (I .holds .good))
+
+    pub all-never-25 : (ss : List Step) (c : Conf) → Inv c → Mc.Legal M c ss → ((ch : Series) (s : ℕ) → Mc.InUse M c ss ch s → U ch s) → List·Memᴰ (refused 25) (Mc.answers M c ss) → ⊥
+    unfolding Mc.Legal Mc.InUse Mc.answers
+    all-never-25 [] c I l C t = List·Memᴰ·not-nil t
+    all-never-25 (s ∷ ss) c I l C t =
+        let o = one-step c s I (l .0) (l .1) (λ ch k h. C ch k (inr (first ss (Mc.step M c s) ch k h))) in
+        ⊎-elim (λ e. step-25 c s I (l .0) (o .1) (sym e)) (λ u. all-never-25 ss (Mc.step M c s) (o .0) (l .2) (λ ch k h. C ch k (inr h)) u) (List·Memᴰ·cases-cons t)
 
     pub start-inv : Inv (Mc.start M)
     start-inv = record {
@@ -204,11 +241,24 @@ module _ (M : Machine) (U : Series → ℕ → Type 0) (Good Tidy : M .Store →
       amounts = I .holds .amounts;
     }
 
--- The theorem from the laws: for each set U of row names whose keys are apart, the laws hold
-pub fork-undo : (M : Machine) (Tidy : M .Store → Type 0) (Good : (Series → ℕ → Type 0) → M .Store → Type 0) (GoodB : M .Bal → Type 0)
-    → ((U : Series → ℕ → Type 0) → Mc.KeysApart M U → Op.Laws M U (Good U) Tidy GoodB) → Mc.ForkUndo M
-fork-undo M Tidy Good GoodB laws ss l k =
-    let U = Mc.InUse M (Mc.start M) ss in
-    let L = laws U k in
-    let r = all-steps M U (Good U) Tidy GoodB L ss (Mc.start M) (start-inv M U (Good U) Tidy GoodB L) l (λ ch s h. h) in
-    (r .0, agrees M U (Good U) Tidy GoodB L (Mc.run M (Mc.start M) ss) (r .1))
+-- From the laws, for each set U of row names whose keys are apart: what holds after a legal list, the theorem, and that 25 never arises
+module _ (M : Machine) (Tidy : M .Store → Type 0) (Good : (Series → ℕ → Type 0) → M .Store → Type 0) (GoodB : M .Bal → Type 0)
+    (laws : (U : Series → ℕ → Type 0) → Mc.KeysApart M U → Op.Laws M U (Good U) Tidy GoodB) where
+  module _ (ss : List Step) (l : Mc.Legal M (Mc.start M) ss) (k : Mc.KeysApart M (Mc.InUse M (Mc.start M) ss)) where
+    abbrev U : Series → ℕ → Type 0
+    U = Mc.InUse M (Mc.start M) ss
+
+    begun : Inv M U (Good U) Tidy GoodB (Mc.start M)
+    begun = start-inv M U (Good U) Tidy GoodB (laws U k)
+
+    steps : Mc.StepsOk M (Mc.start M) ss × Inv M U (Good U) Tidy GoodB (Mc.run M (Mc.start M) ss)
+    steps = all-steps M U (Good U) Tidy GoodB (laws U k) ss (Mc.start M) begun l (λ ch s h. h)
+
+    pub held-after : Inv M U (Good U) Tidy GoodB (Mc.run M (Mc.start M) ss)
+    held-after = steps .1
+
+    pub fork-undo : Mc.StepsOk M (Mc.start M) ss × Mc.Agrees M (Mc.run M (Mc.start M) ss)
+    fork-undo = (steps .0, agrees M U (Good U) Tidy GoodB (laws U k) (Mc.run M (Mc.start M) ss) held-after)
+
+    pub never-25 : List·Memᴰ (refused 25) (Mc.answers M (Mc.start M) ss) → ⊥
+    never-25 = all-never-25 M U (Good U) Tidy GoodB (laws U k) ss (Mc.start M) begun l (λ ch s h. h)

@@ -7,7 +7,7 @@ use lib.IntN.{ℤ, pos, negℤ, natAbs}
 use lib.Signed.{_≤ℤ_, mag}
 use lib.ListN.{length}
 use Rattle.fork_model.proofs.Paid.{Paid}
-use Rattle.ledger.specs.Ledger.{TokenId, Parent, Series, boxes, Tokens, absℤ, sumOf}
+use Rattle.ledger.specs.Ledger.{TokenId, Parent, Series, boxes, Tokens, absℤ, sumOf, Typed}
 use Rattle.ledger.specs.Run.{done, refused, Popped, Machine, RefusalsLeave}
 use Rattle.fork_model.proofs.Results.{result-of}
 use Rattle.fork_model.proofs.Paid as Pd
@@ -77,6 +77,12 @@ module _ (M : Machine) (U : Series → ℕ → Type 0) (Good Tidy : M .Store →
     pub unspend-no : (σ : Store) (p : Parent) (t : ℤ) (k : ℕ) → Good σ → Sorted (map absℤ (entries σ (boxes p))) → List·Memᴰ (negℤ (absℤ t)) (entries σ (boxes p))
         → result-of (doUnspend σ p t) ≡ refused k → (k ≡ 16) × StagingFull σ
     pub flush-ok : (σ τ : Store) → Good σ → result-of (doFlush σ) ≡ done τ → Flushed Store entries Good Tidy σ τ
+    -- 25 does not arise
+    pub append-25 : (σ : Store) (ch : Series) (n : ℤ) → Good σ → result-of (doAppend σ ch n) ≡ refused 25 → ⊥
+    pub spend-25 : (σ : Store) (p : Parent) (t : ℤ) → Good σ → result-of (doSpend σ p t) ≡ refused 25 → ⊥
+    pub flush-25 : (σ : Store) → Good σ → result-of (doFlush σ) ≡ refused 25 → ⊥
+    pub add-25 : (b : Bal) (n : ℤ) (ts : Tokens) → GoodB b → Typed ts → result-of (add b n ts) ≡ refused 25 → ⊥
+    pub sub-25 : (b : Bal) (n : ℤ) (ts : Tokens) → GoodB b → Typed ts → result-of (sub b n ts) ≡ refused 25 → ⊥
     pub no-good : (p : Parent) → GoodB (noBal p)
     pub no-nano : (p : Parent) → nanoOf (noBal p) ≡ pos 0
     pub no-amount : (p : Parent) (t : TokenId) → amountOf (noBal p) t ≡ pos 0

@@ -7,7 +7,7 @@ use native.Mathlib.Omega.{arith}
 use lib.IntN.{ℤ, pos, negℤ, natAbs}
 use lib.Signed.{_≤ℤ_}
 use Rattle.fork_model.proofs.Paid.{Paid}
-use Rattle.ledger.specs.Ledger.{TokenId, Parent, Series, boxes, Tokens, sumOf}
+use Rattle.ledger.specs.Ledger.{TokenId, Parent, Series, boxes, Tokens, sumOf, Typed}
 use Rattle.ledger.specs.Run.{Res, done, refused, Made, Leaves, Machine}
 use Rattle.ledger.specs.Run as Mc
 use Rattle.fork_model.proofs.OperationLaws as Op
@@ -19,6 +19,7 @@ use Rattle.fork_model.proofs.PopLaws as Pl
 use Rattle.fork_model.proofs.FlushLaws as Fu
 use Rattle.fork_model.proofs.FlipLaws as Fl
 use Rattle.fork_model.proofs.Search as Se
+use Rattle.fork_model.proofs.CodeLaws as Co
 use Rattle.fork_model.proofs.Results.{result-of, keeping, result-keeping, keeping-leaves}
 
 -- the operations on balances
@@ -58,6 +59,8 @@ module _ (E : St.Env) (B : Balances) where
   pub record BalanceLaws (GoodB : B .Bal → Type 0) : Type 0 where
     pub credits : (b : B .Bal) (n : ℤ) (ts : Tokens) → Leaves b (B .add b n ts)
     pub debits : (b : B .Bal) (n : ℤ) (ts : Tokens) → Leaves b (B .sub b n ts)
+    pub add-25 : (b : B .Bal) (n : ℤ) (ts : Tokens) → GoodB b → Typed ts → result-of (B .add b n ts) ≡ refused 25 → ⊥
+    pub sub-25 : (b : B .Bal) (n : ℤ) (ts : Tokens) → GoodB b → Typed ts → result-of (B .sub b n ts) ≡ refused 25 → ⊥
     pub no-good : (p : Parent) → GoodB (B .noBal p)
     pub no-nano : (p : Parent) → B .nanoOf (B .noBal p) ≡ pos 0
     pub no-amount : (p : Parent) (t : TokenId) → B .amountOf (B .noBal p) t ≡ pos 0
@@ -92,6 +95,11 @@ module _ (E : St.Env) (B : Balances) where
           record { good = a .good; flip = Se.unflip-of-split (natAbs t) (a .split); beside = a .beside };
       unspend-no = λ σ p t k G S m e. Fl.guard-no E code U apart σ (boxes p) (negℤ (pos (natAbs t))) t k G (Se.sorted-unmap (St.entries E σ (boxes p)) S) (Gs.abs-neg (pos (natAbs t))) m (sym (result-keeping σ (St.doUnspend E σ p t)) ∙ e);
       flush-ok = λ σ τ G e. Fu.flush-ok E code U apart σ τ G (sym (result-keeping σ (St.doFlush E σ)) ∙ e);
+      append-25 = λ σ ch n G e. Co.never (St.doAppend E σ ch n) (Co.append-not E code U σ G ch n) (sym (result-keeping σ (St.doAppend E σ ch n)) ∙ e);
+      spend-25 = λ σ p t G e. Co.never (St.doSpend E σ p t) (Co.spend-not E code U σ G p t) (sym (result-keeping σ (St.doSpend E σ p t)) ∙ e);
+      flush-25 = λ σ G e. Co.never (St.doFlush E σ) (Co.flush-not E code U σ G) (sym (result-keeping σ (St.doFlush E σ)) ∙ e);
+      add-25 = BL .add-25;
+      sub-25 = BL .sub-25;
       no-good = BL .no-good;
       no-nano = BL .no-nano;
       no-amount = BL .no-amount;

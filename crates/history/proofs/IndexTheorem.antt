@@ -25,6 +25,7 @@ use Rattle.fork_model.proofs.Results.{result-of, result-keeping}
 use Rattle.history.specs.Index.{Index, kind-of, to-res, do-flush}
 use Rattle.history.specs.Machine.{Borrowed, none-of, start}
 use Rattle.history.specs.ForkUndo.{Places, index-machine}
+use Rattle.history.specs.Sound.{Sound}
 use Rattle.history.proofs.State as S
 use Rattle.history.proofs.State.{EditionLaws, Capacities, fit-head}
 use Rattle.history.proofs.Lists.{length-table}
@@ -133,3 +134,24 @@ module _ (E : Edition) (L : EditionLaws E) (ids : Parent → List ℕ) (B : Borr
 
   pub index-theorem : (GoodB : Q .Bal → Type 0) → Wh.BalanceLaws W Q GoodB → Mc.ForkUndo machine
   index-theorem GoodB laws = Sm.fork-undo M N abs Inv (Gs.Tidy W code (λ ch s. ⊥)) (Gs.Good W code) GoodB (Wh.store-laws W Q code GoodB laws) sims
+
+  pub index-never-25 : (GoodB : Q .Bal → Type 0) → Wh.BalanceLaws W Q GoodB → Mc.Never25 machine
+  index-never-25 GoodB laws = Sm.never-25 M N abs Inv (Gs.Tidy W code (λ ch s. ⊥)) (Gs.Good W code) GoodB (Wh.store-laws W Q code GoodB laws) sims
+
+  -- ---- what holds after a legal list
+  sound-of : (U : Series → ℕ → Type 0) (b : Index) → Inv b → Gs.Good W code U (abs b) → Sound E ids b
+  sound-of U b I G = record {
+    heads = I .heads-in;
+    lists = I .lists-in;
+    counts = I .not-below;
+    rows = λ ch n h. let g = G .full ch n h in (g .0, Po.read-same E ids caps b ch n ∙ g .1, g .2);
+  }
+
+  module _ (GoodB : Q .Bal → Type 0) (laws : Wh.BalanceLaws W Q GoodB) (ss : List Mc.Step) (l : Mc.Legal machine (Mc.start machine) ss) (k : Mc.KeysApart machine (Mc.InUse machine (Mc.start machine) ss)) where
+    pub index-sound : Sound E ids (Mc.run machine (Mc.start machine) ss .now .store)
+    index-sound =
+        let f = Sm.fine-after M N abs Inv (Gs.Tidy W code (λ ch s. ⊥)) (Gs.Good W code) GoodB (Wh.store-laws W Q code GoodB laws) sims ss l k in
+        sound-of (Mc.InUse machine (Mc.start machine) ss) (Mc.run machine (Mc.start machine) ss .now .store) (f .0) (f .1)
+
+    pub index-balances : (p : Parent) → GoodB (Mc.run machine (Mc.start machine) ss .now .bals p)
+    index-balances = Sm.balances-after M N abs Inv (Gs.Tidy W code (λ ch s. ⊥)) (Gs.Good W code) GoodB (Wh.store-laws W Q code GoodB laws) sims ss l k

@@ -1,6 +1,6 @@
 -- One machine does what another does: laws of the one from the laws of the other.
 use mathlib.Core.Path.{_≡_, sym, _∙_, ap, subst}
-use mathlib.Core.List.{[], _∷_, _++_}
+use mathlib.Core.List.{List, [], _∷_, _++_}
 use Prim.Native.Nat.{ℕ}
 use lib.IntN.{ℤ}
 use Rattle.ledger.specs.Ledger.{Parent, Series, boxes}
@@ -125,6 +125,14 @@ module _ (M N : Machine) where
             let I = s .keeps c e in
             let a = L .flush-ok (abs b) (abs c) (G .1) (map-keeps-done abs (result-of (N .doFlush b)) c (result-of (M .doFlush (abs b))) (s .same) e) in
             record { good = (I, a .good); tidy = a .tidy; same = λ ch. S .shows c I ch ∙ a .same ch ∙ sym (S .shows b (G .0) ch) };
+        append-25 = λ b ch n G e.
+            L .append-25 (abs b) ch n (G .1) (map-keeps-refused abs (result-of (N .doAppend b ch n)) 25 (result-of (M .doAppend (abs b) ch n)) (S .append b ch n (G .0) (G .1) .same) e);
+        spend-25 = λ b p t G e.
+            L .spend-25 (abs b) p t (G .1) (map-keeps-refused abs (result-of (N .doSpend b p t)) 25 (result-of (M .doSpend (abs b) p t)) (S .spend b p t (G .0) (G .1) .same) e);
+        flush-25 = λ b G e.
+            L .flush-25 (abs b) (G .1) (map-keeps-refused abs (result-of (N .doFlush b)) 25 (result-of (M .doFlush (abs b))) (S .flush b (G .0) (G .1) .same) e);
+        add-25 = L .add-25;
+        sub-25 = L .sub-25;
         no-good = L .no-good;
         no-nano = L .no-nano;
         no-amount = L .no-amount;
@@ -138,5 +146,20 @@ module _ (M N : Machine) where
 module _ (M N : Machine) (abs : N .Store → M .Store) (Inv : N .Store → Type 0) (Tidy : M .Store → Type 0) (Good : (Series → ℕ → Type 0) → M .Store → Type 0) (GoodB : M .Bal → Type 0)
     (laws : (U : Series → ℕ → Type 0) → Mc.KeysApart M U → Op.Laws M U (Good U) Tidy GoodB)
     (sims : (U : Series → ℕ → Type 0) → Sims M N abs Inv (Good U)) where
+  abbrev lowered : (U : Series → ℕ → Type 0) → Mc.KeysApart M U → Op.Laws (lower M N) U (Fine M N abs Inv (Good U)) (λ b. Tidy (abs b)) GoodB
+  lowered U k = lower-laws M N abs Inv (Good U) U Tidy GoodB (laws U k) (sims U)
+
   pub fork-undo : Mc.ForkUndo (lower M N)
-  fork-undo = Hi.fork-undo (lower M N) (λ b. Tidy (abs b)) (λ U. Fine M N abs Inv (Good U)) GoodB (λ U k. lower-laws M N abs Inv (Good U) U Tidy GoodB (laws U k) (sims U))
+  fork-undo = Hi.fork-undo (lower M N) (λ b. Tidy (abs b)) (λ U. Fine M N abs Inv (Good U)) GoodB lowered
+
+  pub never-25 : Mc.Never25 (lower M N)
+  never-25 = Hi.never-25 (lower M N) (λ b. Tidy (abs b)) (λ U. Fine M N abs Inv (Good U)) GoodB lowered
+
+  -- what holds after a legal list
+  pub fine-after : (ss : List Mc.Step) → Mc.Legal (lower M N) (Mc.start (lower M N)) ss → Mc.KeysApart (lower M N) (Mc.InUse (lower M N) (Mc.start (lower M N)) ss)
+      → Fine M N abs Inv (Good (Mc.InUse (lower M N) (Mc.start (lower M N)) ss)) (Mc.run (lower M N) (Mc.start (lower M N)) ss .now .store)
+  fine-after ss l k = Hi.held-after (lower M N) (λ b. Tidy (abs b)) (λ U. Fine M N abs Inv (Good U)) GoodB lowered ss l k .holds .good
+
+  pub balances-after : (ss : List Mc.Step) → Mc.Legal (lower M N) (Mc.start (lower M N)) ss → Mc.KeysApart (lower M N) (Mc.InUse (lower M N) (Mc.start (lower M N)) ss)
+      → (p : Parent) → GoodB (Mc.run (lower M N) (Mc.start (lower M N)) ss .now .bals p)
+  balances-after ss l k = Hi.held-after (lower M N) (λ b. Tidy (abs b)) (λ U. Fine M N abs Inv (Good U)) GoodB lowered ss l k .holds .goodB

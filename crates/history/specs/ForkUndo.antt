@@ -3,7 +3,6 @@
 -- list of calls, undos and flushes does, which lists are legal, and what the theorem promises of them (`ForkUndo`): each undo is accepted unless the staged
 -- (16) or the deleted spills (21) are full, an undone append returns its number, and afterwards the index holds exactly what the standing calls alone give.
 -- "Demand 3 is a single statement about the whole list, not one for each call."
-use Rattle.ledger.specs.Ledger.{amount-in}
 use mathlib.Core.Path.{_≡_}
 use mathlib.Core.List.{List}
 use Prim.Native.Nat.{ℕ, _≤_}
@@ -13,7 +12,7 @@ use Rattle.balance.specs.declared.Balance.{Balance}
 use Rattle.buffer_core.specs.declared.Direction.the-variants.{Spend, Unspend}
 use Rattle.buffer_core.specs.Edition.{Edition, edition-1}
 use Rattle.balance_laws.specs.Calls.{credited, debited, tokens-in}
-use Rattle.ledger.specs.Ledger.{Parent}
+use Rattle.ledger.specs.Ledger.{Parent, amount-in}
 use Rattle.ledger.specs.Run.{Machine}
 use Rattle.ledger.specs.Run as Run
 use Rattle.history.specs.Index.{Index, kind-of, id-of, do-append, do-pop, do-flip, do-flush, entries-of}
@@ -63,7 +62,7 @@ module _ (E : Edition) (ids : Parent → List ℕ) (B : Borrowed E) (s : Parent 
   }
 
 -- for all parents' ids, all capacities and whatever the borrowed buffers hold at the start: every legal list in which no two row keys in use are equal.
--- "Only the list writes parents and buffers"; that "25 never arises" is part of the proof (Inv of proofs/State.antt)
+-- "Only the list writes parents and buffers"; that "25 never arises" stands in Sound.antt
 abbrev pub Theorem : Type 0
 Theorem = (ids : Parent → List ℕ) (B : Borrowed edition-1) (s : Parent → Places) → Run.ForkUndo (index-machine edition-1 ids B s)
 

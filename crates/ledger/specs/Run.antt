@@ -205,6 +205,29 @@ module _ (M : Machine) where
   run c [] = c
   run c (s ∷ ss) = run (step c s) ss
 
+  -- ---- what the steps answer: done, with the number of an undone append and else with none, or refused with a number
+  abbrev pub said : Made State State → Res (List ℤ)
+  said (accepted σ) = done []
+  said (refused-leaving n σ) = refused n
+
+  abbrev pub undoSaid : Made State Undone → Res (List ℤ)
+  undoSaid (accepted u) = done (u .answer)
+  undoSaid (refused-leaving n σ) = refused n
+
+  abbrev pub newestSaid : Conf → List Call → Res (List ℤ)
+  newestSaid c [] = done []
+  newestSaid c (a ∷ cs) = undoSaid (runUndo (c .now) a)
+
+  abbrev pub answerTo : Conf → Step → Res (List ℤ)
+  answerTo c (call a) = said (runCall (c .now) a)
+  answerTo c undo = newestSaid c (c .standing)
+  answerTo c flush = said (withStore (c .now) (doFlush (c .now .store)))
+
+  -- of each step of the list
+  unfoldable pub answers : Conf → List Step → List (Res (List ℤ))
+  answers c [] = []
+  answers c (s ∷ ss) = answerTo c s ∷ answers (step c s) ss
+
   -- a step may come: at each change an accepted flush came before it, and an undo comes only while a call stands
   abbrev pub Allowed : Conf → Step → Type 0
   Allowed c (call a) = MayCall (c .phase) × Args limit a
@@ -268,6 +291,10 @@ module _ (M : Machine) where
     pub flushes : (σ : Store) → Leaves σ (doFlush σ)
     pub credits : (b : Bal) (n : ℤ) (ts : Tokens) → Leaves b (add b n ts)
     pub debits : (b : Bal) (n : ℤ) (ts : Tokens) → Leaves b (sub b n ts)
+
+  -- 25 never arises: no step of a legal list in which no two row keys in use are equal is refused with it
+  abbrev pub Never25 : Type 0
+  Never25 = (ss : List Step) → Legal start ss → KeysApart (InUse start ss) → List·Memᴰ (refused 25) (answers start ss) → ⊥
 
   -- the fork-undo theorem of a machine: for every legal list of steps in which no two row keys in use are equal, every undo answers as it should, and at the
   -- end the index agrees with the standing calls. As every beginning of a legal list is legal, it agrees after each step
