@@ -22,7 +22,7 @@ use Rattle.buffer_core.specs.Pop.{pop-of, pop-ok, pop-core, lists-ok}
 use Rattle.buffer_core.specs.Flip.{flip-of, flip-ok, flip-core, flip-effect, in-order, in-rows, search-by, walk-from}
 use Rattle.buffer_core.specs.Flush.{flush-of, flush-core, flushed, table-after, put-undeleted, remove-keys, new-count}
 use Rattle.ledger.specs.Ledger.{TokenId, id-dec, Series, boxes, txs, series-dec, ite, Call, append, spend, credit, debit, absℤ, ledger-numbers, Rules}
-use Rattle.ledger.specs.Run.{flat, Machine, Conf, start, run, Legal, InUse, KeysApart, StepsOk, Agrees}
+use Rattle.ledger.specs.Run.{done, refused, flat, Machine, Conf, start, run, answers, Legal, InUse, KeysApart, StepsOk, Agrees}
 use Rattle.ledger.proofs.ShortLaws.{short-apart}
 use Rattle.history.specs.ForkUndo.{index-machine}
 use Rattle.history.specs.Example.{token-of-sevens, credit-ten, before-the-fork, two-parents, three-appends, two-parents-standing}
@@ -43,6 +43,14 @@ unfolding run ite series-dec ℕ-discrete append-of append-ok append-core spill-
     flip-of flip-ok flip-core flip-effect in-order in-rows search-by walk-from pop-of pop-ok pop-core flush-of flush-core flushed table-after put-undeleted remove-keys new-count lists-ok keys-ok clear-records write
     buffers-ok change-box place-from add-token subtract-token change-tokens closed-up checked same-bytes
 two-parents-stand = refl
+
+-- what each step answers: the three refused calls with their numbers, and the undos of a debit, a credit and a spend with none
+pub two-parents-answers : answers M (start M) two-parents
+    ≡ done [] ∷ done [] ∷ done [] ∷ refused 17 ∷ done [] ∷ refused 15 ∷ done [] ∷ refused 23 ∷ done [] ∷ done [] ∷ done [] ∷ done [] ∷ done [] ∷ done [] ∷ done [] ∷ []
+unfolding answers run ite series-dec ℕ-discrete append-of append-ok append-core spill-of records-ok lengths-ok distinct records no-tokens
+    flip-of flip-ok flip-core flip-effect in-order in-rows search-by walk-from pop-of pop-ok pop-core flush-of flush-core flushed table-after put-undeleted remove-keys new-count lists-ok keys-ok clear-records write
+    buffers-ok change-box place-from add-token subtract-token change-tokens closed-up checked same-bytes
+two-parents-answers = refl
 
 -- before the fork the second parent holds what the credit and the debit give, the refused credit nothing, and the spent number is marked
 pub before-nanos : M .nanoOf (run M (start M) (before-the-fork []) .now .bals 1) ≡ pos 6

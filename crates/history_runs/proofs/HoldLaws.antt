@@ -1,5 +1,5 @@
 -- The runner's state goes on holding what the machine of the fork-undo theorem holds, so that the theorem speaks of what the runner does.
-use mathlib.Core.Path.{_≡_, sym, ap, _∙_, subst}
+use mathlib.Core.Path.{_≡_, refl, sym, ap, _∙_, subst}
 use mathlib.Core.Logic.{inl, inr}
 use mathlib.Core.Bool.{Bool, true, false}
 use mathlib.Core.List.{List, [], _∷_, _++_, map}
@@ -30,7 +30,7 @@ use Rattle.history.proofs.ForkUndoLaw.{fork-undo}
 use Rattle.history.proofs.RefusalLaws.{flip-leaves, refusals-leave}
 use Rattle.ledger.proofs.LeaveLaws.{paid-back}
 use Rattle.history_runs.specs.View.{ids-in, view, balance-in, Same, SamePop, SameBalance, changed, one-token}
-use Rattle.history_runs.specs.Runs.{made, says, Changes, Makes, Unmakes, UnmakesNewest, M, Holds, Tells, Spells, UndoSaid, StepSaid, StepsSaid, Agrees}
+use Rattle.history_runs.specs.Runs.{made, heard, says, says-of, Changes, Makes, Unmakes, UnmakesNewest, M, Holds, Tells, Spells, UndoSaid, StepSaid, StepsSaid, Agrees}
 use Rattle.history_runs.proofs.ViewLaws.{append-same, pop-same, flip-same, flush-same}
 use Rattle.history_runs.proofs.BalanceLaws.{change-same}
 use Rattle.history_runs.proofs.NearLaws.{Near, NearRes, NearPop, append-near, pop-near, flip-near, flush-near}
@@ -206,6 +206,35 @@ module _ (parents : ℕ) (ids : Parent → List ℕ) (B : Borrowed edition-1) (p
   run-holds [] (x ∷ xs) c s h m = absurd m
   run-holds (t ∷ ts) [] c s h m = absurd m
   run-holds (t ∷ ts) (x ∷ xs) c s h m = run-holds ts xs (Run.step W c t) (step-of edition-1 x s .after) (step-holds c s h t x (m .0)) (m .1)
+
+  -- ---- what the steps say
+  after-said : (x : Stepping) (R : Made (Run.State W) (Run.State W)) → After x R → x .said ≡ says-of (Run.said W R)
+  after-said x (accepted τ) e = e .0
+  after-said x (refused-leaving k τ) e = e .0
+
+  undone-said : (x : Stepping) (R : Made (Run.State W) (Run.Undone W)) → AfterUndo x R → x .said ≡ says-of (Run.undoSaid W R)
+  undone-said x (accepted u) e = e .0
+  undone-said x (refused-leaving k τ) e = e .0
+
+  newest-heard : (c : Run.Conf W) (s : State) → H (c .now) s → (l : List ledger.Call) (x : Call) → UnmakesNewest parents l x → step-of edition-1 x s .said ≡ says-of (Run.newestSaid W c l)
+  newest-heard c s h [] x m = absurd m
+  newest-heard c s h (a ∷ cs) x m = undone-said (step-of edition-1 x s) (Run.runUndo W (c .now) a) (undo-after (c .now) s h a x m)
+
+  step-heard : (c : Run.Conf W) (s : State) → H (c .now) s → (t : Step) (x : Call) → Tells parents ids B places c t x → step-of edition-1 x s .said ≡ says-of (Run.answerTo W c t)
+  step-heard c s h (call a) x m = after-said (step-of edition-1 x s) (Run.runCall W (c .now) a) (call-after (c .now) s h a x m)
+  step-heard c s h undo x m = newest-heard c s h (c .standing) x m
+  step-heard c s h flush x m =
+      ap (λ (z : Call). step-of edition-1 z s .said) m
+      ∙ after-said (step-of edition-1 Flush s) (Run.withStore W (c .now) (do-flush edition-1 ids (c .now .store))) (flush-after (c .now) s h)
+
+  -- what the runner says is what the steps answer
+  pub run-heard : (ts : List Step) (xs : List Call) (c : Run.Conf W) (s : State) → H (c .now) s → Spells parents ids B places c ts xs → heard xs s ≡ map says-of (Run.answers W c ts)
+  unfolding Spells heard Run.answers
+  run-heard [] [] c s h m = refl
+  run-heard [] (x ∷ xs) c s h m = absurd m
+  run-heard (t ∷ ts) [] c s h m = absurd m
+  run-heard (t ∷ ts) (x ∷ xs) c s h m = λ i.
+      step-heard c s h t x (m .0) i ∷ run-heard ts xs (Run.step W c t) (step-of edition-1 x s .after) (step-holds c s h t x (m .0)) (m .1) i
 
   -- ---- what an undo says
   undo-said : (σ : Run.State W) (s : State) → H σ s → (a : ledger.Call) (cs : List ledger.Call) (x : Stepping) (R : Made (Run.State W) (Run.Undone W)) → AfterUndo x R

@@ -1,11 +1,13 @@
 -- The runner makes the calls that stand in its input, one after the other.
 use mathlib.Core.Path.{_≡_, refl, sym, ap, _∙_, subst}
 use mathlib.Core.Bool.{Bool, true, false}
-use mathlib.Core.List.{List, [], _∷_}
+use mathlib.Core.List.{List, [], _∷_, map}
 use Prim.Native.Nat.{ℕ, zero, suc, _+_, _*_, _≤_, _<_}
 use native.Mathlib.Omega.{arith}
-use lib.IntN.{ℤ}
-use lib.ListN.{length, length-set}
+use lib.Dec.{eqb}
+use lib.IntN.{ℤ, pos}
+use lib.ListN.{length, set, length-set}
+use lib.Seq.{getD-set-same, getD-set-other}
 use borrow.Author.Tests.{lt-ltb, le-leb, eq-eqb}
 use Rattle.records.proofs.CheckLaws.{and-true}
 use Rattle.buffer_core.specs.Edition.{edition-1}
@@ -14,16 +16,20 @@ use Rattle.calls.specs.Calls.{call-at, size-of}
 use Rattle.calls.proofs.CallLaws.{call-sound}
 use Rattle.call_steps.specs.State.{State, state-ok}
 use Rattle.call_steps.specs.Steps.{step-of}
+use Rattle.call_steps.proofs.RefusedLaws.{both}
 use Rattle.ledger.specs.Ledger.{Parent}
+use Rattle.ledger.specs.Ledger as ledger
 use Rattle.ledger.specs.Run.{Step}
 use Rattle.ledger.specs.Run as Mc
+use Rattle.ledger.proofs.AnswerLaws.{standing-told}
 use Rattle.history.specs.ForkUndo.{Places}
-use Rattle.runner.specs.Run.{Run, may-go, runs, start, run-of}
+use Rattle.runner.specs.Run.{Run, flag, may-go, turn-of, runs, start, run-of}
 use Rattle.runner.proofs.RunLaws.{runs-stop, run-passed}
 use Rattle.runner.proofs.PieceLaws.{runs-go, turn-stops, turn-goes, after}
 use Rattle.history_runs.specs.View.{ids-in}
-use Rattle.history_runs.specs.Runs.{made, Stand, Spells, Agrees, Empty}
-use Rattle.history_runs.proofs.StartLaws.{borrowed, W, fork-undo-from-empty}
+use Rattle.history_runs.specs.Runs.{made, heard, is-one, said-at, said-from, Stand, says-of, Spells, StepsSaid, Agrees, Empty}
+use Rattle.history_runs.proofs.HoldLaws.{run-heard}
+use Rattle.history_runs.proofs.StartLaws.{borrowed, start-holds, W, fork-undo-from-empty}
 
 module _ (parents : ℕ) (input : List ℕ) where
   -- so many more answers have room
@@ -37,6 +43,16 @@ module _ (parents : ℕ) (input : List ℕ) where
       and-true _ _ (eq-eqb (r .end) 0 (k .going))
       (and-true _ _ (lt-ltb (r .made) (length (r .popped)) (omega (arith, k .numbers))) (le-leb (r .made * 2 + 2) (length (r .answers)) (omega (arith, k .codes))))
 
+  codes-long : (r : Run) → length (after edition-1 parents input r .answers) ≡ length (r .answers)
+  codes-long r = simp length-set
+
+  room-after : (n : ℕ) (r : Run) → Room (suc n) r → Room n (after edition-1 parents input r)
+  room-after n r k = record {
+    going = refl;
+    numbers = omega (arith, k .numbers, length-set (r .popped) (r .made) (step-of edition-1 (call-at parents input (r .at)) (r .now) .said .number));
+    codes = omega (arith, k .codes, codes-long r);
+  }
+
   -- a run of more turns than calls stand there makes them
   pub run-made : (xs : List Call) (n : ℕ) (r : Run) → length xs < n → Room (length xs) r → Stand parents input (r .at) xs → runs edition-1 parents input n r .now ≡ made xs (r .now)
   unfolding Stand made
@@ -49,18 +65,70 @@ module _ (parents : ℕ) (input : List ℕ) where
   run-made (x ∷ xs) (suc n) r h k s =
       let y = after edition-1 parents input r in
       let z : size-of (call-at parents input (r .at)) ≡ 0 → ⊥ = λ q. s .1 (ap size-of (sym (s .0)) ∙ q) in
-      let room : Room (length xs) y = record {
-        going = refl;
-        numbers = omega (arith, k .numbers, length-set (r .popped) (r .made) (step-of edition-1 (call-at parents input (r .at)) (r .now) .said .number));
-        codes = omega (arith, k .codes, codes-long r);
-      } in
       let t : Stand parents input (y .at) xs = subst (λ (c : Call). Stand parents input (r .at + size-of c) xs) (sym (s .0)) (s .2) in
       ap (λ (v : Run). v .now) (runs-go edition-1 parents input n r (goes (length xs) r k) ∙ ap (runs edition-1 parents input n) (turn-goes edition-1 parents input r z))
-      ∙ run-made xs n y (omega arith) room t
+      ∙ run-made xs n y (omega arith) (room-after (length xs) r k) t
       ∙ ap (λ (c : Call). made xs (step-of edition-1 c (r .now) .after)) (s .0)
-    where
-      codes-long : (r : Run) → length (after edition-1 parents input r .answers) ≡ length (r .answers)
-      codes-long r = simp length-set
+
+  -- ---- the answers of a run stand where it wrote them
+  abbrev Alike : ℕ → Run → Run → Type 0
+  Alike i x y = said-at (x .answers) (x .popped) i ≡ said-at (y .answers) (y .popped) i
+
+  answered-alike : (r : Run) (i : ℕ) → i < r .made → Alike i (after edition-1 parents input r) r
+  answered-alike r i h =
+      let a = step-of edition-1 (call-at parents input (r .at)) (r .now) .said in
+      let m = r .made in
+      let l = set (r .answers) (m * 2) (a .code) in
+      let code = getD-set-other l (m * 2 + 1) (i * 2) (flag (a .popped)) 0 (λ e. omega (arith, e)) ∙ getD-set-other (r .answers) (m * 2) (i * 2) (a .code) 0 (λ e. omega (arith, e)) in
+      let mark = getD-set-other l (m * 2 + 1) (i * 2 + 1) (flag (a .popped)) 0 (λ e. omega (arith, e)) ∙ getD-set-other (r .answers) (m * 2) (i * 2 + 1) (a .code) 0 (λ e. omega (arith, e)) in
+      let number = getD-set-other (r .popped) m i (a .number) (pos 0) (λ e. omega (arith, e)) in
+      λ j. record { code = code j; popped = is-one (mark j); number = number j }
+
+  turn-alike : (r : Run) (i : ℕ) → i < r .made → Alike i (turn-of edition-1 parents input r) r × (r .made ≤ turn-of edition-1 parents input r .made)
+  unfolding turn-of
+  turn-alike r i h =
+      both (λ (x : Run). Alike i x r × (r .made ≤ x .made)) (eqb (size-of (call-at parents input (r .at))) 0) (refl, omega arith) (answered-alike r i h, omega arith)
+
+  runs-alike : (n : ℕ) (r : Run) (i : ℕ) → i < r .made → Alike i (runs edition-1 parents input n r) r
+  unfolding runs
+  runs-alike zero r i h = refl
+  runs-alike (suc n) r i h =
+      let t = turn-alike r i h in
+      both (λ (x : Run). Alike i x r) (may-go r) (runs-alike n (turn-of edition-1 parents input r) i (omega (arith, t .1)) ∙ t .0) refl
+
+  one-flag : (b : Bool) → is-one (flag b) ≡ b
+  one-flag true = refl
+  one-flag false = refl
+
+  answer-there : (r : Run) → r .made < length (r .popped) → r .made * 2 + 2 ≤ length (r .answers)
+      → said-at (after edition-1 parents input r .answers) (after edition-1 parents input r .popped) (r .made) ≡ step-of edition-1 (call-at parents input (r .at)) (r .now) .said
+  answer-there r h k =
+      let a = step-of edition-1 (call-at parents input (r .at)) (r .now) .said in
+      let m = r .made in
+      let l = set (r .answers) (m * 2) (a .code) in
+      let code = getD-set-other l (m * 2 + 1) (m * 2) (flag (a .popped)) 0 (λ e. omega (arith, e)) ∙ getD-set-same (r .answers) (m * 2) (a .code) 0 (omega arith) in
+      let mark = ap is-one (getD-set-same l (m * 2 + 1) (flag (a .popped)) 0 (omega (arith, length-set (r .answers) (m * 2) (a .code)))) ∙ one-flag (a .popped) in
+      let number = getD-set-same (r .popped) m (a .number) (pos 0) h in
+      λ j. record { code = code j; popped = mark j; number = number j }
+
+  -- a run of more turns than calls stand there has their answers, each in its place
+  pub run-answers : (xs : List Call) (n : ℕ) (r : Run) → length xs < n → Room (length xs) r → Stand parents input (r .at) xs
+      → said-from (runs edition-1 parents input n r .answers) (runs edition-1 parents input n r .popped) (r .made) (length xs) ≡ heard xs (r .now)
+  unfolding Stand heard said-from
+  run-answers [] n r h k s = refl
+  run-answers (x ∷ xs) zero r h k s = absurd (omega arith)
+  run-answers (x ∷ xs) (suc n) r h k s =
+      let y = after edition-1 parents input r in
+      let z : size-of (call-at parents input (r .at)) ≡ 0 → ⊥ = λ q. s .1 (ap size-of (sym (s .0)) ∙ q) in
+      let t : Stand parents input (y .at) xs = subst (λ (c : Call). Stand parents input (r .at + size-of c) xs) (sym (s .0)) (s .2) in
+      let e : runs edition-1 parents input (suc n) r ≡ runs edition-1 parents input n y
+      = runs-go edition-1 parents input n r (goes (length xs) r k) ∙ ap (runs edition-1 parents input n) (turn-goes edition-1 parents input r z) in
+      let v = runs edition-1 parents input n y in
+      let here : said-at (v .answers) (v .popped) (r .made) ≡ step-of edition-1 x (r .now) .said
+      = runs-alike n y (r .made) (omega arith) ∙ answer-there r (omega (arith, k .numbers)) (omega (arith, k .codes)) ∙ ap (λ (c : Call). step-of edition-1 c (r .now) .said) (s .0) in
+      let there : said-from (v .answers) (v .popped) (r .made + 1) (length xs) ≡ heard xs (step-of edition-1 x (r .now) .after)
+      = run-answers xs n y (omega arith) (room-after (length xs) r k) t ∙ ap (λ (c : Call). heard xs (step-of edition-1 c (r .now) .after)) (s .0) in
+      ap (λ (w : Run). said-from (w .answers) (w .popped) (r .made) (suc (length xs))) e ∙ (λ i. here i ∷ there i)
 
   -- no more calls than bytes
   few : (xs : List Call) (at : ℕ) → at ≤ length input → Stand parents input at xs → length xs + at ≤ length input
@@ -81,13 +149,38 @@ module _ (parents : ℕ) (input : List ℕ) where
       ap (λ (y : Run). y .now) (sym (run-passed parents input s answers popped ok))
       ∙ run-made xs (length input + 1) r (omega (arith, few xs 0 (omega arith) m)) (record { going = refl; numbers = omega arith; codes = omega arith }) m
 
-  -- the fork-undo theorem of what the public function `run_calls` leaves: from an empty state, on an input whose calls spell a legal list of steps in which no
-  -- two row keys in use are equal, and with room for the answers, the state at exit holds exactly what the standing calls alone give
-  pub fork-undo-of-input : (places : Parent → Places) (s : State) (E : Empty parents places s) (answers : List ℕ) (popped : List ℤ) (ts : List Step) (xs : List Call)
-      → state-ok edition-1 parents s ≡ true → length xs ≤ length popped → length xs * 2 ≤ length answers → Stand parents input 0 xs
-      → Spells parents (ids-in s) (borrowed parents places s E) places (Mc.start (W parents places s E)) ts xs → Mc.Legal (W parents places s E) (Mc.start (W parents places s E)) ts
-      → Mc.KeysApart (W parents places s E) (Mc.InUse (W parents places s E) (Mc.start (W parents places s E)) ts)
-      → Agrees parents (Mc.run (W parents places s E) (Mc.start (W parents places s E)) ts .standing) (run-of edition-1 parents input s answers popped .now)
-  fork-undo-of-input places s E answers popped ts xs ok numbers codes m p l k =
-      subst (Agrees parents (Mc.run (W parents places s E) (Mc.start (W parents places s E)) ts .standing)) (sym (run-of-made s answers popped xs ok numbers codes m))
-      (fork-undo-from-empty parents places s E ts xs p l k .1)
+  pub run-of-answers : (s : State) (answers : List ℕ) (popped : List ℤ) (xs : List Call) → state-ok edition-1 parents s ≡ true → length xs ≤ length popped
+      → length xs * 2 ≤ length answers → Stand parents input 0 xs
+      → said-from (run-of edition-1 parents input s answers popped .answers) (run-of edition-1 parents input s answers popped .popped) 0 (length xs) ≡ heard xs s
+  run-of-answers s answers popped xs ok numbers codes m =
+      let r = start s answers popped in
+      ap (λ (y : Run). said-from (y .answers) (y .popped) 0 (length xs)) (sym (run-passed parents input s answers popped ok))
+      ∙ run-answers xs (length input + 1) r (omega (arith, few xs 0 (omega arith) m)) (record { going = refl; numbers = omega arith; codes = omega arith }) m
+
+  module _ (places : Parent → Places) (s : State) (E : Empty parents places s) (answers : List ℕ) (popped : List ℤ) (ts : List Step) (xs : List Call) where
+    abbrev M : Mc.Machine
+    M = W parents places s E
+
+    abbrev out : Run
+    out = run-of edition-1 parents input s answers popped
+
+    -- what the theorem says of the run: what each call says is what the step answers; every undo says what it should; and the state at exit holds exactly what
+    -- the standing calls alone give, which the answers tell
+    pub record Theorem : Type 0 where
+      pub said : said-from (out .answers) (out .popped) 0 (length xs) ≡ map says-of (Mc.answers M (Mc.start M) ts)
+      pub undos : StepsSaid parents (ids-in s) (borrowed parents places s E) places (Mc.start M) s ts xs
+      pub agrees : Agrees parents (Mc.told [] ts (Mc.answers M (Mc.start M) ts)) (out .now)
+
+    -- the fork-undo theorem of what the public function `run_calls` leaves: from an empty state, on an input whose calls spell a legal list of steps in which no
+    -- two row keys in use are equal, and with room for the answers
+    pub fork-undo-of-input : state-ok edition-1 parents s ≡ true → length xs ≤ length popped → length xs * 2 ≤ length answers → Stand parents input 0 xs
+        → Spells parents (ids-in s) (borrowed parents places s E) places (Mc.start M) ts xs → Mc.Legal M (Mc.start M) ts → Mc.KeysApart M (Mc.InUse M (Mc.start M) ts) → Theorem
+    fork-undo-of-input ok numbers codes m p l k =
+        let f = fork-undo-from-empty parents places s E ts xs p l k in
+        record {
+          said = run-of-answers s answers popped xs ok numbers codes m
+              ∙ run-heard parents (ids-in s) (borrowed parents places s E) places ts xs (Mc.start M) s (start-holds parents places s E) p;
+          undos = f .0;
+          agrees = subst (λ (cs : List ledger.Call). Agrees parents cs (out .now)) (standing-told M ts (Mc.start M))
+              (subst (Agrees parents (Mc.run M (Mc.start M) ts .standing)) (sym (run-of-made s answers popped xs ok numbers codes m)) (f .1));
+        }

@@ -3,10 +3,10 @@ use mathlib.Core.Path.{_≡_}
 use mathlib.Core.Logic.{_⊎_}
 use mathlib.Core.Bool.{Bool, true, false}
 use mathlib.Core.List.{List, [], _∷_, map}
-use Prim.Native.Nat.{ℕ, _+_, _≤_, _<_}
+use Prim.Native.Nat.{ℕ, zero, suc, _+_, _*_, _≤_, _<_}
 use lib.IntN.{ℤ, pos}
 use lib.Signed.{mag}
-use lib.ListN.{replicate}
+use lib.ListN.{getD, replicate}
 use native.Mathlib.Decide.{decLt}
 use Rattle.buffer_core.specs.declared.Direction.the-variants.{Spend, Unspend}
 use Rattle.buffer_core.specs.Edition.{edition-1}
@@ -20,7 +20,7 @@ use Rattle.call_steps.specs.Steps.{accepted, number-popped, refused, step-of}
 use Rattle.balance_laws.specs.Calls.{tokens-in}
 use Rattle.ledger.specs.Ledger.{TokenId, Parent, Series, boxes, parentOf, ite, Tokens, append, spend, credit, debit, absℤ, amount-in, ledger-numbers, ledger-spent, ledger-nanos, ledger-amount}
 use Rattle.ledger.specs.Ledger as ledger
-use Rattle.ledger.specs.Run.{Machine, Step, call, undo, flush, negs, answerOf}
+use Rattle.ledger.specs.Run.{Res, done, Machine, Step, call, undo, flush, negs, answerOf}
 use Rattle.ledger.specs.Run as Run
 use Rattle.history.specs.Index.{kind-of, entries-of}
 use Rattle.history.specs.Machine.{Borrowed}
@@ -32,6 +32,23 @@ unfoldable pub made : List Call → State → State
 made [] s = s
 made (x ∷ xs) s = made xs (step-of edition-1 x s .after)
 
+-- what each of the calls says
+unfoldable pub heard : List Call → State → List Said
+heard [] s = []
+heard (x ∷ xs) s = step-of edition-1 x s .said ∷ heard xs (step-of edition-1 x s .after)
+
+-- the answers as the runner gives them: "the refusal or 0, and a popped number", of each of n calls from the i-th on
+abbrev pub is-one : ℕ → Bool
+is-one zero = false
+is-one (suc n) = true
+
+abbrev pub said-at : List ℕ → List ℤ → ℕ → Said
+said-at answers popped i = record { code = getD answers (i * 2) 0; popped = is-one (getD answers (i * 2 + 1) 0); number = getD popped i (pos 0) }
+
+unfoldable pub said-from : List ℕ → List ℤ → (i n : ℕ) → List Said
+said-from answers popped i zero = []
+said-from answers popped i (suc n) = said-at answers popped i ∷ said-from answers popped (i + 1) n
+
 -- the calls that stand in the bytes one after the other, from a byte on up to where no call stands
 unfoldable pub Stand : (parents : ℕ) → List ℕ → ℕ → List Call → Type 0
 Stand parents input at [] = size-of (call-at parents input at) ≡ 0
@@ -41,6 +58,11 @@ Stand parents input at (x ∷ xs) = (call-at parents input at ≡ x) × (size-of
 abbrev pub says : List ℤ → Said
 says [] = accepted
 says (n ∷ ns) = number-popped n
+
+-- and where a step does
+abbrev pub says-of : Res (List ℤ) → Said
+says-of (done l) = says l
+says-of (Run.refused k) = refused k
 
 module _ (parents : ℕ) where
   -- a credit or a debit that the runner has: of one token, whose id is a byte 32 times

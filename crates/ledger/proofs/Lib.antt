@@ -3,3 +3,4 @@ pub mod TestLaws
 pub mod RuleLaws
 pub mod LeaveLaws
 pub mod ShortLaws
+pub mod AnswerLaws

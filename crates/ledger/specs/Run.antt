@@ -113,6 +113,21 @@ answerOf (spend p t) = []
 answerOf (credit p n ts) = []
 answerOf (debit p n ts) = []
 
+-- the standing calls as the answers tell them: "An accepted call becomes the newest standing call, an accepted undo removes that one; flushes and refusals
+-- change nothing"
+abbrev pub standsAfter : Step → Res (List ℤ) → List Call → List Call
+standsAfter (call a) (done l) cs = a ∷ cs
+standsAfter (call a) (refused k) cs = cs
+standsAfter undo (done l) [] = []
+standsAfter undo (done l) (a ∷ cs) = cs
+standsAfter undo (refused k) cs = cs
+standsAfter flush r cs = cs
+
+unfoldable pub told : List Call → List Step → List (Res (List ℤ)) → List Call
+told cs [] rs = cs
+told cs (s ∷ ss) [] = cs
+told cs (s ∷ ss) (r ∷ rs) = told (standsAfter s r cs) ss rs
+
 module _ (M : Machine) where
   open Machine M using (Store, empty, doAppend, doPop, doSpend, doUnspend, doFlush, entries, StagingFull, DeletionFull, Bal, noBal, add, sub, nanoOf, amountOf, rowSize, limit, Key, key)
 

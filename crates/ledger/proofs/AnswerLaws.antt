@@ -1,0 +1,40 @@
+-- The answers tell which calls stand, and what an undo answers is what the theorem says of it.
+use mathlib.Core.Path.{_≡_, refl, ap, _∙_}
+use mathlib.Core.List.{List, [], _∷_}
+use lib.IntN.{ℤ}
+use Rattle.ledger.specs.Ledger.{Call}
+use Rattle.ledger.specs.Run.{Res, Made, accepted, refused-leaving, Machine, Step, call, undo, flush, standsAfter, told}
+use Rattle.ledger.specs.Run as Mc
+
+module _ (M : Machine) where
+  abbrev State : Type 0
+  State = Mc.State M
+
+  abbrev Conf : Type 0
+  Conf = Mc.Conf M
+
+  call-told : (c : Conf) (a : Call) (X : Made State State) → Mc.afterCall M c a X .standing ≡ standsAfter (call a) (Mc.said M X) (c .standing)
+  call-told c a (accepted σ) = refl
+  call-told c a (refused-leaving k σ) = refl
+
+  undo-told : (c : Conf) (a : Call) (cs : List Call) (X : Made State (Mc.Undone M)) → c .standing ≡ a ∷ cs → Mc.afterUndo M c cs X .standing ≡ standsAfter undo (Mc.undoSaid M X) (a ∷ cs)
+  undo-told c a cs (accepted u) e = refl
+  undo-told c a cs (refused-leaving k σ) e = e
+
+  newest-told : (c : Conf) (l : List Call) → c .standing ≡ l → Mc.undoNewest M c l .standing ≡ standsAfter undo (Mc.newestSaid M c l) l
+  newest-told c [] e = e
+  newest-told c (a ∷ cs) e = undo-told c a cs (Mc.runUndo M (c .now) a) e
+
+  flush-told : (c : Conf) (X : Made State State) → Mc.afterFlush M c X .standing ≡ c .standing
+  flush-told c (accepted σ) = refl
+  flush-told c (refused-leaving k σ) = refl
+
+  step-told : (c : Conf) (s : Step) → Mc.step M c s .standing ≡ standsAfter s (Mc.answerTo M c s) (c .standing)
+  step-told c (call a) = call-told c a (Mc.runCall M (c .now) a)
+  step-told c undo = newest-told c (c .standing) refl
+  step-told c flush = flush-told c (Mc.withStore M (c .now) (M .doFlush (c .now .store)))
+
+  pub standing-told : (ss : List Step) (c : Conf) → Mc.run M c ss .standing ≡ told (c .standing) ss (Mc.answers M c ss)
+  unfolding Mc.run Mc.answers told
+  standing-told [] c = refl
+  standing-told (s ∷ ss) c = standing-told ss (Mc.step M c s) ∙ ap (λ (cs : List Call). told cs ss (Mc.answers M (Mc.step M c s) ss)) (step-told c s)
