@@ -38,7 +38,7 @@ module _ (parents : ℕ) (input : List ℕ) where
     pub numbers : r .made + n ≤ length (r .popped)
     pub codes : (r .made + n) * 2 ≤ length (r .answers)
 
-  goes : (n : ℕ) (r : Run) → Room (suc n) r → may-go r ≡ true
+  pub goes : (n : ℕ) (r : Run) → Room (suc n) r → may-go r ≡ true
   goes n r k =
       and-true _ _ (eq-eqb (r .end) 0 (k .going))
       (and-true _ _ (lt-ltb (r .made) (length (r .popped)) (omega (arith, k .numbers))) (le-leb (r .made * 2 + 2) (length (r .answers)) (omega (arith, k .codes))))
@@ -46,7 +46,7 @@ module _ (parents : ℕ) (input : List ℕ) where
   codes-long : (r : Run) → length (after edition-1 parents input r .answers) ≡ length (r .answers)
   codes-long r = simp length-set
 
-  room-after : (n : ℕ) (r : Run) → Room (suc n) r → Room n (after edition-1 parents input r)
+  pub room-after : (n : ℕ) (r : Run) → Room (suc n) r → Room n (after edition-1 parents input r)
   room-after n r k = record {
     going = refl;
     numbers = omega (arith, k .numbers, length-set (r .popped) (r .made) (step-of edition-1 (call-at parents input (r .at)) (r .now) .said .number));
@@ -131,7 +131,7 @@ module _ (parents : ℕ) (input : List ℕ) where
       ap (λ (w : Run). said-from (w .answers) (w .popped) (r .made) (suc (length xs))) e ∙ (λ i. here i ∷ there i)
 
   -- no more calls than bytes
-  few : (xs : List Call) (at : ℕ) → at ≤ length input → Stand parents input at xs → length xs + at ≤ length input
+  pub few : (xs : List Call) (at : ℕ) → at ≤ length input → Stand parents input at xs → length xs + at ≤ length input
   unfolding Stand
   few [] at h s = omega arith
   few (x ∷ xs) at h s =

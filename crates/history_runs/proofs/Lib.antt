@@ -7,3 +7,4 @@ pub mod NearLaws
 pub mod HoldLaws
 pub mod StartLaws
 pub mod InputLaws
+pub mod PieceLaws

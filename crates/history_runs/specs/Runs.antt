@@ -2,11 +2,11 @@
 use mathlib.Core.Path.{_≡_}
 use mathlib.Core.Logic.{_⊎_}
 use mathlib.Core.Bool.{Bool, true, false}
-use mathlib.Core.List.{List, [], _∷_, map}
+use mathlib.Core.List.{List, [], _∷_, _++_, map}
 use Prim.Native.Nat.{ℕ, zero, suc, _+_, _*_, _≤_, _<_}
 use lib.IntN.{ℤ, pos}
 use lib.Signed.{mag}
-use lib.ListN.{getD, replicate}
+use lib.ListN.{length, drop, getD, replicate}
 use native.Mathlib.Decide.{decLt}
 use Rattle.buffer_core.specs.declared.Direction.the-variants.{Spend, Unspend}
 use Rattle.buffer_core.specs.Edition.{edition-1}
@@ -17,6 +17,7 @@ use Rattle.calls.specs.Calls.{call-at, size-of}
 use Rattle.call_steps.specs.declared.Said.{Said}
 use Rattle.call_steps.specs.State.{State, Ready}
 use Rattle.call_steps.specs.Steps.{accepted, number-popped, refused, step-of}
+use Rattle.runner.specs.Run.{run-of}
 use Rattle.balance_laws.specs.Calls.{tokens-in}
 use Rattle.ledger.specs.Ledger.{TokenId, Parent, Series, boxes, parentOf, ite, Tokens, append, spend, credit, debit, absℤ, amount-in, ledger-numbers, ledger-spent, ledger-nanos, ledger-amount}
 use Rattle.ledger.specs.Ledger as ledger
@@ -53,6 +54,27 @@ said-from answers popped i (suc n) = said-at answers popped i ∷ said-from answ
 unfoldable pub Stand : (parents : ℕ) → List ℕ → ℕ → List Call → Type 0
 Stand parents input at [] = size-of (call-at parents input at) ≡ 0
 Stand parents input at (x ∷ xs) = (call-at parents input at ≡ x) × (size-of x ≡ 0 → ⊥) × Stand parents input (at + size-of x) xs
+
+-- ---- an input that is read in pieces: each run gets the bytes that the one before left, then the next piece, and starts from the state it left
+pub record Piece : Type 0 where
+  pub bytes : List ℕ
+  pub answers : List ℕ
+  pub popped : List ℤ
+
+unfoldable pub bytes-of : List Piece → List ℕ
+bytes-of [] = []
+bytes-of (q ∷ qs) = q .bytes ++ bytes-of qs
+
+unfoldable pub in-pieces : (parents : ℕ) → State → (left : List ℕ) → List Piece → State
+in-pieces parents s left [] = s
+in-pieces parents s left (q ∷ qs) =
+    let r = run-of edition-1 parents (left ++ q .bytes) s (q .answers) (q .popped) in
+    in-pieces parents (r .now) (drop (r .at) (left ++ q .bytes)) qs
+
+-- each run has room for n answers
+unfoldable pub Roomy : ℕ → List Piece → Type 0
+Roomy n [] = Unit {0}
+Roomy n (q ∷ qs) = (n ≤ length (q .popped)) × (n * 2 ≤ length (q .answers)) × Roomy n qs
 
 -- what the runner says where an undo answers so
 abbrev pub says : List ℤ → Said

@@ -4,3 +4,4 @@ pub mod RuleLaws
 pub mod LeaveLaws
 pub mod ShortLaws
 pub mod AnswerLaws
+pub mod PrefixLaws

@@ -312,6 +312,6 @@ module _ (M : Machine) where
   Never25 = (ss : List Step) → Legal start ss → KeysApart (InUse start ss) → List·Memᴰ (refused 25) (answers start ss) → ⊥
 
   -- the fork-undo theorem of a machine: for every legal list of steps in which no two row keys in use are equal, every undo answers as it should, and at the
-  -- end the index agrees with the standing calls. As every beginning of a legal list is legal, it agrees after each step
+  -- end the index agrees with the standing calls. As every beginning of a legal list is legal (proofs/PrefixLaws.antt), it agrees after each step
   abbrev pub ForkUndo : Type 0
   ForkUndo = (ss : List Step) → Legal start ss → KeysApart (InUse start ss) → StepsOk start ss × Agrees (run start ss)
