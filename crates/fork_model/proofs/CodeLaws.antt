@@ -1,5 +1,5 @@
 -- 25 never arises: no operation of the store of tables refuses with it where the rows can be read, and no operation of the balances does.
-use mathlib.Core.Path.{_≡_, refl, sym, subst}
+use mathlib.Core.Path.{_≡_, refl, subst}
 use mathlib.Core.Bool.{Bool, true, false}
 use mathlib.Core.List.{List, [], _∷_, _++_}
 use Prim.Native.Nat.{ℕ, zero, suc, _+_, _≤_, _<_}
@@ -12,7 +12,7 @@ use Rattle.ledger.specs.Ledger.{Parent, Series, boxes, ite, Tokens, TokenId, am
 use Rattle.ledger.specs.Run.{Res, done, refused}
 use Rattle.fork_model.proofs.Table.{Found, missing, found}
 use Rattle.fork_model.proofs.Table as Tb
-use Rattle.fork_model.proofs.Store.{andThen, Ends, nothing, ends, unsnoc, flipFirst, ordered, seenIn, orB, whenB, Hit, onHit, notFound, firstAbs, lastAbs, midOf, halve, walk, both}
+use Rattle.fork_model.proofs.Store.{andThen, flipFirst, ordered, seenIn, orB, whenB, Hit, onHit, notFound, firstAbs, lastAbs, midOf, halve, walk, both}
 use Rattle.fork_model.proofs.Store as St
 use Rattle.fork_model.proofs.GoodStore.{ite-both, FullRow, Coded}
 use Rattle.fork_model.proofs.GoodStore as Gs

@@ -7,7 +7,8 @@ use Prim.Native.Nat.{ℕ, zero, suc, _+_, _≤_, _<_}
 use native.Mathlib.Decide.{ℕ-discrete}
 use native.Mathlib.Omega.{arith}
 use lib.IntN.{ℤ, pos, negsuc, negℤ, natAbs}
-use Rattle.ledger.specs.Ledger.{Parent, Series, boxes, txs, boxes≢txs, series-dec, ite, Call, append, spend, credit, debit, absℤ, ledger-numbers, Rule, Rules}
+use Rattle.ledger.specs.Ledger.{Parent, Series, boxes, txs, series-dec, ite, Call, append, spend, credit, debit, absℤ, ledger-numbers, Rule, Rules}
+use Rattle.ledger.specs.Decide.{boxes≢txs}
 use Rattle.ledger.specs.Run.{negAt, negs}
 
 pub map-append : (f : ℤ → ℤ) (a b : List ℤ) → map f (a ++ b) ≡ map f a ++ map f b

@@ -10,7 +10,7 @@ use lib.IntN.{ℤ}
 use lib.Signed.{_≤ℤ_, mag}
 use lib.ListN.{length, length-append, length-map}
 use Rattle.ledger.specs.Ledger.{Parent, Series, boxes, txs, series-dec, Tokens, Call, append, spend, credit, debit, absℤ, sumOf, ledger-numbers, Rules, Typed}
-use Rattle.ledger.specs.Run.{Res, done, refused, Made, accepted, refused-leaving, Popped, Machine, Phase, clean, calls, undos, Step, call, undo, flush, MayCall, negs}
+use Rattle.ledger.specs.Run.{done, refused, Made, accepted, refused-leaving, Popped, Machine, Phase, clean, calls, undos, Step, call, undo, flush, MayCall, negs}
 use Rattle.ledger.specs.Run as Mc
 use Rattle.fork_model.proofs.OperationLaws as Op
 use Rattle.fork_model.proofs.Results.{result-of, was-accepted}

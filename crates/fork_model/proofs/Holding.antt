@@ -8,7 +8,8 @@ use native.Mathlib.Decide.{ℕ-discrete}
 use native.Mathlib.Omega.{arith}
 use lib.IntN.{ℤ, pos, negsuc, negℤ, natAbs, _+ℤ_, _-ℤ_}
 use lib.ListN.{length, length-append}
-use Rattle.ledger.specs.Ledger.{TokenId, Parent, parent-dec, Series, boxes, txs, boxes≢txs, boxes-inj, series-dec, ite, Tokens, Call, append, spend, credit, debit, absℤ, sumOf, ledger-numbers, ledger-spent, ledger-nanos, ledger-amount, Rule}
+use Rattle.ledger.specs.Ledger.{TokenId, Parent, parent-dec, Series, boxes, txs, series-dec, ite, Tokens, Call, append, spend, credit, debit, absℤ, sumOf, ledger-numbers, ledger-spent, ledger-nanos, ledger-amount, Rule}
+use Rattle.ledger.specs.Decide.{boxes≢txs, boxes-inj}
 use Rattle.ledger.specs.Run.{Machine, Phase, clean, calls, undos, negAt, negs}
 use Rattle.ledger.specs.Run as Mc
 use Rattle.fork_model.proofs.OperationLaws as Op

@@ -1,6 +1,5 @@
 -- Answers of one layer as answers of another.
 use mathlib.Core.Path.{_≡_, refl, sym, ap}
-use Prim.Native.Nat.{ℕ}
 use Rattle.ledger.specs.Run.{Res, done, refused, Made, accepted, refused-leaving, Leaves, Popped}
 use Rattle.fork_model.proofs.Search.{done≢refused}
 

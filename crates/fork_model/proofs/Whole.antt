@@ -8,7 +8,7 @@ use lib.IntN.{ℤ, pos, negℤ, natAbs}
 use lib.Signed.{_≤ℤ_}
 use Rattle.fork_model.proofs.Paid.{Paid}
 use Rattle.ledger.specs.Ledger.{TokenId, Parent, Series, boxes, Tokens, sumOf, Typed}
-use Rattle.ledger.specs.Run.{Res, done, refused, Made, Leaves, Machine}
+use Rattle.ledger.specs.Run.{done, refused, Made, Leaves, Machine}
 use Rattle.ledger.specs.Run as Mc
 use Rattle.fork_model.proofs.OperationLaws as Op
 use Rattle.fork_model.proofs.History as Hi

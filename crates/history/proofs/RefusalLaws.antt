@@ -24,7 +24,7 @@ use Rattle.ledger.specs.Ledger.{Parent, Series, boxes, series-dec, ite}
 use Rattle.ledger.specs.Run.{Leaves, RefusalsLeave}
 use Rattle.balance_laws.specs.Calls.{ids-of, amounts-of}
 use Rattle.balance_laws.proofs.Laws.{change-leaves}
-use Rattle.history.specs.Index.{Part, part, Index, index, kind-of, set-part, after-append, after-pop, after-flip, after-flush, id-of, sources-of, do-append, do-pop, do-flip, do-flush}
+use Rattle.history.specs.Index.{Part, Index, index, kind-of, set-part, after-append, after-pop, after-flip, after-flush, id-of, sources-of, do-append, do-pop, do-flip, do-flush}
 use Rattle.history.specs.Machine.{Borrowed}
 use Rattle.history.specs.ForkUndo.{Places, index-machine}
 

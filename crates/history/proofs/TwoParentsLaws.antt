@@ -21,7 +21,7 @@ use Rattle.buffer_core.specs.Append.{append-of, append-ok, append-core, spill-o
 use Rattle.buffer_core.specs.Pop.{pop-of, pop-ok, pop-core, lists-ok}
 use Rattle.buffer_core.specs.Flip.{flip-of, flip-ok, flip-core, flip-effect, in-order, in-rows, search-by, walk-from}
 use Rattle.buffer_core.specs.Flush.{flush-of, flush-core, flushed, table-after, put-undeleted, remove-keys, new-count}
-use Rattle.ledger.specs.Ledger.{TokenId, id-dec, Series, boxes, txs, series-dec, ite, Call, append, spend, credit, debit, absℤ, ledger-numbers, Rules}
+use Rattle.ledger.specs.Ledger.{TokenId, id-dec, Series, boxes, series-dec, ite, Call, append, spend, debit, absℤ, ledger-numbers, Rules}
 use Rattle.ledger.specs.Run.{done, refused, flat, Machine, Conf, start, run, answers, Legal, InUse, KeysApart, StepsOk, Agrees}
 use Rattle.ledger.proofs.ShortLaws.{short-apart}
 use Rattle.history.specs.ForkUndo.{index-machine}

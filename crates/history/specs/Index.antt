@@ -1,16 +1,15 @@
 -- The index as the calls leave it: each parent's heads with their counts, the staged spills, the segments table and the deleted spills, in bytes; and its
 -- operations, each the very definition that the contract of the public function cites, run on the part of the index that the function borrows.
 use Rattle.ledger.specs.Run.{flat}
-use mathlib.Core.List.{List, [], _∷_, _++_}
-use Prim.Native.Nat.{ℕ, zero, suc, _≤_}
+use mathlib.Core.List.{List, [], _++_}
+use Prim.Native.Nat.{ℕ}
 use lib.IntN.{ℤ, pos, natAbs}
-use lib.ListN.{length, take}
+use lib.ListN.{take}
 use Rattle.records.specs.declared.ListCounts.{ListCounts}
 use Rattle.segment_id.specs.declared.Kind.{Kind}
 use Rattle.segment_id.specs.declared.Kind.the-variants.{Box, Tx}
 use Rattle.buffer_core.specs.declared.HeadCounts.{HeadCounts}
 use Rattle.buffer_core.specs.declared.Direction.{Direction}
-use Rattle.buffer_core.specs.declared.Direction.the-variants.{Spend, Unspend}
 use Rattle.buffer_core.specs.declared.Appended.{Appended}
 use Rattle.buffer_core.specs.declared.Appended.the-variants as appended
 use Rattle.buffer_core.specs.declared.Popped.{Popped}

@@ -4,12 +4,11 @@ use Prim.Native.Nat.{ℕ, _*_, _≤_}
 use lib.IntN.{ℤ, pos}
 use lib.ListN.{length}
 use Rattle.records.specs.declared.ListCounts.{ListCounts}
-use Rattle.buffer_core.specs.declared.Direction.the-variants.{Spend, Unspend}
 use Rattle.buffer_core.specs.Edition.{Edition}
 use Rattle.buffer_core.specs.Append.{counts-of}
 use Rattle.buffer_core.specs.Pop.{lists}
-use Rattle.ledger.specs.Ledger.{Parent, Series}
-use Rattle.history.specs.Index.{Index, index, part, do-append, do-pop, do-flip, do-flush, entries-of}
+use Rattle.ledger.specs.Ledger.{Series}
+use Rattle.history.specs.Index.{Index, index, part}
 
 -- what is borrowed at the start, whatever it holds: 512 places for each head, and three lists with room for their capacities
 pub record Borrowed (E : Edition) : Type 0 where

@@ -1,9 +1,8 @@
 -- The answers tell which calls stand, and what an undo answers is what the theorem says of it.
 use mathlib.Core.Path.{_≡_, refl, ap, _∙_}
 use mathlib.Core.List.{List, [], _∷_}
-use lib.IntN.{ℤ}
 use Rattle.ledger.specs.Ledger.{Call}
-use Rattle.ledger.specs.Run.{Res, Made, accepted, refused-leaving, Machine, Step, call, undo, flush, standsAfter, told}
+use Rattle.ledger.specs.Run.{Made, accepted, refused-leaving, Machine, Step, call, undo, flush, standsAfter, told}
 use Rattle.ledger.specs.Run as Mc
 
 module _ (M : Machine) where

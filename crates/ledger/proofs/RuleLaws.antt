@@ -7,7 +7,7 @@ use native.Mathlib.Omega.{arith}
 use lib.IntN.{pos, _+ℤ_}
 use lib.Signed.{_≤ℤ_}
 use lib.ListN.{replicate}
-use Rattle.ledger.specs.Ledger.{TokenId, id-dec, boxes, txs, append, spend, credit, debit, ite, series-dec, ledger-spent, BoxRule, CreditRule, Rules}
+use Rattle.ledger.specs.Ledger.{TokenId, id-dec, boxes, txs, append, spend, credit, debit, ite, series-dec, BoxRule, CreditRule, Rules}
 
 -- "no box number is appended while its spent count is above 0"
 pub not-while-spent : Rules (append (boxes 0) (pos 5) ∷ spend 0 (pos 5) ∷ append (boxes 0) (pos 5) ∷ []) → ⊥

@@ -1,107 +1,15 @@
 -- The ledger that the fork-undo theorem compares the index with (document 01, "The plain record"): calls, what the standing calls give, and the rules of
 -- a history. "An accepted call becomes the newest standing call, an accepted undo removes that one; flushes and refusals change nothing."
-use mathlib.Core.Path.{_≡_, refl, sym, _∙_, ap}
-use mathlib.Core.Logic.{_⊎_, inl, inr, _≢_}
-use mathlib.Core.HLevel.{Discrete}
-use mathlib.Core.List.{List, [], _∷_, _++_, map, List·Memᴰ, append-assoc, nil≢cons, head-eq-of-cons-eq, tail-eq-of-cons-eq}
-use Prim.Native.Nat.{ℕ, zero, suc, _+_, _*_, _≤_, _<_}
-use native.Mathlib.Omega.{arith}
+use mathlib.Core.Path.{_≡_}
+use mathlib.Core.List.{List, [], _∷_, _++_, List·Memᴰ}
+use Prim.Native.Nat.{ℕ, suc, _≤_, _<_}
 use native.Mathlib.Decide.{ℕ-discrete}
-use lib.IntN.{ℤ, pos, negsuc, negℤ, natAbs, _+ℤ_, _-ℤ_}
+use lib.IntN.{ℤ, pos, natAbs, _+ℤ_, _-ℤ_}
 use lib.Signed.{_≤ℤ_, mag}
 use lib.ListN.{length}
-
--- ids of parents and of tokens: 32 bytes
-abbrev pub TokenId : Type 0
-TokenId = List ℕ
-
-name-step : {x y : ℕ} {xs ys : TokenId} → Dec (x ≡ y) → Dec (xs ≡ ys) → Dec (_≡_ {A = TokenId} (x ∷ xs) (y ∷ ys))
-name-step (yes p) (yes q) = yes (λ i. p i ∷ q i)
-name-step (yes p) (no n) = no (λ e. n (tail-eq-of-cons-eq e))
-name-step (no n) q = no (λ e. n (head-eq-of-cons-eq e))
-
--- whether two ids are the same; it computes
-unfoldable pub id-dec : Discrete TokenId
-unfolding name-step ℕ-discrete
-id-dec [] [] = yes refl
-id-dec [] (y ∷ ys) = no (λ e. nil≢cons e)
-id-dec (x ∷ xs) [] = no (λ e. nil≢cons (sym e))
-id-dec (x ∷ xs) (y ∷ ys) = name-step (ℕ-discrete x y) (id-dec xs ys)
-
-pos-step : {m n : ℕ} → Dec (m ≡ n) → Dec (pos m ≡ pos n)
-pos-step (yes p) = yes (ap pos p)
-pos-step (no f) = no (λ q. f (ap natAbs q))
-
-neg-step : {m n : ℕ} → Dec (m ≡ n) → Dec (negsuc m ≡ negsuc n)
-neg-step (yes p) = yes (ap negsuc p)
-neg-step {m} {n} (no f) = no (λ q. let z : suc m ≡ suc n = ap natAbs q in f (omega arith))
-
-unfoldable pub int-dec : Discrete ℤ
-unfolding pos-step neg-step ℕ-discrete
-int-dec (pos m) (pos n) = pos-step (ℕ-discrete m n)
-int-dec (pos m) (negsuc n) = no (λ e. let z : _≡_ {A = ℕ} 0 1 = cc in omega arith)
-int-dec (negsuc m) (pos n) = no (λ e. let z : _≡_ {A = ℕ} 0 1 = cc in omega arith)
-int-dec (negsuc m) (negsuc n) = neg-step (ℕ-discrete m n)
-
--- a parent, by its place among the parents: two of them may carry the same id
-abbrev pub Parent : Type 0
-Parent = ℕ
-
-abbrev pub parent-dec : Discrete Parent
-parent-dec = ℕ-discrete
-
--- "per parent a list of box and one of transaction numbers"
-pub data Series : Type 0 where
-  boxes : Parent → Series
-  txs : Parent → Series
-
-abbrev pub parentOf : Series → Parent
-parentOf (boxes p) = p
-parentOf (txs p) = p
-
-isBoxes : Series → ℕ
-isBoxes (boxes p) = 1
-isBoxes (txs p) = 0
-
--- the first where the test holds, else the second
-unfoldable pub ite {ℓ} : {P : Type 0} {A : Type ℓ} → Dec P → A → A → A
-ite (yes p) a b = a
-ite (no n) a b = b
-
-pub boxes-inj : {p q : Parent} → boxes p ≡ boxes q → p ≡ q
-boxes-inj e = ap parentOf e
-
-pub txs-inj : {p q : Parent} → txs p ≡ txs q → p ≡ q
-txs-inj e = ap parentOf e
-
-onBoxes : {p q : Parent} → Dec (p ≡ q) → Dec (boxes p ≡ boxes q)
-onBoxes (yes e) = yes (ap boxes e)
-onBoxes (no n) = no (λ e. n (boxes-inj e))
-
-onTxs : {p q : Parent} → Dec (p ≡ q) → Dec (txs p ≡ txs q)
-onTxs (yes e) = yes (ap txs e)
-onTxs (no n) = no (λ e. n (txs-inj e))
-
-pub boxes≢txs : {p q : Parent} → boxes p ≡ txs q → ⊥
-boxes≢txs e = let z : _≡_ {A = ℕ} 0 1 = cc in omega arith
-
-unfoldable pub series-dec : Discrete Series
-unfolding onBoxes onTxs ℕ-discrete
-series-dec (boxes p) (boxes q) = onBoxes (ℕ-discrete p q)
-series-dec (boxes p) (txs q) = no (λ e. boxes≢txs e)
-series-dec (txs p) (boxes q) = no (λ e. boxes≢txs (sym e))
-series-dec (txs p) (txs q) = onTxs (ℕ-discrete p q)
-
--- tokens of a credit or debit: ids with amounts, an id may repeat
-abbrev pub Tokens : Type 0
-Tokens = List (TokenId × ℤ)
-
--- "Demand 3 needs only append, spend, credit, debit, their undos and flush": the calls; undo and flush are steps of a run (Run.antt)
-pub data Call : Type 0 where
-  append : Series → ℤ → Call
-  spend : Parent → ℤ → Call
-  credit : Parent → ℤ → Tokens → Call
-  debit : Parent → ℤ → Tokens → Call
+pub use Rattle.ledger.specs.Calls.{TokenId, Parent, Series, boxes, txs, parentOf, Tokens, Call, append, spend, credit, debit}
+pub use Rattle.ledger.specs.Decide.{parent-dec}
+unfoldable pub use Rattle.ledger.specs.Decide.{ite, id-dec, int-dec, series-dec}
 
 -- the number without its sign, as a signed number
 abbrev pub absℤ : ℤ → ℤ

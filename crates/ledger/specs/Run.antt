@@ -4,12 +4,12 @@
 use mathlib.Core.Path.{_≡_}
 use mathlib.Core.Logic.{_⊎_, _≢_}
 use mathlib.Core.List.{List, [], _∷_, _++_, map, List·Memᴰ}
-use Prim.Native.Nat.{ℕ, zero, suc, _+_, _*_, _≤_, _<_}
+use Prim.Native.Nat.{ℕ, zero, suc, _+_, _*_, _<_}
 use native.Mathlib.Decide.{ℕ-discrete}
-use lib.IntN.{ℤ, pos, negsuc, negℤ, natAbs, _+ℤ_, _-ℤ_}
-use lib.Signed.{_≤ℤ_, mag}
+use lib.IntN.{ℤ, pos, negsuc}
+use lib.Signed.{mag}
 use lib.ListN.{length}
-use Rattle.ledger.specs.Ledger.{TokenId, Parent, parent-dec, id-dec, Series, boxes, txs, ite, Tokens, Call, append, spend, credit, debit, absℤ, sumOf, ledger-numbers, ledger-spent, ledger-nanos, ledger-amount, AllPos, Typed, Rules}
+use Rattle.ledger.specs.Ledger.{TokenId, Parent, parent-dec, Series, boxes, ite, Tokens, Call, append, spend, credit, debit, absℤ, ledger-numbers, ledger-spent, ledger-nanos, ledger-amount, Typed, Rules}
 
 -- what is answered: done, with a result, or refused with a number. "A refusal returns its number only"
 pub data Res (A : Type 0) : Type 0 where
