@@ -6,4 +6,4 @@ pub mod RecordLaws
 pub mod PutLaws
 pub mod RemoveLaws
 pub mod CheckLaws
-pub mod ChainLaws
+pub mod TreeLaws

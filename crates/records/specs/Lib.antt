@@ -3,4 +3,4 @@ pub mod Records
 pub mod Find
 pub mod Changes
 pub mod Checks
-pub mod Chains
+pub mod Trees

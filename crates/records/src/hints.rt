@@ -20,6 +20,15 @@ fn clear_hints(hints: &mut [u16]) {
     }
 }
 
+// The slot of a key among the hints that two of its bytes name.
+fn slot_at(key: &[u8], at: usize, slots: usize) -> usize
+    requires { ⌜ (at + 2 ≤ length (now key)) × (0 < slots) ⌝ }
+    ensures { λ r. ⌜ r < slots ⌝ }
+{
+    let next = at + 1;
+    ((key[at] as usize) * 256 + (key[next] as usize)) % slots
+}
+
 // Notes an index in a slot that is free, and tells whether it was.
 fn note_in(hints: &mut [u16], slot: usize, index: usize) -> bool
     requires { ⌜ (slot < length (now hints)) × (index < 65535) ⌝ }
@@ -36,11 +45,11 @@ fn note_place(list: &[u8], at: usize, index: usize, hints: &mut [u16])
     requires { ⌜ (at + 32 ≤ length (now list)) × (index < 65535) × (0 < length (now hints)) ⌝ }
 {
     let slots = hints.len();
-    let first = super::bucket(list, at, slots);
+    let first = slot_at(list, at, slots);
     if note_in(hints, first, index) {
         return;
     }
-    let second = super::bucket(list, at + 2, slots);
+    let second = slot_at(list, at + 2, slots);
     note_in(hints, second, index);
 }
 
@@ -70,7 +79,7 @@ pub fn note_places(list: &[u8], size: usize, count: usize, hints: &mut [u16])
 fn hint_at(key: &[u8], k: usize, hints: &[u16]) -> usize
     requires { ⌜ (k + 2 ≤ length (now key)) × (0 < length (now hints)) ⌝ }
 {
-    let slot = super::bucket(key, k, hints.len());
+    let slot = slot_at(key, k, hints.len());
     hints[slot] as usize
 }
 

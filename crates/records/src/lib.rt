@@ -1,7 +1,8 @@
 // Record lists and key lists in borrowed bytes: search, put, remove, clear, and what refusal 25 asks of a list.
 // A record has its key in bytes 0 to 31, the length of its row in bytes 32 and 33, and its row from byte 34 on.
 ghost use mathlib.Core.Path.{_≡_};
-ghost use Prim.Native.Nat.{ℕ, _+_, _*_, _/_, _%_, _≤_, _<_};
+ghost use Prim.Native.Nat.{ℕ, _+_, _*_, _-_, _/_, _%_, _^_, _≤_, _<_};
+ghost use mathlib.Core.Bool.{true, false};
 ghost use mathlib.Core.List.{[], _∷_};
 ghost use lib.ListN.{length, getD, take, drop, set};
 ghost use Rattle.stores.specs.Equal.{same-bytes};
@@ -9,7 +10,7 @@ ghost use Rattle.stores.specs.Stores.{write};
 ghost use Rattle.records.specs.Records.{records, keys, stored-row, record-of};
 ghost use Rattle.records.specs.Find.{find-key, is-found, distinct, locate-key};
 ghost use Rattle.records.specs.Changes.{slot, count-after, put-record, remove-record, clear-records, full-for};
-ghost use Rattle.records.specs.Chains.{bucket-of, Chained};
+ghost use Rattle.records.specs.Trees.{half-at, word-at, root-of, turns-of, AllFree, Grown, Spotted, NoneAgain};
 ghost use Rattle.records.specs.Checks.{in-bounds, lengths-ok, records-ok, keys-ok};
 
 pub mod hints;
@@ -24,6 +25,12 @@ pub struct ListCounts {
 pub enum Found {
     At(usize),
     Nothing,
+}
+
+// Where a key goes in a tree of keys: a slot that is free, or none, for the key is there.
+pub enum Spot {
+    Free(usize),
+    Taken,
 }
 
 // Where the row under a key stands.
@@ -276,76 +283,160 @@ fn same_keys(list: &[u8], at: usize, other: usize) -> bool
     key_is(list, at, &list[other..end])
 }
 
-// The bucket of the key at a position: the two bytes there, modulo the number of buckets.
-fn bucket(list: &[u8], at: usize, buckets: usize) -> usize
-    requires { ⌜ (at + 2 ≤ length (now list)) × (0 < buckets) ⌝ }
-    ensures { λ r. ⌜ (r ≡ bucket-of buckets (take 32 (drop at (now (list .entry))))) × (r < buckets) ⌝ }
+// ---- no key twice: each key is put into a tree, and meets an equal one on its way
+
+fn wide(x: u8) -> u64
+    ensures { λ r. ⌜ r ≡ x ⌝ }
+    ensures { λ r. ⌜ r < 256 ⌝ }
 {
-    let next = at + 1;
-    ((list[at] as usize) * 256 + (list[next] as usize)) % buckets
+    x as u64
 }
 
-// Whether the key at a position, of bucket b, is one of the first i keys, which are chained.
-fn stands_before(
+// Four bytes as a number, the lowest first.
+fn half(list: &[u8], at: usize) -> u64
+    requires { ⌜ at + 4 ≤ length (now list) ⌝ }
+    ensures value { λ r. ⌜ r ≡ half-at (now (list .entry)) at ⌝ }
+    ensures fits { λ r. ⌜ r < 2 ^ 32 ⌝ }
+{
+    wide(list[at])
+        + wide(list[at + 1]) * 0x100
+        + wide(list[at + 2]) * 0x1_0000
+        + wide(list[at + 3]) * 0x100_0000
+}
+
+// Eight bytes as a number, the lowest first.
+fn word(list: &[u8], at: usize) -> u64
+    requires { ⌜ at + 8 ≤ length (now list) ⌝ }
+    ensures { λ r. ⌜ r ≡ word-at (now (list .entry)) at ⌝ }
+{
+    half(list, at) + half(list, at + 4) * 0x1_0000_0000
+}
+
+// The root at which the way of a key begins: its first eight bytes, modulo the number of roots.
+fn root(list: &[u8], at: usize, roots: usize) -> usize
+    requires { ⌜ (at + 32 ≤ length (now list)) × (0 < roots) ⌝ }
+    ensures { λ r. ⌜ (r ≡ root-of roots (take 32 (drop at (now (list .entry))))) × (r < roots) ⌝ }
+{
+    (word(list, at) % (roots as u64)) as usize
+}
+
+// Four words, added modulo 2 to the 64.
+fn sum4(a: u64, b: u64, c: u64, d: u64) -> u64
+    ensures { λ r. ⌜ r ≡ ((a + b) % 2 ^ 64 + (c + d) % 2 ^ 64) % 2 ^ 64 ⌝ }
+{
+    let low = std::num::wrapping_add_u64(a, b);
+    let high = std::num::wrapping_add_u64(c, d);
+    std::num::wrapping_add_u64(low, high)
+}
+
+// The turns that a key takes from its root on, a bit each. All its bytes count: the modulus is a prime near 2 to the 45 over the golden ratio.
+fn turns(list: &[u8], at: usize) -> u64
+    requires { ⌜ at + 32 ≤ length (now list) ⌝ }
+    ensures { λ r. ⌜ r ≡ turns-of (take 32 (drop at (now (list .entry)))) ⌝ }
+{
+    let a = word(list, at);
+    let b = word(list, at + 8);
+    let c = word(list, at + 16);
+    let d = word(list, at + 24);
+    sum4(a, b, c, d) % 21745137823727
+}
+
+// find_spot, from the root of the key on.
+fn find_below(
     list: &[u8],
     size: usize,
     at: usize,
     i: usize,
-    b: usize,
-    first: &[u16],
-    link: &[u16],
-) -> bool
-    requires { ⌜ (32 ≤ size) × (at + 32 ≤ length (now list)) × (i * size ≤ length (now list)) × (i ≤ length (now link))
-        × (b ≡ bucket-of (length (now first)) (take 32 (drop at (now list)))) × (b < length (now first))
-        × Chained size (now list) (length (now first)) i (now first) (now link) ⌝ }
-    ensures { λ r. ⌜ r ≡ is-found (find-key (take 32 (drop at (now (list .entry)))) (keys size i (now (list .entry)))) ⌝ }
+    links: &[u16],
+    roots: usize,
+    start: usize,
+) -> Spot
+    requires { ⌜ (32 ≤ size) × (at + 32 ≤ length (now list)) × (i * size ≤ length (now list)) × (roots + 2 * i ≤ length (now links))
+        × Grown size (now list) roots i (now links) × (start ≡ root-of roots (take 32 (drop at (now list)))) × (start < roots) ⌝ }
+    ensures { λ r. ⌜ Spotted size (now (list .entry)) roots i (now (links .entry)) (take 32 (drop at (now (list .entry)))) r ⌝ }
 {
-    let mut cur = first[b] as usize;
+    let mut slot = start;
+    let mut rest = turns(list, at);
+    let mut cur = links[slot] as usize;
     while 0 < cur {
         let k = cur - 1;
         if same_keys(list, k * size, at) {
-            return true;
+            return Spot::Taken;
         }
-        cur = link[k] as usize;
+        slot = roots + 2 * k + (rest % 2) as usize;
+        rest = rest / 2;
+        cur = links[slot] as usize;
     }
-    false
+    Spot::Free(slot)
 }
 
-// Puts the key with index i in front of the chain of bucket b.
-fn chain(first: &mut [u16], link: &mut [u16], b: usize, i: usize)
-    requires { ⌜ (b < length (now first)) × (i < length (now link)) × (i < 65535) ⌝ }
-    ensures { λ _. ⌜ (now (first .exit) ≡ set (now (first .entry)) b (i + 1)) × (now (link .exit) ≡ set (now (link .entry)) i (getD (now (first .entry)) b 0)) ⌝ }
+// Where the key at a position goes in the trees of the first i keys, or that it is one of them.
+fn find_spot(list: &[u8], size: usize, at: usize, i: usize, links: &[u16], roots: usize) -> Spot
+    requires { ⌜ (32 ≤ size) × (at + 32 ≤ length (now list)) × (i * size ≤ length (now list)) × (roots + 2 * i ≤ length (now links))
+        × Grown size (now list) roots i (now links) × (0 < roots) ⌝ }
+    ensures { λ r. ⌜ Spotted size (now (list .entry)) roots i (now (links .entry)) (take 32 (drop at (now (list .entry)))) r ⌝ }
 {
-    let newest = first[b];
-    link[i] = newest;
-    first[b] = (i + 1) as u16;
+    let start = root(list, at, roots);
+    if links[start] == 0 {
+        return Spot::Free(start);
+    }
+    find_below(list, size, at, i, links, roots, start)
 }
 
-// Whether no key stands twice: each key is compared with those before it in its bucket.
-fn keys_differ_chained(
-    list: &[u8],
-    size: usize,
-    count: usize,
-    first: &mut [u16],
-    link: &mut [u16],
-) -> bool
-    requires { ⌜ (32 ≤ size) × (count * size ≤ length (now list)) × (count ≤ length (now link)) × (count ≤ 65535) × (0 < length (now first))
-        × ((b : ℕ) → b < length (now first) → getD (now first) b 0 ≡ 0) ⌝ }
-    ensures { λ r. ⌜ r ≡ distinct (keys size count (now (list .entry))) ⌝ }
+// Puts the keys of count records into the tree. Whether no key stands twice among them.
+fn grow(list: &[u8], size: usize, count: usize, links: &mut [u16], roots: usize) -> bool
+    requires { ⌜ (32 ≤ size) × (count * size ≤ length (now list)) × (count ≤ 65535) × (0 < roots) × (roots + 2 * count ≤ length (now links))
+        × AllFree (now links) ⌝ }
+    ensures { λ r. ⌜ (r ≡ distinct (keys size count (now (list .entry)))) × (r ≡ true → Grown size (now (list .entry)) roots count (now (links .exit))) ⌝ }
 {
-    let buckets = first.len();
     let mut i = 0;
     let mut at = 0;
     while i < count {
-        let b = bucket(list, at, buckets);
-        if stands_before(list, size, at, i, b, first, link) {
+        let found = find_spot(list, size, at, i, links, roots);
+        let Spot::Free(s) = found else {
             return false;
-        }
-        chain(first, link, b, i);
+        };
+        links[s] = (i + 1) as u16;
         i += 1;
         at += size;
     }
     true
+}
+
+// Whether none of the first `block` keys, which stand in the tree, stands again behind them.
+fn none_again(
+    list: &[u8],
+    size: usize,
+    count: usize,
+    block: usize,
+    links: &[u16],
+    roots: usize,
+) -> bool
+    requires { ⌜ (32 ≤ size) × (count * size ≤ length (now list)) × (block ≤ count) × (0 < roots) × (roots + 2 * block ≤ length (now links))
+        × Grown size (now list) roots block (now links) ⌝ }
+    ensures { λ r. ⌜ (r ≡ true → NoneAgain size (now (list .entry)) block count) × (r ≡ false → distinct (keys size count (now (list .entry))) ≡ false) ⌝ }
+{
+    let mut i = block;
+    let mut at = block * size;
+    while i < count {
+        let found = find_spot(list, size, at, block, links, roots);
+        let Spot::Free(_) = found else {
+            return false;
+        };
+        i += 1;
+        at += size;
+    }
+    true
+}
+
+fn clear_links(links: &mut [u16])
+    ensures { λ _. ⌜ AllFree (now (links .exit)) ⌝ }
+{
+    let mut i = 0;
+    while i < links.len() {
+        links[i] = 0;
+        i += 1;
+    }
 }
 
 // keys_differ for few records.
@@ -353,22 +444,52 @@ fn keys_differ_few(list: &[u8], size: usize, count: usize) -> bool
     requires { ⌜ (32 ≤ size) × (count * size ≤ length (now list)) × (count ≤ 128) ⌝ }
     ensures { λ r. ⌜ r ≡ distinct (keys size count (now (list .entry))) ⌝ }
 {
-    let mut first = [0u16; 256];
-    let mut link = [0u16; 128];
-    keys_differ_chained(list, size, count, &mut first, &mut link)
+    let mut links = [0u16; 511];
+    grow(list, size, count, &mut links, 255)
+}
+
+// Whether none of the first 8,192 keys stands twice. If so, the links are empty again.
+fn block_differs(list: &[u8], size: usize, count: usize, links: &mut [u16]) -> bool
+    requires { ⌜ (32 ≤ size) × (count * size ≤ length (now list)) × (8192 ≤ count) × (24575 ≤ length (now links)) × AllFree (now links) ⌝ }
+    ensures { λ r. ⌜ (r ≡ true → (distinct (keys size count (now (list .entry))) ≡ distinct (keys size (count - 8192) (drop (8192 * size) (now (list .entry)))))
+        × AllFree (now (links .exit))) × (r ≡ false → distinct (keys size count (now (list .entry))) ≡ false) ⌝ }
+{
+    if grow(list, size, 8192, links, 8191) {
+        if none_again(list, size, count, 8192, links, 8191) {
+            clear_links(links);
+            return true;
+        }
+    }
+    false
+}
+
+// Whether no key stands twice, a block of 8,192 keys after the other.
+fn blocks_differ(list: &[u8], size: usize, count: usize, links: &mut [u16]) -> bool
+    requires { ⌜ (32 ≤ size) × (count * size ≤ length (now list)) × (24575 ≤ length (now links)) × AllFree (now links) ⌝ }
+    ensures { λ r. ⌜ r ≡ distinct (keys size count (now (list .entry))) ⌝ }
+{
+    let mut left = count;
+    let mut at = 0;
+    while 8192 < left {
+        if !block_differs(&list[at..], size, left, links) {
+            return false;
+        }
+        left -= 8192;
+        at += 8192 * size;
+    }
+    grow(&list[at..], size, left, links, 8191)
 }
 
 // keys_differ for many records.
 fn keys_differ_many(list: &[u8], size: usize, count: usize) -> bool
-    requires { ⌜ (32 ≤ size) × (count * size ≤ length (now list)) × (count ≤ 8192) ⌝ }
+    requires { ⌜ (32 ≤ size) × (count * size ≤ length (now list)) ⌝ }
     ensures { λ r. ⌜ r ≡ distinct (keys size count (now (list .entry))) ⌝ }
 {
-    let mut first = [0u16; 16384];
-    let mut link = [0u16; 8192];
-    keys_differ_chained(list, size, count, &mut first, &mut link)
+    let mut links = [0u16; 24575];
+    blocks_differ(list, size, count, &mut links)
 }
 
-// Whether no key stands twice among more than a few. The time is about linear in the count up to 8,192 records, as long as keys are spread evenly.
+// Whether no key stands twice among more than a few. Up to 8,192 records the time is about linear in the count; above, each block of 8,192 takes a pass over those behind it.
 fn keys_differ(list: &[u8], size: usize, count: usize) -> bool
     requires { ⌜ (32 ≤ size) × (count * size ≤ length (now list)) ⌝ }
     ensures { λ r. ⌜ r ≡ distinct (keys size count (now (list .entry))) ⌝ }
@@ -376,10 +497,7 @@ fn keys_differ(list: &[u8], size: usize, count: usize) -> bool
     if count <= 128 {
         return keys_differ_few(list, size, count);
     }
-    if count <= 8192 {
-        return keys_differ_many(list, size, count);
-    }
-    keys_differ_pairwise(list, size, count)
+    keys_differ_many(list, size, count)
 }
 
 // Whether a record list passes refusal 25: bounds, stored lengths, and no key twice.

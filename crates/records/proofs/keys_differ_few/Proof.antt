@@ -1,29 +1,20 @@
--- `records::keys_differ_few` meets its contract: the chains start empty.
+-- `records::keys_differ_few` meets its contract: the trees start empty.
 use borrow.Author.Needs.{needs}
 use native.Mathlib.Omega.{arith}
-use Rattle.records.proofs.ChainLaws.{zeros}
+use Rattle.records.proofs.TreeLaws.{zeros}
 use Rattle.records.proofs.keys_differ_few.Statement.{statement}
 use Rattle.records.proofs.keys_differ_few.Tie as tie
 
-slice-aggregate-keys-differ-chained : tie.Need-slice-aggregate-keys-differ-chained
-slice-aggregate-keys-differ-chained c = search needs
+slice-aggregate-grow : tie.Need-slice-aggregate-grow
+slice-aggregate-grow c = search needs
 
-slice-aggregate-keys-differ-chained-2 : tie.Need-slice-aggregate-keys-differ-chained-2
-slice-aggregate-keys-differ-chained-2 c = search needs
-
-keys-differ-chained-requires : tie.Need-keys-differ-chained-requires
-keys-differ-chained-requires c κs =
-    let s = c .before .before .before in
-    (s .pre .0, s .pre .1, s .pre .2, omega arith, omega arith, zeros 256)
+grow-requires : tie.Need-grow-requires
+grow-requires c κs =
+    let s = c .before .before in
+    (s .pre .0, s .pre .1, omega arith, omega arith, omega arith, zeros 511)
 
 returns : tie.Need-returns
-returns c = search needs
+returns c = c .before .grow .ensures .0
 
 pub keys-differ-few-spec : {M : Type 1} → statement M
-keys-differ-few-spec =
-    tie.close
-    (tie.spec
-    slice-aggregate-keys-differ-chained
-    slice-aggregate-keys-differ-chained-2
-    keys-differ-chained-requires
-    returns)
+keys-differ-few-spec = tie.close (tie.spec slice-aggregate-grow grow-requires returns)

@@ -5,7 +5,7 @@ use native.Mathlib.Omega.{arith}
 use denote.Ref.{now}
 use Rattle.records.proofs.TurnLaws.{below-mul}
 use Rattle.records.proofs.KeyLaws.{clash}
-use Rattle.records.proofs.ChainLaws.{stands-at}
+use Rattle.records.proofs.TreeLaws.{stands-at}
 use borrow.Author.Needs.{needs}
 use Rattle.records.proofs.hints.holds_at.Statement.{statement}
 use Rattle.records.proofs.hints.holds_at.Tie as tie

@@ -1,13 +1,10 @@
--- `records::bucket` meets its contract: the first two bytes of the key, and a remainder is below the divisor.
+-- `records::hints::slot_at` meets its contract: a remainder is below the divisor.
 use borrow.Author.Needs.{needs}
 use Prim.Native.Nat.{_+_}
-use mathlib.Core.Path.{sym}
 use native.Mathlib.Omega.{arith}
 use native.Mathlib.Nat.{mod-lt}
-use denote.Ref.{now}
-use Rattle.records.proofs.ChainLaws.{bucket-bytes}
-use Rattle.records.proofs.bucket.Statement.{statement}
-use Rattle.records.proofs.bucket.Tie as tie
+use Rattle.records.proofs.hints.slot_at.Statement.{statement}
+use Rattle.records.proofs.hints.slot_at.Tie as tie
 
 add-next : tie.Need-add-next
 add-next c = search needs
@@ -34,12 +31,10 @@ rem-result : tie.Need-rem-result
 rem-result c = search needs
 
 returns : tie.Need-returns
-returns c =
-    let a = c .before .before .args in
-    (sym (bucket-bytes (a .buckets) (a .at) (now (a .list))), mod-lt _ (c .before .before .pre .1))
+returns c = mod-lt _ (c .before .before .pre .1)
 
-pub bucket-spec : {M : Type 1} → statement M
-bucket-spec =
+pub slot-at-spec : {M : Type 1} → statement M
+slot-at-spec =
     tie.close
     (tie.spec
     add-next
