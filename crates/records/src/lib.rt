@@ -27,7 +27,7 @@ pub enum Found {
     Nothing,
 }
 
-// Where a key goes in a tree of keys: a slot that is free, or none, for the key is there.
+// Where a key goes in the trees of `keys_differ`: a slot that is free, or none, for the key is there.
 pub enum Spot {
     Free(usize),
     Taken,
@@ -383,7 +383,7 @@ fn find_spot(list: &[u8], size: usize, at: usize, i: usize, links: &[u16], roots
     find_below(list, size, at, i, links, roots, start)
 }
 
-// Puts the keys of count records into the tree. Whether no key stands twice among them.
+// Puts the keys of count records into the trees, up to the first that is there. Whether no key stands twice among them.
 fn grow(list: &[u8], size: usize, count: usize, links: &mut [u16], roots: usize) -> bool
     requires { ⌜ (32 ≤ size) × (count * size ≤ length (now list)) × (count ≤ 65535) × (0 < roots) × (roots + 2 * count ≤ length (now links))
         × AllFree (now links) ⌝ }
@@ -403,7 +403,7 @@ fn grow(list: &[u8], size: usize, count: usize, links: &mut [u16], roots: usize)
     true
 }
 
-// Whether none of the first `block` keys, which stand in the tree, stands again behind them.
+// Whether none of the first `block` keys, which stand in the trees, stands again behind them.
 fn none_again(
     list: &[u8],
     size: usize,
@@ -429,6 +429,7 @@ fn none_again(
     true
 }
 
+// Frees all slots.
 fn clear_links(links: &mut [u16])
     ensures { λ _. ⌜ AllFree (now (links .exit)) ⌝ }
 {
@@ -448,14 +449,23 @@ fn keys_differ_few(list: &[u8], size: usize, count: usize) -> bool
     grow(list, size, count, &mut links, 255)
 }
 
-// Whether none of the first 8,192 keys stands twice. If so, the links are empty again.
+// keys_differ for some more.
+fn keys_differ_some(list: &[u8], size: usize, count: usize) -> bool
+    requires { ⌜ (32 ≤ size) × (count * size ≤ length (now list)) × (count ≤ 2048) ⌝ }
+    ensures { λ r. ⌜ r ≡ distinct (keys size count (now (list .entry))) ⌝ }
+{
+    let mut links = [0u16; 8189];
+    grow(list, size, count, &mut links, 4093)
+}
+
+// Whether none of the first 8,192 keys stands twice, neither among them nor behind them. If so, all slots are free again.
 fn block_differs(list: &[u8], size: usize, count: usize, links: &mut [u16]) -> bool
-    requires { ⌜ (32 ≤ size) × (count * size ≤ length (now list)) × (8192 ≤ count) × (24575 ≤ length (now links)) × AllFree (now links) ⌝ }
+    requires { ⌜ (32 ≤ size) × (count * size ≤ length (now list)) × (8192 ≤ count) × (40955 ≤ length (now links)) × AllFree (now links) ⌝ }
     ensures { λ r. ⌜ (r ≡ true → (distinct (keys size count (now (list .entry))) ≡ distinct (keys size (count - 8192) (drop (8192 * size) (now (list .entry)))))
         × AllFree (now (links .exit))) × (r ≡ false → distinct (keys size count (now (list .entry))) ≡ false) ⌝ }
 {
-    if grow(list, size, 8192, links, 8191) {
-        if none_again(list, size, count, 8192, links, 8191) {
+    if grow(list, size, 8192, links, 24571) {
+        if none_again(list, size, count, 8192, links, 24571) {
             clear_links(links);
             return true;
         }
@@ -465,7 +475,7 @@ fn block_differs(list: &[u8], size: usize, count: usize, links: &mut [u16]) -> b
 
 // Whether no key stands twice, a block of 8,192 keys after the other.
 fn blocks_differ(list: &[u8], size: usize, count: usize, links: &mut [u16]) -> bool
-    requires { ⌜ (32 ≤ size) × (count * size ≤ length (now list)) × (24575 ≤ length (now links)) × AllFree (now links) ⌝ }
+    requires { ⌜ (32 ≤ size) × (count * size ≤ length (now list)) × (40955 ≤ length (now links)) × AllFree (now links) ⌝ }
     ensures { λ r. ⌜ r ≡ distinct (keys size count (now (list .entry))) ⌝ }
 {
     let mut left = count;
@@ -477,7 +487,7 @@ fn blocks_differ(list: &[u8], size: usize, count: usize, links: &mut [u16]) -> b
         left -= 8192;
         at += 8192 * size;
     }
-    grow(&list[at..], size, left, links, 8191)
+    grow(&list[at..], size, left, links, 24571)
 }
 
 // keys_differ for many records.
@@ -485,17 +495,21 @@ fn keys_differ_many(list: &[u8], size: usize, count: usize) -> bool
     requires { ⌜ (32 ≤ size) × (count * size ≤ length (now list)) ⌝ }
     ensures { λ r. ⌜ r ≡ distinct (keys size count (now (list .entry))) ⌝ }
 {
-    let mut links = [0u16; 24575];
+    let mut links = [0u16; 40955];
     blocks_differ(list, size, count, &mut links)
 }
 
-// Whether no key stands twice among more than a few. Up to 8,192 records the time is about linear in the count; above, each block of 8,192 takes a pass over those behind it.
+// Whether no key stands twice among more than a few. Up to 8,192 records the time is about linear in the count; above, each block takes a pass over the records behind it.
+// The tables have as many slots as are cleared in little time against the keys that are read.
 fn keys_differ(list: &[u8], size: usize, count: usize) -> bool
     requires { ⌜ (32 ≤ size) × (count * size ≤ length (now list)) ⌝ }
     ensures { λ r. ⌜ r ≡ distinct (keys size count (now (list .entry))) ⌝ }
 {
     if count <= 128 {
         return keys_differ_few(list, size, count);
+    }
+    if count <= 2048 {
+        return keys_differ_some(list, size, count);
     }
     keys_differ_many(list, size, count)
 }

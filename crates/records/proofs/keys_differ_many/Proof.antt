@@ -11,7 +11,7 @@ slice-aggregate-blocks-differ c = search needs
 blocks-differ-requires : tie.Need-blocks-differ-requires
 blocks-differ-requires c κs =
     let s = c .before .before in
-    (s .pre .0, s .pre .1, omega arith, zeros 24575)
+    (s .pre .0, s .pre .1, omega arith, zeros 40955)
 
 returns : tie.Need-returns
 returns c = c .before .blocks-differ .ensures
