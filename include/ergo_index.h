@@ -13,7 +13,7 @@
  *   capacity, a buffer too short for its capacity, a record that states a row above ERGO_INDEX_ROW_LIMIT bytes, a key that stands twice in one list,
  *   more than 128 tokens, a row or record above its limit.
  *
- * The functions keep no state, allocate nothing and call nothing, so they may be called from any thread. They need less than 96 KiB of stack,
+ * The functions keep no state, allocate nothing and call nothing, so they may be called from any thread. They need less than 128 KiB of stack,
  * ergo_index_run_calls less than 256 KiB. */
 #ifndef ERGO_INDEX_H
 #define ERGO_INDEX_H
