@@ -1,10 +1,10 @@
 // Record lists and key lists in borrowed bytes: search, put, remove, clear, and what refusal 25 asks of a list.
 // A record has its key in bytes 0 to 31, the length of its row in bytes 32 and 33, and its row from byte 34 on.
 ghost use mathlib.Core.Path.{_≡_};
-ghost use Prim.Native.Nat.{ℕ, _+_, _*_, _-_, _/_, _%_, _^_, _≤_, _<_};
+ghost use Prim.Native.Nat.{_+_, _*_, _-_, _/_, _%_, _^_, _≤_, _<_};
 ghost use mathlib.Core.Bool.{true, false};
 ghost use mathlib.Core.List.{[], _∷_};
-ghost use lib.ListN.{length, getD, take, drop, set};
+ghost use lib.ListN.{length, getD, take, drop};
 ghost use Rattle.stores.specs.Equal.{same-bytes};
 ghost use Rattle.stores.specs.Stores.{write};
 ghost use Rattle.records.specs.Records.{records, keys, stored-row, record-of};

@@ -1,16 +1,10 @@
 -- `records::block_differs` meets its contract: the block differs, and none of it stands again.
-use Prim.Native.Nat.{ℕ, _+_, _*_, _-_, _≤_, _<_}
-use mathlib.Core.Path.{_≡_, refl, sym, ap, _∙_}
+use mathlib.Core.Path.{refl, sym, _∙_}
 use native.Mathlib.Omega.{arith}
 use native.Mathlib.Nat.{mul-le-mul-right}
 use denote.Ref.{now}
-use lib.ListN.{length, take, drop}
-use Rattle.records.specs.Records.{keys}
-use Rattle.records.specs.Find.{distinct}
-use Rattle.records.specs.Trees.{AllFree, NoneAgain}
-use Rattle.records.proofs.TurnLaws.{below-mul, rest-part}
 use Rattle.records.proofs.KeyLaws.{clash}
-use Rattle.records.proofs.TreeLaws.{block-past, block-stop, zeros}
+use Rattle.records.proofs.TreeLaws.{block-past, block-stop}
 use borrow.Author.Needs.{needs}
 use Rattle.records.proofs.block_differs.Statement.{statement}
 use Rattle.records.proofs.block_differs.Tie as tie

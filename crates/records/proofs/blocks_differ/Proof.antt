@@ -1,16 +1,13 @@
 -- `records::blocks_differ` meets its contract. The invariant: the keys that are left decide.
-use Prim.Native.Nat.{ℕ, _+_, _*_, _-_, _≤_, _<_}
-use mathlib.Core.Path.{_≡_, refl, sym, ap, _∙_}
+use Prim.Native.Nat.{_+_, _*_, _≤_}
+use mathlib.Core.Path.{_≡_, refl, sym, _∙_}
 use native.Mathlib.Omega.{arith}
-use native.Mathlib.Nat.{mul-le-mul-right}
-use denote.Ref.{now}
-use lib.ListN.{length, take, drop, length-drop}
+use lib.ListN.{length, drop, length-drop}
 use lib.Seq.{drop-drop}
 use Rattle.records.specs.Records.{keys}
 use Rattle.records.specs.Find.{distinct}
-use Rattle.records.specs.Trees.{AllFree, NoneAgain}
-use Rattle.records.proofs.TurnLaws.{below-mul, rest-part}
-use Rattle.records.proofs.KeyLaws.{clash}
+use Rattle.records.specs.Trees.{AllFree}
+use Rattle.records.proofs.TurnLaws.{rest-part}
 use Rattle.records.proofs.TreeLaws.{left-block, not-true, not-false}
 use borrow.Author.Needs.{needs}
 use Rattle.records.proofs.blocks_differ.Statement.{statement}

@@ -4,7 +4,7 @@ use mathlib.Core.Path.{sym, _∙_, refl}
 use native.Mathlib.Omega.{arith}
 use borrow.Author.Needs.{needs}
 use denote.Ref.{now}
-use lib.ListN.{length, take, drop}
+use lib.ListN.{take, drop}
 use Rattle.stores.proofs.EqualLaws.{same-true}
 use Rattle.records.proofs.TurnLaws.{below-mul}
 use Rattle.records.proofs.TreeLaws.{Walked, walk-start, walk-on, walk-rises, walk-none, walk-open, met-below, mod-two, among, not-among}

@@ -1,15 +1,14 @@
 -- `records::none_again` meets its contract. The invariant: the keys passed are none of the block.
-use Prim.Native.Nat.{ℕ, _+_, _*_, _-_, _≤_, _<_}
-use mathlib.Core.Path.{_≡_, refl, sym, ap, _∙_}
+use Prim.Native.Nat.{_*_, _-_, _≤_}
+use mathlib.Core.Path.{_≡_, refl, sym}
 use native.Mathlib.Omega.{arith}
 use native.Mathlib.Nat.{mul-le-mul-right}
 use borrow.Author.Needs.{needs}
 use denote.Ref.{now}
-use lib.ListN.{length, take, drop}
-use Rattle.records.specs.Trees.{NoneAgain, Spotted}
+use Rattle.records.specs.Trees.{NoneAgain}
 use Rattle.records.proofs.TurnLaws.{below-mul}
 use Rattle.records.proofs.KeyLaws.{clash}
-use Rattle.records.proofs.TreeLaws.{Passed, passed-none, passed-more, passed-stop, passed-all, none-again-start, none-again-more, again, next-at, spotted-free, spotted-taken}
+use Rattle.records.proofs.TreeLaws.{none-again-start, none-again-more, again, next-at, spotted-free, spotted-taken}
 use Rattle.records.proofs.none_again.Statement.{statement}
 use Rattle.records.proofs.none_again.Tie as tie
 

@@ -1,7 +1,5 @@
 -- `records::turns` meets its contract: the four words of the key.
 use borrow.Author.Needs.{needs}
-use mathlib.Core.Path.{sym, ap, _∙_}
-use Prim.Native.Nat.{ℕ, _+_, _%_, _^_}
 use denote.Ref.{now}
 use Rattle.records.proofs.TreeLaws.{turns-bytes}
 use Rattle.records.proofs.turns.Statement.{statement}
