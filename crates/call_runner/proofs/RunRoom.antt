@@ -62,7 +62,7 @@ module _ (parents : ℕ) (input : List ℕ) (room places : ℕ) where
       by-room true more e = more e
       by-room false more e = b
 
-run-bounded : (parents : ℕ) (input : List ℕ) (s : State) (answers : List ℕ) (popped : List ℤ)
+pub run-bounded : (parents : ℕ) (input : List ℕ) (s : State) (answers : List ℕ) (popped : List ℤ)
     → Bounded parents input (length answers) (length popped) (run-of edition-1 parents input s answers popped)
 unfolding run-of
 run-bounded parents input s answers popped = by-state (state-ok edition-1 parents s)

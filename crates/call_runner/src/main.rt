@@ -8,6 +8,13 @@
 ghost use mathlib.Core.Path.{_≡_};
 ghost use Prim.Native.Nat.{_+_, _*_, _≤_, _<_};
 ghost use lib.ListN.{length};
+ghost use Rattle.buffer_core.specs.Edition.{edition-1};
+ghost use Rattle.call_steps.specs.State.{state};
+ghost use Rattle.call_steps.specs.Steps.{lists-with};
+ghost use Rattle.runner_start.specs.Start.{lists-empty};
+ghost use Rattle.runner.specs.Run.{run as runner-at, run-of};
+ghost use Rattle.call_runner.specs.Waiting.{waiting, Follows};
+ghost use Rattle.call_runner.specs.Delivered.{Makes, Keeps, Told};
 use call_steps::SpillCounts;
 use libc::STDERR_FILENO;
 use libc::STDIN_FILENO;
@@ -33,7 +40,7 @@ struct Session {
 }
 
 fn start() -> Session
-    ensures { λ r. ⌜ (r .at ≡ 0) × (r .have ≡ 0) × (r .made ≡ 0) ⌝ }
+    ensures { λ r. ⌜ (r .at ≡ 0) × (r .have ≡ 0) × (r .made ≡ 0) × (r .counts ≡ lists-empty) ⌝ }
 {
     let counts = runner_start::empty_lists();
     Session {
@@ -92,7 +99,9 @@ fn make_calls(
     counts: SpillCounts,
 ) -> Progress
     requires { ⌜ (at ≤ have) × (have ≤ length (now input)) × (length (now popped) ≡ 1024) ⌝ }
-    ensures { λ r. ⌜ (at + r .at ≤ have) × (r .made ≤ 1024) ⌝ }
+    ensures { λ r. ⌜ (at + r .at ≤ have) × (r .made ≤ 1024)
+        × (runner-at r (now (ids .exit)) (now (numbers .exit)) (now (lengths .exit)) (now (spills .exit)) (now (staged .exit)) (now (table .exit)) (now (deleted .exit)) (now (answers .exit)) (now (popped .exit))
+        ≡ run-of edition-1 2 (waiting at have (now (input .entry))) (state (now (ids .entry)) (now (numbers .entry)) (now (lengths .entry)) (now (spills .entry)) (lists-with counts (now (staged .entry)) (now (table .entry)) (now (deleted .entry)))) (now (answers .entry)) (now (popped .entry))) ⌝ }
 {
     runner::run_calls(
         &input[at..have],
@@ -127,7 +136,9 @@ fn run(
 ) -> Session
     requires { ⌜ (s .at ≤ s .have) × (s .have ≤ length (now input)) × (s .made < 9223372036854775808)
         × (length (now popped) ≡ 1024) × (length (now answers) ≡ 2048) × (length (now out) ≡ 65536) × (length (now input) ≡ 65536) ⌝ }
-    ensures { λ r. ⌜ (r .at ≤ r .have) × (r .have ≡ s .have) × (r .made ≤ s .made + 1024) ⌝ }
+    ensures { λ r. ⌜ (r .at ≤ r .have) × (r .have ≡ s .have) × (r .made ≤ s .made + 1024)
+        × Makes (now (input .entry)) s (state (now (ids .entry)) (now (numbers .entry)) (now (lengths .entry)) (now (spills .entry)) (lists-with (s .counts) (now (staged .entry)) (now (table .entry)) (now (deleted .entry))))
+        r (state (now (ids .exit)) (now (numbers .exit)) (now (lengths .exit)) (now (spills .exit)) (lists-with (r .counts) (now (staged .exit)) (now (table .exit)) (now (deleted .exit)))) ⌝ }
 {
     let at = s.at;
     let have = s.have;
@@ -180,6 +191,7 @@ fn after_read(got: isize, code: u8) -> Next {
 fn read(input: &mut [u8], s: Session, code: u8) -> Session
     requires { ⌜ (s .at ≤ s .have) × (s .have ≤ length (now input)) ⌝ }
     ensures { λ r. ⌜ (r .at ≤ r .have) × (r .have ≤ length (now (input .entry))) × (r .made ≡ s .made) ⌝ }
+    ensures { λ r. ⌜ (r .counts ≡ s .counts) × Follows (s .at) (s .have) (now (input .entry)) (r .at) (r .have) (now (input .exit)) ⌝ }
 {
     let at = s.at;
     let have = s.have;
@@ -277,7 +289,7 @@ fn finish(
     out: &mut [u8; 65536],
     s: Session,
 )
-    requires { ⌜ s .made ≤ 9223372036854775808 ⌝ }
+    requires { ⌜ (s .made ≤ 9223372036854775808) × Told (now numbers) (now lengths) (now spills) s ⌝ }
 {
     let ordinal = s.made + 1;
     let next = s.next;
@@ -320,7 +332,9 @@ fn turn(
     s: Session,
 ) -> Session
     requires { ⌜ (s .at ≤ s .have) × (s .have ≤ 65536) × (s .made < 9223372036854775808) ⌝ }
-    ensures { λ r. ⌜ (r .at ≤ r .have) × (r .have ≤ 65536) × (r .made ≤ s .made + 1024) ⌝ }
+    ensures { λ r. ⌜ (r .at ≤ r .have) × (r .have ≤ 65536) × (r .made ≤ s .made + 1024)
+        × Keeps (now (input .entry)) s (state (now (ids .entry)) (now (numbers .entry)) (now (lengths .entry)) (now (spills .entry)) (lists-with (s .counts) (now (staged .entry)) (now (table .entry)) (now (deleted .entry))))
+        (now (input .exit)) r (state (now (ids .exit)) (now (numbers .exit)) (now (lengths .exit)) (now (spills .exit)) (lists-with (r .counts) (now (staged .exit)) (now (table .exit)) (now (deleted .exit)))) ⌝ }
 {
     let next = s.next;
     match next {

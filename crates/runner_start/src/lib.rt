@@ -1,11 +1,14 @@
 // What the call runner starts with (document 01, "Call runner"): the ids of two parents, and empty lists.
 ghost use mathlib.Core.Path.{_≡_};
 ghost use lib.ListN.{length};
+ghost use Rattle.runner_start.specs.Start.{lists-empty, two-ids};
 use call_steps::SpillCounts;
 use records::ListCounts;
 
 // The segments table of 2, the staged spills of 1 and the deleted spills of 2, all empty.
-pub fn empty_lists() -> SpillCounts {
+pub fn empty_lists() -> SpillCounts
+    ensures { λ r. ⌜ r ≡ lists-empty ⌝ }
+{
     let staged = ListCounts {
         count: 0,
         capacity: 1,
@@ -27,7 +30,7 @@ pub fn empty_lists() -> SpillCounts {
 
 // "ids are the byte 32 times": of the parents 0 and 1, each before the places of its 128 token ids.
 pub fn parent_ids() -> [u8; 8256]
-    ensures { λ r. ⌜ 8256 ≡ length r ⌝ }
+    ensures { λ r. ⌜ (8256 ≡ length r) × (r ≡ two-ids) ⌝ }
 {
     let mut ids = [0u8; 8256];
     for i in 4128..4160 {

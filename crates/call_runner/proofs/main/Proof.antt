@@ -1,6 +1,11 @@
 -- The measure is the turns left. A turn makes at most 1,024 calls, so that calls made and calls to come stay below 2^63.
 use Prim.Native.Nat.{_+_, _*_, _-_, _≤_}
+use mathlib.Core.List.{[]}
 use native.Mathlib.Omega.{arith}
+use Rattle.call_steps.specs.State.{state}
+use Rattle.call_steps.specs.Steps.{lists-with}
+use Rattle.call_runner.specs.Delivered.{Onward}
+use Rattle.call_runner.proofs.DeliveredLaws.{keeps-on, starts, told}
 use borrow.Author.Needs.{needs}
 use Rattle.call_runner.proofs.main.Statement.{statement}
 use Rattle.call_runner.proofs.main.Tie as tie
@@ -8,6 +13,8 @@ use Rattle.call_runner.proofs.main.Tie as tie
 abbrev Inv-loop : tie.InvT-loop
 Inv-loop input₀ out₀ ids₀ numbers₀ lengths₀ spills₀ staged₀ table₀ deleted₀ answers₀ popped₀ s₀ turns₀ input out ids numbers lengths spills staged table deleted answers popped s turns =
     (s .at ≤ s .have) × (s .have ≤ 65536) × (s .made + turns * 1024 ≤ 9223372036854775808)
+    × Onward 2 (state ids₀ numbers₀ lengths₀ spills₀ (lists-with (s₀ .counts) staged₀ table₀ deleted₀)) [] (s .at) (s .have) (s .made) input
+    (state ids numbers lengths spills (lists-with (s .counts) staged table deleted))
 
 abbrev μ-loop : tie.MeasureT-loop
 μ-loop input₀ out₀ ids₀ numbers₀ lengths₀ spills₀ staged₀ table₀ deleted₀ answers₀ popped₀ s₀ turns₀ input out ids numbers lengths spills staged table deleted answers popped s turns =
@@ -26,7 +33,7 @@ start-requires : tie.Need-start-requires Inv-loop μ-loop
 start-requires c κs = search needs
 
 loop-holds : tie.Need-loop-holds Inv-loop μ-loop
-loop-holds c = omega arith
+loop-holds c = (omega arith, omega arith, omega arith, starts _ _ _ _ _ (c .start .ensures .0) (c .start .ensures .1) (c .start .ensures .2))
 
 turn-requires : tie.Need-turn-requires Inv-loop μ-loop
 turn-requires c κs = search needs
@@ -47,7 +54,7 @@ loop-again c =
     let l = c .before .before .before .before .before .before .before .before .before .before .before .before .before .before .before .loop in
     let e : t .result .made ≤ l .s .made + 1024 = t .ensures .2 in
     let few : t .result .made + (l .turns - 1) * 1024 ≤ 9223372036854775808 = omega (arith, e, l .inv .2, test .taken) in
-    (t .ensures .0, t .ensures .1, few)
+    (t .ensures .0, t .ensures .1, few, keeps-on _ _ (l .s) _ _ (t .result) _ (l .inv .3) (t .ensures .3))
 
 loop-less-2 : tie.Need-loop-less-2 Inv-loop μ-loop
 loop-less-2 c = omega arith
@@ -59,10 +66,14 @@ loop-again-2 c =
     let l = c .before .before .before .before .before .before .before .before .before .before .before .before .before .before .before .loop in
     let e : t .result .made ≤ l .s .made + 1024 = t .ensures .2 in
     let few : t .result .made + 0 * 1024 ≤ 9223372036854775808 = omega (arith, e, l .inv .2, test .taken) in
-    (t .ensures .0, t .ensures .1, few)
+    (t .ensures .0, t .ensures .1, few, keeps-on _ _ (l .s) _ _ (t .result) _ (l .inv .3) (t .ensures .3))
 
 finish-requires : tie.Need-finish-requires Inv-loop μ-loop
-finish-requires c κs = search needs
+finish-requires c κs =
+    let l = c .before .before .before .before .before .loop in
+    let at-start = c .before .before .before .before .before .before .start in
+    let ids = c .before .before .before .before .before .before .before .parent-ids in
+    (search needs, told (ids .result) (at-start .result .counts) (l .numbers) (l .lengths) (l .spills) (l .s) (l .input) (l .ids) (l .staged) (l .table) (l .deleted) (ids .ensures .1) (at-start .ensures .3) (l .inv .3))
 
 returns : tie.Need-returns Inv-loop μ-loop
 returns c = search needs

@@ -52,7 +52,7 @@ returns c =
     let a = f .args in
     let p = c .before .before .before .before .before .before .before .before .before .before .before .before .before .before .before .run-calls in
     let b = part-room 2 (a .at) (a .have) (now (a .input)) _ (now (a .answers)) (now (a .popped)) _ (f .pre .0) (f .pre .1) (p .ensures) in
-    (b .0, subst (λ (n : ℕ). p .result .made ≤ n) (f .pre .2) (b .1))
+    (b .0, subst (λ (n : ℕ). p .result .made ≤ n) (f .pre .2) (b .1), p .ensures)
 
 pub make-calls-spec : {M : Type 1} → statement M
 make-calls-spec =

@@ -2,6 +2,8 @@
 use Prim.Native.Nat.{ℕ, _+_, _*_, _≤_}
 use mathlib.Core.Path.{sym, subst, _∙_}
 use native.Mathlib.Omega.{arith}
+use denote.Ref.{now}
+use Rattle.call_runner.proofs.DeliveredLaws.{run-delivers}
 use borrow.Author.Needs.{needs}
 use Rattle.call_runner.proofs.run.Statement.{statement}
 use Rattle.call_runner.proofs.run.Tie as tie
@@ -72,7 +74,15 @@ same-length-10 : tie.Need-same-length-10
 same-length-10 c = search needs
 
 returns : tie.Need-returns
-returns c = search needs
+returns c =
+    let f = c .before .before .before .before .before .before .before .before .before .before .before .before .before .before .before .before .before .before .before .before .before .before .before .before .before .before .before .before .before .before .before .before .before .before .before .before .before .before .before .before .before .before .before in
+    let a = f .args in
+    let p = c .before .before .before .before .before .before .before .before .before .before .before .before .before .before .before .before .before .before .before .before .before .before .before .before .make-calls in (
+      search needs,
+      search needs,
+      search needs,
+      λ s₀ d D. run-delivers 2 s₀ d (a .s .at) (a .s .have) (a .s .made) (now (a .input)) _ _ _ _ (f .pre .0) (f .pre .1) (p .ensures .2) D,
+    )
 
 pub run-spec : {M : Type 1} → statement M
 run-spec =

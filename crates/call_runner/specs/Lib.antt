@@ -1,0 +1,3 @@
+-- The definitions that the contracts of `call_runner` cite.
+pub mod Waiting
+pub mod Delivered

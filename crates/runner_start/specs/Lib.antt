@@ -1,0 +1,2 @@
+-- The definitions that the contracts of `runner_start` cite.
+pub mod Start
