@@ -1,6 +1,6 @@
 -- What is located lies within its list, and inspection shows the row there.
 use Prim.Native.Nat.{ℕ, _+_, _*_, _≤_}
-use mathlib.Core.Path.{_≡_, refl, sym, ap, _∙_}
+use mathlib.Core.Path.{_≡_, refl, sym, ap, subst, _∙_}
 use mathlib.Core.List.{List, []}
 use mathlib.Core.Bool.{Bool, true, false, cond}
 use native.Mathlib.Omega.{arith}
@@ -17,7 +17,7 @@ use Rattle.records.proofs.TurnLaws.{found-in, below-mul}
 use Rattle.records.proofs.CheckLaws.{and-left, and-right, records-ok-facts}
 use Rattle.spills.specs.declared.Located.{Located}
 use Rattle.spills.specs.declared.Located.the-variants.{Staged, Table, Missing, Refused}
-use Rattle.spills.specs.Inspection.{spills-ok, located, locate-row, inspect-row}
+use Rattle.spills.specs.Inspection.{spills-ok, located, located-code, located-row, Within, locate-row, inspect-code, inspect-row}
 
 -- what the test of both lists establishes
 pub record SpillsOk (size limit : ℕ) (sc : ListCounts) (staged : List ℕ) (tc : ListCounts) (table : List ℕ) : Type 0 where
@@ -33,12 +33,12 @@ spills-ok-facts size limit sc staged tc table h =
       in-table = records-ok-facts size limit tc table (and-right (records-ok size limit sc staged) (records-ok size limit tc table) h);
     }
 
--- the row at what was located, empty where there is none
-abbrev pub located-row : (size : ℕ) → (staged table : List ℕ) → Located → List ℕ
-located-row size staged table (Staged i) = row-at size i staged
-located-row size staged table (Table i) = row-at size i table
-located-row size staged table Missing = []
-located-row size staged table (Refused code) = []
+-- a record that was located lies within the list that is named
+pub within-staged : (size : ℕ) (staged table : List ℕ) (r : Located) (i : ℕ) → r ≡ Staged i → Within size staged table r → i * size + size ≤ length staged
+within-staged size staged table r i d w = rw d at w
+
+pub within-table : (size : ℕ) (staged table : List ℕ) (r : Located) (i : ℕ) → r ≡ Table i → Within size staged table r → i * size + size ≤ length table
+within-table size staged table r i d w = rw d at w
 
 -- a record that was found lies within the list
 found-within : (size : ℕ) (c : ListCounts) (key l : List ℕ) (i : ℕ) → InBounds size c l → find-key key (keys size (c .count) l) ≡ At i
@@ -47,25 +47,19 @@ found-within size c key l i b e = omega (arith, below-mul size (c .count) i (fou
 
 module _ (size limit : ℕ) (sc : ListCounts) (staged : List ℕ) (tc : ListCounts) (table key : List ℕ) where
   -- the record that an answer names lies within its list
-  abbrev pub Within : Located → Type 0
-  Within (Staged i) = i * size + size ≤ length staged
-  Within (Table i) = i * size + size ≤ length table
-  Within Missing = 0 ≤ 0
-  Within (Refused code) = 0 ≤ 0
-
-  pub located-within : Within (locate-row size limit sc staged tc table key)
+  pub located-within : Within size staged table (locate-row size limit sc staged tc table key)
   unfolding locate-row
   located-within = by-test (spills-ok size limit sc staged tc table) refl
     where
       by-case : SpillsOk size limit sc staged tc table
           → (f : Found) → find-key key (keys size (sc .count) staged) ≡ f → (g : Found) → find-key key (keys size (tc .count) table) ≡ g
-          → Within (located (place-of f g))
+          → Within size staged table (located (place-of f g))
       by-case ok (At i) e g d = found-within size sc key staged i (ok .in-staged .bounds) e
       by-case ok Nothing e (At i) d = found-within size tc key table i (ok .in-table .bounds) d
       by-case ok Nothing e Nothing d = omega arith
 
       by-test : (t : Bool) → spills-ok size limit sc staged tc table ≡ t
-          → Within (cond t (located (locate-key size key (sc .count) staged (tc .count) table)) (Refused 25))
+          → Within size staged table (cond t (located (locate-key size key (sc .count) staged (tc .count) table)) (Refused 25))
       by-test true t =
           by-case (spills-ok-facts size limit sc staged tc table t)
           (find-key key (keys size (sc .count) staged)) refl (find-key key (keys size (tc .count) table)) refl
@@ -76,6 +70,14 @@ module _ (size limit : ℕ) (sc : ListCounts) (staged : List ℕ) (tc : ListCoun
 
   pub table-within : (r : Located) (i : ℕ) → r ≡ locate-row size limit sc staged tc table key → r ≡ Table i → i * size + size ≤ length table
   table-within r i e d = rw (sym e ∙ d) at located-within
+
+  pub any-within : (r : Located) → r ≡ locate-row size limit sc staged tc table key → Within size staged table r
+  any-within r e = subst (Within size staged table) (sym e) located-within
+
+  -- inspection answers the code of what is located
+  pub code-located : (r : Located) → r ≡ locate-row size limit sc staged tc table key → located-code r ≡ inspect-code size limit sc staged tc table key
+  unfolding inspect-code
+  code-located r e = ap located-code e
 
   -- inspection shows the row at what is located
   pub inspect-located : (r x : Located) → r ≡ locate-row size limit sc staged tc table key → r ≡ x
