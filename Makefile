@@ -5,22 +5,30 @@
 # make compare         the reference Rust (ERGO_REFERENCE, or ../shared/docs/src) and this index side by side, under a minute
 # make compare-full    the same with at least 10 million calls and 100,000 histories
 # make compare-sample  the fixed list of the reference's answers, made anew, and what the gate's program is held to
+# make vectors         what the gate's program is held to, made from both lists: compare/sample.txt and sample/vectors.txt
 # make bench           both sides timed in one run; plots go to docs/
 # make all-checks      the gate, the Rust crate and the short comparison
 # make fmt    the layout of all Rattle and antt files
+# make times  the seconds of the last gate, crate by crate
 
+SHELL := /bin/bash
+.SHELLFLAGS := -o pipefail -c
+# Four checks at a time keep two cores busy: rt waits for the slowest of those that it started together.
+export RT_JOBS ?= 4
 RT := $(shell command -v rt 2>/dev/null)
 NO_RT := the Rattle kit is missing: no command 'rt' on PATH (expected in /opt/rattle/bin)
 ARCHIVE := target/staticlib/libergo_index.a
 
-.PHONY: run test c-test bindings compare compare-full compare-sample compare-build bench all-checks fmt
+.PHONY: run test times c-test bindings compare compare-full compare-sample compare-build vectors bench all-checks fmt
 
 run:
 ifeq ($(RT),)
 	@echo "$(NO_RT)" >&2; exit 2
 else
-	@mkdir -p target; rt check call_runner > target/run.log 2>&1 || { tail -n 20 target/run.log >&2; exit 1; }
-	@target/bin/call_runner < sample/fork.calls
+	@echo "proving the call runner and what it builds on: some eight minutes the first time, seconds afterwards"
+	@mkdir -p target; rt check call_runner 2>&1 | tee target/run.log | grep --line-buffered '^rt: ' || { tail -n 20 target/run.log >&2; exit 1; }
+	@echo "the last lines of the sample history, which has 545 calls:"
+	@target/bin/call_runner < sample/fork.calls | tail -n 32
 endif
 
 test:
@@ -30,13 +38,9 @@ else
 	@rt ci
 endif
 
-# The archive is proved and built again when a source has changed. The log of the proof is kept; only a failure shows it.
-$(ARCHIVE): crates.txt $(shell find crates -name '*.rt' -o -name '*.antt')
-ifeq ($(RT),)
-	@echo "$(NO_RT)" >&2; exit 2
-else
-	@mkdir -p target; rt staticlib ergo_index > target/archive.log 2>&1 || { tail -n 20 target/archive.log >&2; exit 1; }
-endif
+# The archive is proved and built again when a source has changed.
+$(ARCHIVE): crates.txt include/archive.sh $(shell find crates -name '*.rt' -o -name '*.antt')
+	@include/archive.sh
 
 c-test: $(ARCHIVE)
 	@mkdir -p target/c
@@ -47,6 +51,9 @@ c-test: $(ARCHIVE)
 
 bindings: $(ARCHIVE)
 	@cd bindings/rust && ERGO_INDEX_LIB_DIR=$(CURDIR)/target/staticlib cargo test --offline --locked --quiet
+
+times:
+	@scripts/times.py
 
 fmt:
 ifeq ($(RT),)
@@ -74,7 +81,10 @@ compare-full: compare-build
 
 compare-sample: compare-build
 	@compare/target/release/compare --sample > target/sample.txt && mv target/sample.txt compare/sample.txt
-	@python3 compare/replayed.py compare/sample.txt crates/reference_answers
+	@$(MAKE) vectors
+
+vectors:
+	@python3 compare/replayed.py compare/sample.txt sample/vectors.txt crates/test_vectors
 
 bench: compare-build
 	@cd compare && target/release/bench ../docs

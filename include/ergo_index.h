@@ -1,4 +1,4 @@
-/* The C interface of the proved Ergo segment index. Link target/staticlib/libergo_index.a (`rt staticlib ergo_index`), x86-64 Linux.
+/* The C interface of the proved Ergo segment index. Link target/staticlib/libergo_index.a (include/archive.sh writes it), x86-64 Linux.
  *
  * Conventions, the same for every function:
  * - The result is a code: 0 where the call was accepted, otherwise the number of its refusal (ERGO_INDEX_*). Functions that refuse nothing return
@@ -13,8 +13,8 @@
  *   capacity, a buffer too short for its capacity, a record that states a row above ERGO_INDEX_ROW_LIMIT bytes, a key that stands twice in one list,
  *   more than 128 tokens, a row or record above its limit.
  *
- * The functions keep no state, allocate nothing and call nothing, so they may be called from any thread. They need less than 128 KiB of stack,
- * ergo_index_run_calls less than 256 KiB. */
+ * The functions keep no state and allocate nothing, so they may be called from any thread. They call memcpy, memmove and memset of the C library and
+ * nothing else. A call needs less than 128 KiB of stack, ergo_index_run_calls less than 256 KiB. */
 #ifndef ERGO_INDEX_H
 #define ERGO_INDEX_H
 
@@ -58,7 +58,7 @@ extern "C" {
 #define ERGO_INDEX_UNDO_ENTRY_TAG 28             /* an undo entry's tag is neither 00 nor 01 */
 #define ERGO_INDEX_UNDO_ENTRY_NUMBERS_CUT 29     /* an undo entry ends inside its numbers */
 #define ERGO_INDEX_UNDO_ENTRY_LEFT_OVER 30       /* bytes are left over behind an undo entry */
-#define ERGO_INDEX_UNKNOWN_CALL 31               /* a call of a batch is unknown */
+#define ERGO_INDEX_UNKNOWN_CALL 31               /* a call of a batch is unknown; no result, see ERGO_INDEX_END_NO_CALL */
 #define ERGO_INDEX_OUTPUT_TOO_SHORT 32           /* the output is too short */
 
 /* ---- sizes */
@@ -129,6 +129,12 @@ uint8_t ergo_index_flush_staged_spills(size_t *staged_count, size_t staged_capac
 
 /* ---- the batch */
 
+/* why a batch made no further call */
+#define ERGO_INDEX_END_NO_ROOM 0  /* the answers have no room for another one */
+#define ERGO_INDEX_END_OF_INPUT 1 /* the input has ended */
+#define ERGO_INDEX_END_CUT_CALL 2 /* the input ends inside a call */
+#define ERGO_INDEX_END_NO_CALL 31 /* no call stands there: its kind is unknown, or its parent is not below parents */
+
 /* Tests 25 once, then makes the calls of the input from its front, over the state of so many parents. Parent p has block p of ids, numbers, lengths and
  * spills (ERGO_INDEX_PARENT_*); all share the three lists.
  * A call is a byte of kind and a body; numbers are 8 bytes, signed, high byte first:
@@ -138,10 +144,9 @@ uint8_t ergo_index_flush_staged_spills(size_t *staged_count, size_t staged_capac
  *   8 credit, 9 debit                                        a parent byte, nanoErgs, a token byte (the id is that byte 32 times), its amount
  * Call i answers as its single function: its refusal or 0 at answers[2 * i], 1 at answers[2 * i + 1] where a number was popped and else 0, and that
  * number or 0 at popped[i]. A call that is refused changes nothing else, and the next one is made.
- * *at is the byte behind the last call that was made, *made the number of calls made, *end why there was no further one: 0 no room for another answer,
- * 1 the end of the input, 2 the input ends inside a call, 31 no call stands there (unknown kind, or a parent that is not below parents).
- * Refusals: 25 (a buffer too short for the parents, a head above 512, more than 128 tokens, the three lists). The result is 31 if *end is: the calls
- * before *at were made, and answered as above.
+ * *at is the byte behind the last call that was made, *made the number of calls made, *end why there was no further one (ERGO_INDEX_END_*).
+ * Refusals: 25 (a buffer too short for the parents, a head above 512, more than 128 tokens, the three lists). The result is 0 or 25: what stands behind
+ * the last call is told by *end alone, and the calls before it were made.
  * Changes: ids, numbers, lengths, spills, all three counts and lists, answers, popped, *at, *made, *end. */
 uint8_t ergo_index_run_calls(const uint8_t *input, size_t input_len, size_t parents, uint8_t *ids, size_t ids_len, int64_t *numbers, size_t numbers_len,
                              size_t *lengths, size_t lengths_len, int32_t *spills, size_t spills_len,
@@ -159,8 +164,8 @@ uint8_t ergo_index_locate_spill(size_t staged_count, size_t staged_capacity, con
                                 size_t table_count, size_t table_capacity, const uint8_t *table, size_t table_len, const uint8_t key[32],
                                 uint8_t *list, size_t *index);
 
-/* Where the row under a key stands: *list as above, and the row is the *length bytes from *offset on in that list; both 0 where it is missing.
- * Refusals: 25 (staged spills, table).
+/* Where the row under a key stands: *list is 1 for the staged spills, 2 for the table, and the row is the *length bytes from *offset on in that list.
+ * Refusals, in order: 25 (staged spills, table), 12.
  * Changes: *list, *offset, *length. */
 uint8_t ergo_index_inspect_spill(size_t staged_count, size_t staged_capacity, const uint8_t *staged, size_t staged_len,
                                  size_t table_count, size_t table_capacity, const uint8_t *table, size_t table_len, const uint8_t key[32],

@@ -1,5 +1,5 @@
-//! Links libergo_index.a: from `ERGO_INDEX_LIB_DIR`, or else from the repository's target/staticlib, where it is proved and built first if it is missing
-//! and the Rattle kit's `rt` is on PATH.
+//! Links libergo_index.a: from `ERGO_INDEX_LIB_DIR`, or else from the repository's target/staticlib, where include/archive.sh proves and builds it first if
+//! it is missing and the Rattle kit's `rt` is on PATH.
 
 use std::env;
 use std::path::{Path, PathBuf};
@@ -13,15 +13,13 @@ fn fail(why: &str) -> ! {
 }
 
 fn build_archive(repository: &Path) {
-    let done = Command::new("rt").args(["staticlib", "ergo_index"]).current_dir(repository).status();
-    match done {
-        Ok(status) if status.success() => (),
-        Ok(status) => fail(&format!("`rt staticlib ergo_index` in {} ended with {status}", repository.display())),
-        Err(_) => fail(&format!(
-            "no {ARCHIVE}, and no command `rt` on PATH to build it. Run `rt staticlib ergo_index` in {}, or name the folder of the archive in ERGO_INDEX_LIB_DIR",
-            repository.display()
-        )),
-    }
+    let script = repository.join("include/archive.sh");
+    let why = match Command::new(&script).status() {
+        Ok(status) if status.success() => return,
+        Ok(status) => format!("{} ended with {status}", script.display()),
+        Err(error) => format!("{}: {error}", script.display()),
+    };
+    fail(&format!("no {ARCHIVE}, and it was not built: {why}. Or name the folder of the archive in ERGO_INDEX_LIB_DIR"));
 }
 
 fn archive_folder() -> PathBuf {

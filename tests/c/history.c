@@ -94,6 +94,11 @@ static void say(const char *what) {
            deleted.count);
 }
 
+static uint8_t inspect(const uint8_t key[32], uint8_t *list, size_t *offset, size_t *length) {
+    return ergo_index_inspect_spill(staged.count, CAPACITY, staged.bytes, sizeof staged.bytes, table.count, CAPACITY, table.bytes,
+                                    sizeof table.bytes, key, list, offset, length);
+}
+
 /* the sign of the box at a place of the row under spill number 0, and the list that holds the row */
 static int64_t box_in_row(size_t place, uint8_t *list) {
     uint8_t key[32];
@@ -101,8 +106,7 @@ static int64_t box_in_row(size_t place, uint8_t *list) {
     int32_t box_spills = -1, tx_spills = -1;
     static int64_t row_txs[ERGO_INDEX_HEAD_LENGTH], row_boxes[ERGO_INDEX_HEAD_LENGTH];
     ergo_index_box_segment_id(parent, 0, key);
-    EXPECT(ergo_index_inspect_spill(staged.count, CAPACITY, staged.bytes, sizeof staged.bytes, table.count, CAPACITY, table.bytes,
-                                    sizeof table.bytes, key, list, &offset, &length) == ERGO_INDEX_ACCEPTED);
+    EXPECT(inspect(key, list, &offset, &length) == ERGO_INDEX_ACCEPTED);
     EXPECT(*list == 1 || *list == 2);
     EXPECT(ergo_index_read_persisted_segment((*list == 1 ? staged.bytes : table.bytes) + offset, length, row_txs, ERGO_INDEX_HEAD_LENGTH,
                                              &n_txs, row_boxes, ERGO_INDEX_HEAD_LENGTH, &n_boxes, &box_spills, &tx_spills)
@@ -111,10 +115,24 @@ static int64_t box_in_row(size_t place, uint8_t *list) {
     return row_boxes[place];
 }
 
+/* the row of spill number 0 is in neither list: 12, after 25, and no out is set */
+static void missing_row(void) {
+    uint8_t key[32], list = 7;
+    size_t offset = 8, length = 9, index = 6;
+    ergo_index_box_segment_id(parent, 0, key);
+    EXPECT(inspect(key, &list, &offset, &length) == ERGO_INDEX_ROW_MISSING && list == 7 && offset == 8 && length == 9);
+    table.count = CAPACITY + 1;
+    EXPECT(inspect(key, &list, &offset, &length) == ERGO_INDEX_BUFFERS && list == 7 && offset == 8 && length == 9);
+    table.count = 0;
+    EXPECT(ergo_index_locate_spill(staged.count, CAPACITY, staged.bytes, sizeof staged.bytes, table.count, CAPACITY, table.bytes,
+                                   sizeof table.bytes, key, &list, &index) == ERGO_INDEX_ACCEPTED && list == 0 && index == 0);
+}
+
 static void history(void) {
     int64_t number = 0;
     uint8_t list = 0;
 
+    missing_row();
     for (int64_t n = 1; n <= 513; n++) EXPECT(append_box(n) == ERGO_INDEX_ACCEPTED);
     EXPECT(append_tx(9) == ERGO_INDEX_ACCEPTED && txs.len == 1 && txs.numbers[0] == 9);
     say("513 appends");
@@ -196,8 +214,8 @@ static void batch(void) {
     static int32_t spills[2 * ERGO_INDEX_PARENT_SPILLS];
     static const uint8_t calls[] = {1, 0, 0, 0, 0, 0, 0, 0, 0, 5, 3, 0, 0, 0, 0, 0, 0, 0, 0, 5, 3, 0, 0, 0, 0, 0, 0, 0, 0, 6, 5, 0,
                                     2, 1, 0, 0, 0, 0, 0, 0, 0, 9, 8, 1, 0, 0, 0, 0, 0, 0, 0, 2, 4, 0, 0, 0, 0, 0, 0, 0, 7, 7, 5, 2};
-    uint8_t answers[14], end = 9;
-    int64_t popped[7];
+    uint8_t answers[14] = {9}, end = 9;
+    int64_t popped[7] = {9};
     size_t at = 99, made = 99;
 
 #define RUN(from, to, room)                                                                                                         \
@@ -208,16 +226,18 @@ static void batch(void) {
 
     lengths[3] = 513;
     EXPECT(RUN(0, sizeof calls, 7) == ERGO_INDEX_BUFFERS && at == 99 && made == 99 && end == 9 && lengths[0] == 0 && lengths[3] == 513);
+    EXPECT(answers[0] == 9 && popped[0] == 9 && numbers[0] == 0 && staged.count == 0 && table.count == 0 && deleted.count == 0);
     lengths[3] = 0;
-    EXPECT(RUN(0, 35, 7) == ERGO_INDEX_ACCEPTED && at == 32 && made == 4 && end == 2 && lengths[0] == 0);
+    EXPECT(RUN(0, 35, 7) == ERGO_INDEX_ACCEPTED && at == 32 && made == 4 && end == ERGO_INDEX_END_CUT_CALL && lengths[0] == 0);
     EXPECT(answers[0] == 0 && answers[2] == 0 && answers[4] == ERGO_INDEX_TARGET_NOT_SEEN && answers[5] == 0);
     EXPECT(answers[6] == 0 && answers[7] == 1 && popped[3] == -5);
-    EXPECT(RUN(0, sizeof calls, 2) == ERGO_INDEX_ACCEPTED && at == 20 && made == 2 && end == 0 && lengths[0] == 1 && numbers[0] == -5);
-    EXPECT(RUN(20, sizeof calls, 7) == ERGO_INDEX_UNKNOWN_CALL && at == sizeof calls - 22 && made == 5 && end == 31);
+    EXPECT(RUN(0, sizeof calls, 2) == ERGO_INDEX_ACCEPTED && at == 20 && made == 2 && end == ERGO_INDEX_END_NO_ROOM && lengths[0] == 1);
+    EXPECT(numbers[0] == -5);
+    EXPECT(RUN(20, sizeof calls, 7) == ERGO_INDEX_ACCEPTED && at == sizeof calls - 22 && made == 5 && end == ERGO_INDEX_END_NO_CALL);
     EXPECT(lengths[0] == 0 && lengths[4] == 1 && numbers[ERGO_INDEX_PARENT_NUMBERS + 512] == 9);
     EXPECT(lengths[5] == 1 && numbers[2 * ERGO_INDEX_PARENT_NUMBERS - 1] == 2 && numbers[ERGO_INDEX_PARENT_NUMBERS + 1024] == 7);
     EXPECT(ids[ERGO_INDEX_PARENT_IDS + 32] == 4 && ids[ERGO_INDEX_PARENT_IDS + 63] == 4);
-    EXPECT(RUN(sizeof calls - 3, sizeof calls - 2, 7) == ERGO_INDEX_ACCEPTED && at == 1 && made == 1 && end == 1);
+    EXPECT(RUN(sizeof calls - 3, sizeof calls - 2, 7) == ERGO_INDEX_ACCEPTED && at == 1 && made == 1 && end == ERGO_INDEX_END_OF_INPUT);
     printf("batch: ok\n");
 #undef RUN
 }

@@ -9,6 +9,15 @@ use crate::segment::{BoxNumber, Head, Segment, TxNumber, SEGMENT_THRESHOLD};
 /// The most parents of a batch: a queued call names its parent by one byte.
 pub const MAX_PARENTS: usize = 256;
 
+/// Why a batch made no further call: the answers have no room for another one.
+pub const END_NO_ROOM: u8 = 0;
+/// Why a batch made no further call: the input has ended.
+pub const END_OF_INPUT: u8 = 1;
+/// Why a batch made no further call: the input ends inside a call.
+pub const END_CUT_CALL: u8 = 2;
+/// Why a batch made no further call: what stands there is none, as its kind or its parent is unknown.
+pub const END_NO_CALL: u8 = 31;
+
 // A parent's block in each of the four buffers.
 const IDS: usize = 32 + 32 * MAX_TOKENS;
 const NUMBERS: usize = 2 * SEGMENT_THRESHOLD + MAX_TOKENS + 1;
@@ -208,6 +217,7 @@ impl Batch {
             )
         })?;
         assert_eq!((at, made), (self.input.len(), self.calls), "every call that was queued is made");
+        assert_eq!(end, END_OF_INPUT, "only whole calls were queued, and each has room for its answer");
         self.input.clear();
         self.calls = 0;
         let answer = |(said, number): (&[u8], i64)| accepted(said[0]).map(|()| (said[1] == 1).then_some(number));

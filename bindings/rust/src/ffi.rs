@@ -1,4 +1,5 @@
-//! The functions of include/ergo_index.h. A slice passes as a pointer and a number of elements.
+//! The functions of include/ergo_index.h, where their promises stand, for callers that lend buffers of their own. A slice passes as a pointer and a number of
+//! elements.
 #![allow(missing_docs)]
 
 extern "C" {

@@ -38,14 +38,14 @@
 mod balance;
 mod batch;
 mod codec;
-mod ffi;
+pub mod ffi;
 mod lists;
 mod records;
 mod refusal;
 mod segment;
 
 pub use balance::{statement_milli_ergs, Balance, Token, MAX_TOKENS};
-pub use batch::{Batch, BatchAnswer, MAX_PARENTS};
+pub use batch::{Batch, BatchAnswer, END_CUT_CALL, END_NO_CALL, END_NO_ROOM, END_OF_INPUT, MAX_PARENTS};
 pub use codec::{blake2b256, box_segment_id, tx_segment_id, VlqReader, VlqWriter};
 pub use lists::{flush_staged_spills, inspect_spill, DeletedSpills, Key, SegmentTable, Spill, StagedSpills, KEY_SIZE, RECORD_SIZE, ROW_LIMIT};
 pub use records::{prune_below_window, IndexedAddress, UndoEntry, ADDRESS_LIMIT};

@@ -180,15 +180,14 @@ impl<'a> Spill<'a> {
     }
 }
 
-/// The row under a key: from the staged spills if the key is there, otherwise from the table. Refused by 25.
+/// The row under a key: from the staged spills if the key is there, otherwise from the table. Refused by 25, and by 12 if the key is in neither.
 ///
 /// ```
-/// use ergo_index::{box_segment_id, inspect_spill, SegmentTable, StagedSpills};
+/// use ergo_index::{box_segment_id, inspect_spill, Refusal, SegmentTable, StagedSpills};
 /// let (staged, table) = (StagedSpills::with_capacity(1), SegmentTable::with_capacity(1));
-/// assert_eq!(inspect_spill(&staged, &table, &box_segment_id(&[0; 32], 0))?, None);
-/// # Ok::<(), ergo_index::Refusal>(())
+/// assert_eq!(inspect_spill(&staged, &table, &box_segment_id(&[0; 32], 0)), Err(Refusal::RowMissing));
 /// ```
-pub fn inspect_spill<'a>(staged: &'a StagedSpills, table: &'a SegmentTable, key: &Key) -> Result<Option<Spill<'a>>, Refusal> {
+pub fn inspect_spill<'a>(staged: &'a StagedSpills, table: &'a SegmentTable, key: &Key) -> Result<Spill<'a>, Refusal> {
     let (s, t) = (&staged.list, &table.list);
     let (mut list, mut offset, mut length) = (0, 0, 0);
     // SAFETY: each pointer comes from a live borrow, each length is that of its slice, and nothing that is written overlaps anything else.
@@ -209,9 +208,8 @@ pub fn inspect_spill<'a>(staged: &'a StagedSpills, table: &'a SegmentTable, key:
         )
     })?;
     Ok(match list {
-        1 => Some(Spill::Staged(&s.bytes[offset..offset + length])),
-        2 => Some(Spill::Table(&t.bytes[offset..offset + length])),
-        _ => None,
+        1 => Spill::Staged(&s.bytes[offset..offset + length]),
+        _ => Spill::Table(&t.bytes[offset..offset + length]),
     })
 }
 

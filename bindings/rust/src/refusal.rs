@@ -14,6 +14,7 @@ use std::fmt;
 /// ```
 #[derive(Clone, Copy, Debug, PartialEq, Eq, Hash)]
 #[repr(u8)]
+#[non_exhaustive]
 pub enum Refusal {
     /// 1: the bytes end inside a field.
     BytesEnd = 1,
@@ -75,7 +76,7 @@ pub enum Refusal {
     UndoEntryNumbersCut = 29,
     /// 30: bytes are left over behind an undo entry.
     UndoEntryLeftOver = 30,
-    /// 31: a call of the runner is unknown or cut.
+    /// 31: a call of the runner is unknown or cut. A batch tells it by its end, [`END_NO_CALL`](crate::END_NO_CALL).
     UnknownCall = 31,
     /// 32: the output is too short.
     OutputTooShort = 32,

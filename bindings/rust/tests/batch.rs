@@ -183,3 +183,60 @@ fn parents_are_numbered_by_a_byte() -> Result<(), Refusal> {
 fn an_unknown_parent_is_no_call() {
     Single::new().batch().pop_box(PARENTS);
 }
+
+/// The calls of an input over no parent and empty lists, with room for so many answers: the result, the calls made and why there was no further one.
+fn run_bytes(input: &[u8], room: usize) -> (u8, usize, u8) {
+    let (mut ids, mut numbers, mut lengths, mut spills): ([u8; 0], [i64; 0], [usize; 0], [i32; 0]) = ([], [], [], []);
+    let (mut staged, mut table, mut deleted): ([u8; 0], [u8; 0], [u8; 0]) = ([], [], []);
+    let (mut staged_count, mut table_count, mut deleted_count) = (0, 0, 0);
+    let (mut answers, mut popped) = (vec![0; 2 * room], vec![0; room]);
+    let (mut at, mut made, mut end) = (9, 9, 9);
+    // SAFETY: each pointer comes from a live borrow, each length is that of its slice, and nothing that is written overlaps anything else.
+    let code = unsafe {
+        ffi::ergo_index_run_calls(
+            input.as_ptr(),
+            input.len(),
+            0,
+            ids.as_mut_ptr(),
+            0,
+            numbers.as_mut_ptr(),
+            0,
+            lengths.as_mut_ptr(),
+            0,
+            spills.as_mut_ptr(),
+            0,
+            &mut staged_count,
+            0,
+            staged.as_mut_ptr(),
+            0,
+            &mut table_count,
+            0,
+            table.as_mut_ptr(),
+            0,
+            &mut deleted_count,
+            0,
+            deleted.as_mut_ptr(),
+            0,
+            answers.as_mut_ptr(),
+            answers.len(),
+            popped.as_mut_ptr(),
+            popped.len(),
+            &mut at,
+            &mut made,
+            &mut end,
+        )
+    };
+    assert_eq!(at, made, "each flush is a byte");
+    (code, made, end)
+}
+
+#[test]
+fn each_end_has_its_name() {
+    assert_eq!(run_bytes(&[7, 7], 1), (0, 1, END_NO_ROOM));
+    assert_eq!(run_bytes(&[7], 1), (0, 1, END_OF_INPUT));
+    assert_eq!(run_bytes(&[7, 7], 3), (0, 2, END_OF_INPUT));
+    assert_eq!(run_bytes(&[], 1), (0, 0, END_OF_INPUT));
+    assert_eq!(run_bytes(&[7, 1], 3), (0, 1, END_CUT_CALL));
+    assert_eq!(run_bytes(&[7, 10, 0], 3), (0, 1, END_NO_CALL));
+    assert_eq!(run_bytes(&[7, 5, 0], 3), (0, 1, END_NO_CALL));
+}

@@ -115,14 +115,14 @@ fn rows_are_inspected_where_they_stand() -> Result<(), Refusal> {
         index.append(n)?;
     }
     let key = box_segment_id(index.segment.parent(), 0);
-    let shown = inspect_spill(&index.staged, &index.table, &key)?.expect("the row is staged");
+    let shown = inspect_spill(&index.staged, &index.table, &key)?;
     assert!(matches!(shown, Spill::Staged(_)));
     let row = Segment::from_row([0; 32], shown.row())?;
     assert_eq!(row.boxes(), (1..=512).collect::<Vec<_>>());
     assert_eq!(index.staged.iter().next(), Some((key, shown.row())));
     index.flush()?;
-    assert!(matches!(inspect_spill(&index.staged, &index.table, &key)?, Some(Spill::Table(_))));
-    assert_eq!(inspect_spill(&index.staged, &index.table, &tx_segment_id(index.segment.parent(), 0))?, None);
+    assert!(matches!(inspect_spill(&index.staged, &index.table, &key)?, Spill::Table(_)));
+    assert_eq!(inspect_spill(&index.staged, &index.table, &tx_segment_id(index.segment.parent(), 0)), Err(Refusal::RowMissing));
     Ok(())
 }
 

@@ -3,7 +3,6 @@
 pub mod call;
 pub mod checks;
 pub mod codes;
-pub mod ffi;
 pub mod hashlib;
 pub mod index;
 pub mod measure;
@@ -11,3 +10,6 @@ pub mod random;
 pub mod report;
 pub mod sample;
 pub mod sides;
+pub mod tables;
+
+pub use ergo_index::ffi;

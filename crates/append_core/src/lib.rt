@@ -50,7 +50,7 @@ fn stage_row(kind: Kind, head: &[i64], staged: &mut [u8], count: usize, key: &[u
 {
     let mut row = [0u8; 10254];
     let n = emit_row(kind, head, &mut row);
-    records::put(staged, buffer_core::RECORD, count, key, &row[..n])
+    record_changes::put(staged, buffer_core::RECORD, count, key, &row[..n])
 }
 
 // An append to a head of 512: its numbers become the next row.
@@ -70,8 +70,8 @@ fn spill(
     if 2147483647 <= spills {
         return Appended::Refused(refusal::SPILL_COUNT_AT_LIMIT);
     }
-    let key = buffer_core::spill_key(kind, parent, spills);
-    if records::full_for(staged, buffer_core::RECORD, staged_counts, &key) {
+    let key = spill_rows::spill_key(kind, parent, spills);
+    if record_changes::full_for(staged, buffer_core::RECORD, staged_counts, &key) {
         return Appended::Refused(refusal::STAGING_FULL);
     }
     let count = stage_row(kind, head, staged, staged_counts.count, &key);

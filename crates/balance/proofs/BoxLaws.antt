@@ -14,7 +14,7 @@ use Rattle.signed.specs.declared.Checked.the-variants.{Is, Out}
 use Rattle.signed.specs.Checked.{checked}
 use Rattle.signed.proofs.SignedLaws.{checked-fits}
 use Rattle.balance.specs.declared.Balance.{Balance}
-use Rattle.balance.specs.Tokens.{Changed, change-tokens}
+use Rattle.balance_tokens.specs.Tokens.{Changed, change-tokens}
 use Rattle.balance.specs.Boxes.{buffers-ok, stopped, nanos-after, refused, held-by, settled, change-box}
 
 -- ---- 25

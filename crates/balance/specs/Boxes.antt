@@ -12,7 +12,7 @@ use Rattle.signed.specs.Checked.{checked}
 use Rattle.refusal.specs.declared.Answer.the-variants.{Accepted, Refused}
 use Rattle.balance.specs.declared.Balance.{Balance}
 use Rattle.balance.specs.declared.Outcome.{Outcome}
-use Rattle.balance.specs.Tokens.{Held, Changed, held, turned, change-tokens}
+use Rattle.balance_tokens.specs.Tokens.{Held, Changed, held, turned, change-tokens}
 
 -- 25 unless the balance's count is at most 128, and the box's ids and amounts are there for its n tokens
 unfoldable pub buffers-ok : ℕ → List ℕ → List ℤ → ℕ → Bool

@@ -7,9 +7,9 @@ use lib.IntN.{ℤ, pos, natAbs}
 use Rattle.refusal.specs.declared.Answer.{Answer}
 use Rattle.balance.specs.declared.Balance.{Balance}
 use Rattle.balance.specs.declared.Outcome.{Outcome}
-use Rattle.balance.specs.declared.Counted.{Counted}
-use Rattle.balance.specs.declared.Counted.the-variants as counted
-use Rattle.balance.specs.Tokens.{Changed, held, turned}
+use Rattle.balance_tokens.specs.declared.Counted.{Counted}
+use Rattle.balance_tokens.specs.declared.Counted.the-variants as counted
+use Rattle.balance_tokens.specs.Tokens.{Changed, held, turned}
 
 -- a balance of ids and amounts, a count and nanoErgs
 abbrev pub flat : List ℕ → List ℤ → ℕ → ℤ → Balance

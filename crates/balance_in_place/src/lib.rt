@@ -10,9 +10,9 @@ pub fn add_box(held: &mut Balance, nanos: i64, ids: &[u8], amounts: &[i64], coun
     ensures { λ r. ⌜ left r (now (held .exit)) ≡ add-box (now (held .entry)) nanos (now (ids .entry)) (now (amounts .entry)) count ⌝ }
 {
     let old = *held;
-    let outcome = balance::add_box(old, nanos, ids, amounts, count);
-    *held = outcome.balance;
-    outcome.answer
+    let added = balance::add_box(old, nanos, ids, amounts, count);
+    *held = added.balance;
+    added.answer
 }
 
 // Subtracts a box from a borrowed balance; a refusal leaves it as it was.
@@ -26,7 +26,7 @@ pub fn subtract_box(
     ensures { λ r. ⌜ left r (now (held .exit)) ≡ subtract-box (now (held .entry)) nanos (now (ids .entry)) (now (amounts .entry)) count ⌝ }
 {
     let old = *held;
-    let outcome = balance::subtract_box(old, nanos, ids, amounts, count);
-    *held = outcome.balance;
-    outcome.answer
+    let rest = balance::subtract_box(old, nanos, ids, amounts, count);
+    *held = rest.balance;
+    rest.answer
 }

@@ -15,7 +15,7 @@ use Rattle.stores.specs.Equal.{same-bytes}
 use Rattle.stores.proofs.EqualLaws.{same-refl, same-true}
 use Rattle.stores.proofs.StoreLaws.{length-write, length-part, part-at}
 use Rattle.balance.specs.Tokens.{id-at, place-from, place-of, closed-up}
-use Rattle.balance.proofs.CloseLaws.{write-before, write-in, closed-length, closed-lo, closed-hi}
+use Rattle.balance_tokens.proofs.CloseLaws.{write-before, write-in, closed-length, closed-lo, closed-hi}
 use Rattle.ledger.specs.Ledger.{TokenId, Tokens, ite, id-dec}
 use Rattle.fork_model.proofs.Balances as Ba
 use Rattle.balance_laws.specs.Calls.{tokens-from}

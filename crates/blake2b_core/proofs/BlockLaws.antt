@@ -8,7 +8,7 @@ use native.Mathlib.Numerals.{add-one}
 use native.Mathlib.Omega.{arith}
 use lib.ListN.{getD, length, take, drop, set, replicate, length-drop}
 use lib.Seq.{take-all, getD-drop, paste-suc}
-use Rattle.blake2b_core.specs.Blake2b.{tabulate, le32, le64, compress, block, absorbed, before-last, final}
+use Rattle.blake2b_spec.specs.Blake2b.{tabulate, le32, le64, compress, block, absorbed, before-last, final}
 
 -- ---- the copy of a list's rest over zeros
 

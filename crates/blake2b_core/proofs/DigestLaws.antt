@@ -3,8 +3,8 @@ use Prim.Native.Nat.{ℕ}
 use mathlib.Core.Path.{_≡_}
 use mathlib.Core.List.{List}
 use lib.ListN.{length}
-use Rattle.blake2b_core.specs.Blake2b.{blake2b, blake2b256}
-use Rattle.blake2b_core.proofs.TabulateLaws.{length-tabulate}
+use Rattle.blake2b_spec.specs.Blake2b.{blake2b, blake2b256}
+use Rattle.blake2b_spec.proofs.TabulateLaws.{length-tabulate}
 
 -- a digest has the length that was asked for
 pub digest-length : (nn : ℕ) (s : List ℕ) → length (blake2b nn s) ≡ nn

@@ -2,7 +2,7 @@
 ghost use mathlib.Core.Path.{_≡_};
 ghost use Prim.Native.Nat.{ℕ, _+_, _-_, _^_, _<_, _≤_};
 ghost use lib.ListN.{getD, length};
-ghost use Rattle.blake2b_core.specs.Blake2b as spec;
+ghost use Rattle.blake2b_spec.specs.Blake2b as spec;
 
 fn wide(x: u8) -> u64
     ensures { λ r. ⌜ r ≡ x ⌝ }

@@ -2,16 +2,28 @@
 ghost use mathlib.Core.Path.{_≡_};
 ghost use Prim.Native.Nat.{_/_, _%_, _^_, _<_, _≤_};
 ghost use lib.ListN.{length};
-ghost use Rattle.blake2b_core.specs.Blake2b as spec;
+ghost use Rattle.blake2b_spec.specs.Blake2b as spec;
 
 mod blocks;
-mod compression;
+
+// The message schedule of section 2.7, a row of sixteen numbers to a line.
+pub const SIGMA: [u8; 160] = *b"\
+\x00\x01\x02\x03\x04\x05\x06\x07\x08\x09\x0a\x0b\x0c\x0d\x0e\x0f\
+\x0e\x0a\x04\x08\x09\x0f\x0d\x06\x01\x0c\x00\x02\x0b\x07\x05\x03\
+\x0b\x08\x0c\x00\x05\x02\x0f\x0d\x0a\x0e\x03\x06\x07\x01\x09\x04\
+\x07\x09\x03\x01\x0d\x0c\x0b\x0e\x02\x06\x05\x0a\x04\x00\x0f\x08\
+\x09\x00\x05\x07\x02\x04\x0a\x0f\x0e\x01\x0b\x0c\x06\x08\x03\x0d\
+\x02\x0c\x06\x0a\x00\x0b\x08\x03\x04\x0d\x07\x05\x0f\x0e\x01\x09\
+\x0c\x05\x01\x0f\x0e\x0d\x04\x0a\x00\x07\x06\x03\x09\x02\x08\x0b\
+\x0d\x0b\x07\x0e\x0c\x01\x03\x09\x05\x00\x0f\x04\x08\x06\x02\x0a\
+\x06\x0f\x0e\x09\x0b\x03\x00\x08\x0c\x02\x0d\x07\x01\x04\x0a\x05\
+\x0a\x02\x08\x04\x07\x06\x01\x05\x0f\x0b\x09\x0e\x03\x0c\x0d\x00";
 
 // The state before the first block.
 fn start(nn: u64) -> [u64; 8]
     ensures { λ r. ⌜ r ≡ spec.start nn ⌝ }
 {
-    let iv = compression::IV;
+    let iv = blake2b_compression::IV;
     [
         iv[0] ^ 0x0101_0000 ^ nn,
         iv[1],
@@ -29,18 +41,18 @@ pub fn state(s: &[u8], nn: u64) -> [u64; 8]
     requires { ⌜ (1 ≤ nn) × (nn ≤ 64) ⌝ }
     ensures { λ r. ⌜ r ≡ spec.final nn (now (s .entry)) ⌝ }
 {
-    let sigma = compression::SIGMA;
+    let sigma = SIGMA;
     let n = s.len();
     let mut h = start(nn);
     let mut at = 0;
     while 128 < n - at {
         let m = blocks::block(s, at);
         at += 128;
-        let next = compression::compress(&h, &m, &sigma, at as u64, false);
+        let next = blake2b_compression::compress(&h, &m, &sigma, at as u64, false);
         h = next;
     }
     let m = blocks::last_block(s, at);
-    compression::compress(&h, &m, &sigma, n as u64, true)
+    blake2b_compression::compress(&h, &m, &sigma, n as u64, true)
 }
 
 // The byte of a word that starts at bit k.

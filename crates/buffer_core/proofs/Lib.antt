@@ -1,4 +1,5 @@
--- The laws of heads, of the three lists and of reading a spill's row, for the calls' crates.
+-- The laws of heads and of the three lists, of what a refused call leaves, and small calls that compute, for the calls' crates.
 pub mod HeadLaws
 pub mod ListLaws
-pub mod SpillLaws
+pub mod RefusedLaws
+pub mod SmallCalls

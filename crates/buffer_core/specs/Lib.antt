@@ -1,7 +1,6 @@
 -- The definitions that the contracts of the segment buffer's calls cite, in reading order.
 pub mod Edition
 pub mod Spills
-pub mod Steps
 pub mod Append
 pub mod Pop
 pub mod Flip

@@ -1,6 +1,6 @@
 -- Pop (document 01): "The last of the head; on an empty head the newest row becomes the head first, leaves staging, and its key joins the deletion list."
 -- Refusals: "11; 19 head empty and count 0; 12; 1 to 6, 8; 20 no number of that kind in it; 21 list full and key not in it".
-use Prim.Native.Nat.{ℕ, _+_, _-_}
+use Prim.Native.Nat.{ℕ, _-_}
 use mathlib.Core.Bool.{Bool, _&&_, cond}
 use mathlib.Core.List.{List}
 use lib.Dec.{ltb, eqb}

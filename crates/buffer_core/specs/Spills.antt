@@ -11,7 +11,7 @@ use Rattle.records.specs.declared.Place.the-variants.{Staged, Table, Missing}
 use Rattle.records.specs.Find.{row-at, locate-key}
 use Rattle.segment_id.specs.declared.Kind.{Kind}
 use Rattle.buffer_core.specs.declared.HeadCounts.{HeadCounts}
-use Rattle.buffer_core.specs.Edition.{Edition, RowRead, bad, good}
+use Rattle.buffer_core.specs.Edition.{Edition, RowRead, bad}
 
 -- what a call reads rows from: a parent, the staged spills and the segments table with the number of records in each
 pub record Sources : Type 0 where
@@ -32,10 +32,14 @@ module _ (E : Edition) where
   unfoldable pub place-at : Kind → Sources → ℕ → Place
   place-at kind w n = locate-key (E .size) (key-at kind w n) (w .staged-count) (w .staged) (w .table-count) (w .table)
 
+  -- the numbers of a kind in the row at a place
+  abbrev pub read-from : Kind → (staged table : List ℕ) → Place → RowRead
+  read-from kind staged table (Staged i) = E .decode kind (row-at (E .size) i staged)
+  read-from kind staged table (Table i) = E .decode kind (row-at (E .size) i table)
+  read-from kind staged table Missing = bad 12
+
   abbrev pub read-placed : Kind → Sources → Place → RowRead
-  read-placed kind w (Staged i) = E .decode kind (row-at (E .size) i (w .staged))
-  read-placed kind w (Table i) = E .decode kind (row-at (E .size) i (w .table))
-  read-placed kind w Missing = bad 12
+  read-placed kind w p = read-from kind (w .staged) (w .table) p
 
   -- the numbers of a kind in the row of a spill number
   unfoldable pub spill-read : Kind → Sources → ℕ → RowRead

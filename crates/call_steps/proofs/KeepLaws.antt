@@ -46,7 +46,7 @@ use Rattle.call_steps.specs.State.{State, parent-id, kind-number, head-a
 use Rattle.call_steps.specs.Steps.{counts-in, appended-by, append-by, of-append, popped-by, pop-by, of-pop, flipped-by, flip-by, of-flip, flushed-by, flush-by, of-flush, change-of, of-change, step-of, StepReady}
 use Rattle.call_steps.proofs.StateLaws.{kind-few}
 use Rattle.call_steps.proofs.StepLaws.{chosen}
-use Rattle.call_steps.proofs.RefusedLaws.{AppendSame, append-refused-same, PopSame, pop-refused-same, flush-refused-same}
+use Rattle.buffer_core.proofs.RefusedLaws.{AppendSame, append-core-same, PopSame, pop-core-same, flush-core-same}
 
 -- ---- lengths
 
@@ -176,7 +176,7 @@ module _ (parents : ℕ) (s : State) (r : Ready parents s) (p : ℕ) (h : p < pa
         let o = append-core edition-1 k (parent-id p (s .ids)) n z (s .lists .staged-counts) head (s .lists .staged) in
         subst Appended·kept (chosen _ _ _ (append-passes k))
         (append-by-answer (o .answer) (o .head) (o .staged) (append-keeps k (parent-id p (s .ids)) n z (s .lists .staged-counts) head (s .lists .staged) (append-passes k))
-        (append-refused-same head (s .lists .staged) k (parent-id p (s .ids)) n z (s .lists .staged-counts)))
+        (append-core-same edition-1 head (s .lists .staged) k (parent-id p (s .ids)) n z (s .lists .staged-counts)))
 
     -- ---- pop
     abbrev Popped·kept : Popping → Type 0
@@ -209,7 +209,7 @@ module _ (parents : ℕ) (s : State) (r : Ready parents s) (p : ℕ) (h : p < pa
         let o = pop-core edition-1 k (parent-id p (s .ids)) n (s .lists) head in
         subst Popped·kept (chosen _ _ _ (pop-passes k))
         (pop-by-answer (o .answer) (o .head) (o .staged) (o .deleted) (pop-keeps k (parent-id p (s .ids)) n (s .lists) head (pop-passes k))
-        (pop-refused-same head (s .lists) k (parent-id p (s .ids)) n))
+        (pop-core-same edition-1 head (s .lists) k (parent-id p (s .ids)) n))
 
   -- ---- spend and unspend
   module _ (d : Direction) (z : ℤ) where
@@ -280,7 +280,7 @@ module _ (parents : ℕ) (s : State) (r : Ready parents s) where
         listed = subst (λ (x : Flushing). lists-ok edition-1 (lists c (x .staged) t (x .table) d (x .deleted)) ≡ true) (sym e) k;
       }
   flush-by-answer (flushed.Refused code) table staged deleted e =
-      let f = flush-refused-same (s .lists) code (sym (ap (λ (x : Flushing). x .answer) e)) in
+      let f = flush-core-same edition-1 (s .lists) code (sym (ap (λ (x : Flushing). x .answer) e)) in
       let x : table ≡ s .lists .table = ap (λ (x : Flushing). x .table) e ∙ f .0 in
       let y : staged ≡ s .lists .staged = ap (λ (x : Flushing). x .staged) e ∙ f .1 in
       let z : deleted ≡ s .lists .deleted = ap (λ (x : Flushing). x .deleted) e ∙ f .2 in

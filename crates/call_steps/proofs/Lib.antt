@@ -1,5 +1,4 @@
 -- Laws and proofs of `call_steps`.
 pub mod StateLaws
 pub mod StepLaws
-pub mod RefusedLaws
 pub mod KeepLaws

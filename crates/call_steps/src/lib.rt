@@ -199,7 +199,7 @@ fn after_flip(r: Flipped, counts: SpillCounts) -> Stepped
     }
 }
 
-// The hints say where the table's records may stand (`records::hints`).
+// The hints say where the table's records may stand (`record_hints`).
 pub fn flip_step(
     direction: Direction,
     p: usize,

@@ -41,8 +41,8 @@ use Rattle.buffer_core.specs.declared.Walk.the-variants.{Hit, Ended, Failed}
 use Rattle.buffer_core.specs.Edition.{RowRead, good, bad, numbers-of, edition-1}
 use Rattle.buffer_core.specs.Spills.{sources, place-at, read-placed, spill-read}
 use Rattle.buffer_core.specs.Flip.{check-row, first-of, last-in, lead-of, half, middle, search-by, search-in, look-past, look-by, look-in, look-of, walk-by, walk-from, Effect, refuse, flip-head, stage, Flipping, flipping, head-first, done-by, spends, row-checked, lead-at, look-at, row-flipped, stage-from, stage-at, after-walk, after-search, in-rows, in-order, flip-effect, flip-core}
-use Rattle.buffer_core.proofs.SpillLaws.{row-most}
-use Rattle.flip_core.proofs.RowLaws.{nope}
+use Rattle.spill_rows.proofs.SpillLaws.{row-most}
+use Rattle.spill_rows.proofs.CheckedLaws.{nope}
 
 -- the refusals of reading a row, 1 to 6 and 8, or those from a to b
 abbrev pub Code : (a b : ℕ) → ℕ → Type 0

@@ -41,9 +41,11 @@ use Rattle.buffer_core.specs.declared.Walk.the-variants.{Hit, Ended, Failed}
 use Rattle.buffer_core.specs.Edition.{good, bad, numbers-of, edition-1}
 use Rattle.buffer_core.specs.Spills.{sources, place-at, read-placed, spill-read, head-ok}
 use Rattle.buffer_core.specs.Flip.{search-in, walk-from, Effect, refuse, flip-head, stage, Flipping, flipping, head-first, done-by, spends, lead-at, look-at, row-flipped, stage-from, stage-at, after-walk, after-search, in-rows, in-order, flip-effect, flip-core, flip-ok}
-use Rattle.flip_core.specs.Ready.{FlipReady, Takes}
-use Rattle.flip_core.proofs.RowLaws.{nope, row-takes}
-use Rattle.flip_core.proofs.SearchLaws.{walk-hits}
+use Rattle.spill_rows.proofs.CheckedLaws.{nope}
+use Rattle.flip_walk.proofs.WalkLaws.{walk-hits}
+use Rattle.flip_stage.specs.Steps.{Takes}
+use Rattle.flip_core.specs.Ready.{FlipReady}
+use Rattle.flip_core.proofs.TakeLaws.{row-takes}
 
 -- ---- a row written anew has at most 10,254 bytes
 

@@ -1,7 +1,5 @@
 -- The laws of a spend and an unspend.
-pub mod RowLaws
-pub mod SearchLaws
-pub mod RewriteLaws
+pub mod TakeLaws
 pub mod EffectLaws
 pub mod KeepLaws
 pub mod CodeLaws

@@ -34,7 +34,7 @@ use Rattle.buffer_core.specs.declared.Walk.the-variants.{Hit, Ended, Failed}
 use Rattle.buffer_core.specs.Edition.{edition-1}
 use Rattle.buffer_core.specs.Spills.{Sources, sources, place-at}
 use Rattle.buffer_core.specs.Flip.{first-of, last-in, search-in, look-past, look-by, look-in, walk-by, walk-from, Effect, refuse, flip-head, stage, Flipping, flipping, head-first, done-by, spends, lead-at, look-at, stage-from, stage-at, after-walk, after-search, in-rows, in-order, flip-effect, flip-core}
-use Rattle.flip_core.proofs.RowLaws.{nope}
+use Rattle.spill_rows.proofs.CheckedLaws.{nope}
 use Rattle.flip_core.proofs.CodeLaws.{not-15, broken-code, failed-code}
 
 -- ---- the rows that a walk looks at, from spill number n - 1 down: none shows a copy

@@ -1,18 +1,17 @@
 -- Laws of the flush: the turns of its loops, the room that the new keys need, and its ways out.
-use Prim.Native.Nat.{ℕ, zero, suc, _+_, _*_, _-_, _≤_, _<_}
-use mathlib.Core.Path.{_≡_, refl, sym, ap, _∙_}
+use Prim.Native.Nat.{ℕ, suc, _+_, _*_, _-_, _≤_, _<_}
+use mathlib.Core.Path.{_≡_, refl, sym, ap}
 use mathlib.Core.Bool.{Bool, true, false, not, _&&_, cond}
 use mathlib.Core.List.{List, [], _∷_, _++_}
 use native.Mathlib.Omega.{arith}
 use lib.ListN.{length, take, drop, length-take, length-drop}
 use lib.Seq.{take-take}
-use lib.Dec.{leb}
 use borrow.Author.Tests.{le-leb, lt-leb}
 use Rattle.stores.specs.Equal.{same-bytes}
 use Rattle.records.specs.declared.Found.{Found}
 use Rattle.records.specs.declared.Found.the-variants.{At, Nothing}
 use Rattle.records.specs.declared.ListCounts.{ListCounts}
-use Rattle.records.specs.Records.{records, keys, key-of, stored-row, record-of}
+use Rattle.records.specs.Records.{records, keys, stored-row, record-of}
 use Rattle.records.specs.Find.{find-from, find-key, is-found}
 use Rattle.records.specs.Changes.{slot, count-after, with-count, put-record, clear-records}
 use Rattle.records.proofs.KeyLaws.{clash, PutCase, put-cases}
@@ -20,7 +19,6 @@ use Rattle.records.proofs.Views.{put-at}
 use Rattle.records.proofs.TurnLaws.{records-step, records-past, keys-step, keys-past, found-in}
 use Rattle.records.proofs.RecordLaws.{row-room, record-length, record-key}
 use Rattle.records.proofs.PutLaws.{keys-after-put}
-use Rattle.buffer_core.specs.declared.Flushed.{Flushed}
 use Rattle.buffer_core.specs.declared.Flushed.the-variants.{Done, Refused}
 use Rattle.buffer_core.specs.Edition.{edition-1}
 use Rattle.buffer_core.specs.Pop.{Lists, count-without}

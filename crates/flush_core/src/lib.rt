@@ -10,11 +10,9 @@ ghost use Rattle.buffer_core.specs.Pop.{lists};
 ghost use Rattle.buffer_core.specs.Flush.{one-if, new-count, listed, put-undeleted, remove-key, remove-keys, flushing, flushed, flush-core};
 ghost use Rattle.flush_core.specs.Steps.{is-new, put-unless-deleted, FlushReady, RoomReady};
 use buffer_core::Flushed;
+use buffer_core::RECORD;
 use records::Found;
 use records::ListCounts;
-
-// The bytes of a record.
-const RECORD: usize = 10288;
 
 // Whether a key stands in a list.
 fn holds_key(list: &[u8], size: usize, count: usize, key: &[u8]) -> bool
@@ -95,7 +93,7 @@ fn put_unless_deleted(
         return count;
     }
     let row = records::row_part(staged, at, RECORD);
-    records::put(table, RECORD, count, &staged[at..end], row)
+    record_changes::put(table, RECORD, count, &staged[at..end], row)
 }
 
 // Puts the staged records whose key is not deleted into the table, in list order. Returns the table's count.
@@ -138,7 +136,7 @@ fn remove_key(list: &mut [u8], counts: ListCounts, key: &[u8]) -> usize
     let found = records::find(list, RECORD, count, key);
     match found {
         Found::At(i) => {
-            records::remove(list, RECORD, count, i);
+            record_changes::remove(list, RECORD, count, i);
             count - 1
         }
         Found::Nothing => count,
@@ -217,8 +215,8 @@ fn flush_lists(
         deleted,
         deleted_counts.count,
     );
-    records::clear_list(staged, RECORD, staged_counts.capacity);
-    records::clear_list(deleted, 32, deleted_counts.capacity);
+    record_changes::clear_list(staged, RECORD, staged_counts.capacity);
+    record_changes::clear_list(deleted, 32, deleted_counts.capacity);
     Flushed::Done(
         ListCounts {
             count: left,

@@ -20,6 +20,7 @@ use Rattle.buffer_core.specs.Append.{counts-of, append-of, append-ok, append-co
 use Rattle.buffer_core.specs.Pop.{lists, pop-of, pop-ok, pop-core, lists-ok}
 use Rattle.buffer_core.specs.Flip.{flip-of, flip-ok, flip-core, flip-effect, in-order, in-rows, search-by, walk-from, look-in, stage-at, row-flipped}
 use Rattle.buffer_core.specs.Flush.{flush-of, flush-core, flushed, table-after, put-undeleted, put-staged, remove-key, remove-keys, new-count}
+use Rattle.buffer_core.proofs.SmallCalls.{short-records, staged-row-lists, marked-rows, marked-row}
 use Rattle.ledger.specs.Ledger.{Parent, boxes, ite, series-dec, Call}
 use Rattle.ledger.specs.Run.{Made, accepted, refused-leaving, Machine, Step, undo, flush, State, Undone, start, run, runUndo, StepsOk, flat}
 use Rattle.fork_model.proofs.SmallHistories.{append-box, spend-box, boxes-after}
@@ -91,14 +92,10 @@ module _ (s : Parent → Places) where
 
 -- ---- rows: computed with records of 36 bytes
 
-abbrev short-records : Edition
-short-records = record { size = 36; limit = 2; key = edition-1 .key; encode = edition-1 .encode; decode = edition-1 .decode; with-boxes = edition-1 .with-boxes }
-
 -- one staged row, its key (32 zeros) deleted or not, and a table that has room for it
 abbrev staged-row : (deleted : ℕ) → Index
 staged-row n =
-    index (λ ch. part (counts-of 0 (pos 0)) [])
-    (lists (record { count = 1; capacity = 1 }) (replicate 36 0) (record { count = 0; capacity = 1 }) (replicate 36 0) (record { count = n; capacity = 1 }) (replicate 32 0))
+    index (λ ch. part (counts-of 0 (pos 0)) []) (staged-row-lists n)
 
 abbrev after-flush : (Index → ℕ) → ℕ → ℕ
 after-flush f n = of-answer (do-flush short-records (λ p. []) (staged-row n))
@@ -125,31 +122,12 @@ pub staging-emptied : after-flush (λ b. b .lists .staged-counts .count) 0 ≡ 0
 unfolding flush-of flush-core flushed table-after put-undeleted put-staged remove-key remove-keys new-count lists-ok records-ok keys-ok lengths-ok distinct records find-from same-bytes
 staging-emptied = refl
 
--- ---- a spend in a row: rows of one byte, 512 times the number 5, the first of them spent where the byte is not 0
-abbrev first-five : ℕ → ℤ
-first-five zero = pos 5
-first-five (suc n) = negsuc 4
-
-abbrev mark-of : List ℤ → ℕ
-mark-of [] = 0
-mark-of (pos n ∷ zs) = 0
-mark-of (negsuc n ∷ zs) = 1
-
-abbrev marked-rows : Edition
-marked-rows = record {
-  size = 36;
-  limit = 2;
-  key = λ kind parent n. replicate 32 0;
-  encode = λ kind zs. mark-of zs ∷ [];
-  decode = λ kind row. good (first-five (getD row 0 0) ∷ replicate 511 (pos 5));
-  with-boxes = λ row zs. mark-of zs ∷ [];
-}
-
+-- ---- a spend in a row, with rows of one byte
 -- one row of parent 0 in the table, an empty head, and room for one staged row
 abbrev one-row : (mark : ℕ) → Index
 one-row m =
     index (λ ch. part (counts-of 0 (pos 1)) (replicate 512 (pos 0)))
-    (lists (record { count = 0; capacity = 1 }) (replicate 36 0) (record { count = 1; capacity = 1 }) (replicate 32 0 ++ (0 ∷ 1 ∷ m ∷ 0 ∷ [])) (record { count = 0; capacity = 0 }) [])
+    (lists (record { count = 0; capacity = 1 }) (replicate 36 0) (record { count = 1; capacity = 1 }) (marked-row m) (record { count = 0; capacity = 0 }) [])
 
 -- the first number of the row, as it reads after the call
 abbrev first-after : Direction → ℕ → List ℤ

@@ -28,7 +28,7 @@ use Rattle.calls.specs.declared.Call.the-variants.{Change}
 use Rattle.call_steps.specs.State.{State, state, head-at, length-at, spills-at, ids-with, numbers-with, lengths-with, Within, Ready}
 use Rattle.call_steps.specs.Steps.{changed-by, change-of, of-change, step-of}
 use Rattle.call_steps.proofs.StateLaws.{kind-few}
-use Rattle.call_steps.proofs.RefusedLaws.{both}
+use Rattle.buffer_core.proofs.RefusedLaws.{both}
 use Rattle.call_steps.proofs.KeepLaws.{within}
 use Rattle.ledger.specs.Ledger.{Parent, parent-dec, Series, parentOf, ite, Tokens, Typed}
 use Rattle.ledger.specs.Run.{Made}

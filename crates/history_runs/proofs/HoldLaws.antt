@@ -30,7 +30,8 @@ use Rattle.history.proofs.ForkUndoLaw.{fork-undo}
 use Rattle.history.proofs.RefusalLaws.{flip-leaves, refusals-leave}
 use Rattle.ledger.proofs.LeaveLaws.{paid-back}
 use Rattle.history_runs.specs.View.{ids-in, view, balance-in, Same, SamePop, SameBalance, changed, one-token}
-use Rattle.history_runs.specs.Runs.{made, heard, says, says-of, Changes, Makes, Unmakes, UnmakesNewest, M, Holds, Tells, Spells, UndoSaid, StepSaid, StepsSaid, Agrees}
+use Rattle.call_runs.specs.Made.{made, heard}
+use Rattle.history_runs.specs.Runs.{says, says-of, Changes, Makes, Unmakes, UnmakesNewest, M, Holds, Tells, Spells, UndoSaid, StepSaid, StepsSaid, Agrees}
 use Rattle.history_runs.proofs.ViewLaws.{append-same, pop-same, flip-same, flush-same}
 use Rattle.history_runs.proofs.BalanceLaws.{change-same}
 use Rattle.history_runs.proofs.NearLaws.{Near, NearRes, NearPop, append-near, pop-near, flip-near, flush-near}

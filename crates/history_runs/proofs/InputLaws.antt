@@ -4,10 +4,8 @@ use mathlib.Core.Bool.{Bool, true, false}
 use mathlib.Core.List.{List, [], _∷_, map}
 use Prim.Native.Nat.{ℕ, zero, suc, _+_, _*_, _≤_, _<_}
 use native.Mathlib.Omega.{arith}
-use lib.Dec.{eqb}
-use lib.IntN.{ℤ, pos}
-use lib.ListN.{length, set, length-set}
-use lib.Seq.{getD-set-same, getD-set-other}
+use lib.IntN.{ℤ}
+use lib.ListN.{length, length-set}
 use borrow.Author.Tests.{lt-ltb, le-leb, eq-eqb}
 use Rattle.records.proofs.CheckLaws.{and-true}
 use Rattle.buffer_core.specs.Edition.{edition-1}
@@ -16,18 +14,19 @@ use Rattle.calls.specs.Calls.{call-at, size-of}
 use Rattle.calls.proofs.CallLaws.{call-sound}
 use Rattle.call_steps.specs.State.{State, state-ok}
 use Rattle.call_steps.specs.Steps.{step-of}
-use Rattle.call_steps.proofs.RefusedLaws.{both}
 use Rattle.ledger.specs.Ledger.{Parent}
 use Rattle.ledger.specs.Ledger as ledger
 use Rattle.ledger.specs.Run.{Step}
 use Rattle.ledger.specs.Run as Mc
 use Rattle.ledger.proofs.AnswerLaws.{standing-told}
 use Rattle.history.specs.ForkUndo.{Places}
-use Rattle.runner.specs.Run.{Run, flag, may-go, turn-of, runs, start, run-of}
+use Rattle.runner.specs.Run.{Run, may-go, runs, start, run-of}
 use Rattle.runner.proofs.RunLaws.{runs-stop, run-passed}
 use Rattle.runner.proofs.PieceLaws.{runs-go, turn-stops, turn-goes, after}
 use Rattle.history_runs.specs.View.{ids-in}
-use Rattle.history_runs.specs.Runs.{made, heard, is-one, said-at, said-from, Stand, says-of, Spells, StepsSaid, Agrees, Empty}
+use Rattle.call_runs.specs.Made.{made, heard, said-at, said-from, Stand}
+use Rattle.call_runs.proofs.AnswerLaws.{runs-alike, answer-there}
+use Rattle.history_runs.specs.Runs.{says-of, Spells, StepsSaid, Agrees, Empty}
 use Rattle.history_runs.proofs.HoldLaws.{run-heard}
 use Rattle.history_runs.proofs.StartLaws.{borrowed, start-holds, W, fork-undo-from-empty}
 
@@ -70,47 +69,6 @@ module _ (parents : ℕ) (input : List ℕ) where
       ∙ run-made xs n y (omega arith) (room-after (length xs) r k) t
       ∙ ap (λ (c : Call). made xs (step-of edition-1 c (r .now) .after)) (s .0)
 
-  -- ---- the answers of a run stand where it wrote them
-  abbrev Alike : ℕ → Run → Run → Type 0
-  Alike i x y = said-at (x .answers) (x .popped) i ≡ said-at (y .answers) (y .popped) i
-
-  answered-alike : (r : Run) (i : ℕ) → i < r .made → Alike i (after edition-1 parents input r) r
-  answered-alike r i h =
-      let a = step-of edition-1 (call-at parents input (r .at)) (r .now) .said in
-      let m = r .made in
-      let l = set (r .answers) (m * 2) (a .code) in
-      let code = getD-set-other l (m * 2 + 1) (i * 2) (flag (a .popped)) 0 (λ e. omega (arith, e)) ∙ getD-set-other (r .answers) (m * 2) (i * 2) (a .code) 0 (λ e. omega (arith, e)) in
-      let mark = getD-set-other l (m * 2 + 1) (i * 2 + 1) (flag (a .popped)) 0 (λ e. omega (arith, e)) ∙ getD-set-other (r .answers) (m * 2) (i * 2 + 1) (a .code) 0 (λ e. omega (arith, e)) in
-      let number = getD-set-other (r .popped) m i (a .number) (pos 0) (λ e. omega (arith, e)) in
-      λ j. record { code = code j; popped = is-one (mark j); number = number j }
-
-  turn-alike : (r : Run) (i : ℕ) → i < r .made → Alike i (turn-of edition-1 parents input r) r × (r .made ≤ turn-of edition-1 parents input r .made)
-  unfolding turn-of
-  turn-alike r i h =
-      both (λ (x : Run). Alike i x r × (r .made ≤ x .made)) (eqb (size-of (call-at parents input (r .at))) 0) (refl, omega arith) (answered-alike r i h, omega arith)
-
-  runs-alike : (n : ℕ) (r : Run) (i : ℕ) → i < r .made → Alike i (runs edition-1 parents input n r) r
-  unfolding runs
-  runs-alike zero r i h = refl
-  runs-alike (suc n) r i h =
-      let t = turn-alike r i h in
-      both (λ (x : Run). Alike i x r) (may-go r) (runs-alike n (turn-of edition-1 parents input r) i (omega (arith, t .1)) ∙ t .0) refl
-
-  one-flag : (b : Bool) → is-one (flag b) ≡ b
-  one-flag true = refl
-  one-flag false = refl
-
-  answer-there : (r : Run) → r .made < length (r .popped) → r .made * 2 + 2 ≤ length (r .answers)
-      → said-at (after edition-1 parents input r .answers) (after edition-1 parents input r .popped) (r .made) ≡ step-of edition-1 (call-at parents input (r .at)) (r .now) .said
-  answer-there r h k =
-      let a = step-of edition-1 (call-at parents input (r .at)) (r .now) .said in
-      let m = r .made in
-      let l = set (r .answers) (m * 2) (a .code) in
-      let code = getD-set-other l (m * 2 + 1) (m * 2) (flag (a .popped)) 0 (λ e. omega (arith, e)) ∙ getD-set-same (r .answers) (m * 2) (a .code) 0 (omega arith) in
-      let mark = ap is-one (getD-set-same l (m * 2 + 1) (flag (a .popped)) 0 (omega (arith, length-set (r .answers) (m * 2) (a .code)))) ∙ one-flag (a .popped) in
-      let number = getD-set-same (r .popped) m (a .number) (pos 0) h in
-      λ j. record { code = code j; popped = mark j; number = number j }
-
   -- a run of more turns than calls stand there has their answers, each in its place
   pub run-answers : (xs : List Call) (n : ℕ) (r : Run) → length xs < n → Room (length xs) r → Stand parents input (r .at) xs
       → said-from (runs edition-1 parents input n r .answers) (runs edition-1 parents input n r .popped) (r .made) (length xs) ≡ heard xs (r .now)
@@ -125,7 +83,7 @@ module _ (parents : ℕ) (input : List ℕ) where
       = runs-go edition-1 parents input n r (goes (length xs) r k) ∙ ap (runs edition-1 parents input n) (turn-goes edition-1 parents input r z) in
       let v = runs edition-1 parents input n y in
       let here : said-at (v .answers) (v .popped) (r .made) ≡ step-of edition-1 x (r .now) .said
-      = runs-alike n y (r .made) (omega arith) ∙ answer-there r (omega (arith, k .numbers)) (omega (arith, k .codes)) ∙ ap (λ (c : Call). step-of edition-1 c (r .now) .said) (s .0) in
+      = runs-alike parents input n y (r .made) (omega arith) ∙ answer-there parents input r (omega (arith, k .numbers)) (omega (arith, k .codes)) ∙ ap (λ (c : Call). step-of edition-1 c (r .now) .said) (s .0) in
       let there : said-from (v .answers) (v .popped) (r .made + 1) (length xs) ≡ heard xs (step-of edition-1 x (r .now) .after)
       = run-answers xs n y (omega arith) (room-after (length xs) r k) t ∙ ap (λ (c : Call). heard xs (step-of edition-1 c (r .now) .after)) (s .0) in
       ap (λ (w : Run). said-from (w .answers) (w .popped) (r .made) (suc (length xs))) e ∙ (λ i. here i ∷ there i)

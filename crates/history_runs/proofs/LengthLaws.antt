@@ -20,8 +20,8 @@ use Rattle.buffer_core.specs.Edition.{edition-1, RowRead, bad, good}
 use Rattle.buffer_core.specs.Spills.{sources, spill-read}
 use Rattle.buffer_core.specs.Pop.{Popping, Lists, row-head, merged, merge-of, unspill-of, pop-core, pop-ok, pop-of}
 use Rattle.buffer_core.specs.Flip.{Flipping, Effect, refuse, flip-head, stage, done-by, flip-effect, flip-core, flip-ok, flip-of}
-use Rattle.buffer_core.proofs.SpillLaws.{padded-length, spill-under, under-few}
-use Rattle.call_steps.proofs.RefusedLaws.{both}
+use Rattle.buffer_core.proofs.RefusedLaws.{both}
+use Rattle.spill_rows.proofs.SpillLaws.{padded-length, spill-under, under-few}
 use Rattle.history.proofs.AppendSim.{length-one}
 
 -- ---- append

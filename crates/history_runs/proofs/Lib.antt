@@ -8,3 +8,4 @@ pub mod HoldLaws
 pub mod StartLaws
 pub mod InputLaws
 pub mod PieceLaws
+pub mod ProgramLaws

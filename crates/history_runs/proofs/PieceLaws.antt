@@ -14,14 +14,13 @@ use Rattle.segment_id.specs.declared.Kind.the-variants.{Box, Tx}
 use Rattle.balance.specs.declared.Balance.{Balance}
 use Rattle.buffer_core.specs.Edition.{edition-1}
 use Rattle.calls.specs.declared.Call.{Call}
-use Rattle.calls.specs.declared.Call.the-variants.{Append, Flip, Pop, Flush, Change, Bad, Cut, End}
 use Rattle.calls.specs.Calls.{call-at, size-of}
 use Rattle.calls.proofs.CallLaws.{call-sound}
 use Rattle.call_steps.specs.State.{State, counts-ok, lengths-ok, blocks-ok, state-ok, Ready}
-use Rattle.call_steps.specs.Steps.{step-of}
 use Rattle.runner.specs.Run.{Run, may-go, runs, start, run-of}
 use Rattle.runner.proofs.RunLaws.{runs-stop, run-passed}
-use Rattle.runner.proofs.PieceLaws.{Settled, call-stays, call-shifts, runs-go, turn-stops, turn-goes, after}
+use Rattle.call_runs.proofs.AlongLaws.{made-append}
+use Rattle.runner.proofs.PieceLaws.{settled, call-stays, call-shifts, runs-go, turn-stops, turn-goes, after}
 use Rattle.ledger.specs.Ledger.{Parent}
 use Rattle.ledger.specs.Ledger as ledger
 use Rattle.ledger.specs.Run.{Step}
@@ -32,7 +31,8 @@ use Rattle.history.specs.Machine.{Borrowed}
 use Rattle.history.specs.ForkUndo.{Places}
 use Rattle.history.proofs.ForkUndoLaw.{stays-sound}
 use Rattle.history_runs.specs.View.{ids-in, balance-in}
-use Rattle.history_runs.specs.Runs.{made, Stand, Piece, bytes-of, in-pieces, Roomy, Spells, Agrees, Empty}
+use Rattle.call_runs.specs.Made.{made, Stand}
+use Rattle.history_runs.specs.Runs.{Piece, bytes-of, in-pieces, Roomy, Spells, Agrees, Empty}
 use Rattle.history_runs.proofs.HoldLaws.{run-holds}
 use Rattle.history_runs.proofs.StartLaws.{borrowed, start-holds, W, fork-undo-from-empty}
 use Rattle.history_runs.proofs.InputLaws.{Room, goes, room-after, few, run-of-made}
@@ -41,21 +41,6 @@ use Rattle.history_runs.proofs.InputLaws.{Room, goes, room-after, few, 
 unfoldable total : List Call → ℕ
 total [] = 0
 total (x ∷ xs) = size-of x + total xs
-
-settled : (c : Call) → (size-of c ≡ 0 → ⊥) → Settled c
-settled (Append k p n) h = tt
-settled (Flip d p n) h = tt
-settled (Pop k p) h = tt
-settled Flush h = tt
-settled (Change a p n t v) h = tt
-settled Bad h = tt
-settled Cut h = h refl
-settled End h = h refl
-
-made-append : (ys zs : List Call) (s : State) → made (ys ++ zs) s ≡ made zs (made ys s)
-unfolding made
-made-append [] zs s = refl
-made-append (y ∷ ys) zs s = made-append ys zs (step-of edition-1 y s .after)
 
 module _ (parents : ℕ) where
   -- a run ends behind the calls that it makes
@@ -219,7 +204,7 @@ module _ (parents : ℕ) (places : Parent → Places) (s : State) (E : Empty par
       let f = front ys zs ts (Mc.step M c t) (m .1) in
       record { us = t ∷ f .us; vs = f .vs; is = ap (λ (l : List Step). t ∷ l) (f .is); spelled = (m .0, f .spelled) }
 
-  passes : (ts : List Step) (xs : List Call) → Spells parents (ids-in s) B places (Mc.start M) ts xs → Mc.Legal M (Mc.start M) ts → Mc.KeysApart M (Mc.InUse M (Mc.start M) ts) → Passes parents s xs
+  pub passes : (ts : List Step) (xs : List Call) → Spells parents (ids-in s) B places (Mc.start M) ts xs → Mc.Legal M (Mc.start M) ts → Mc.KeysApart M (Mc.InUse M (Mc.start M) ts) → Passes parents s xs
   passes ts xs m l k ys zs e =
       let f = front ys zs ts (Mc.start M) (subst (Spells parents (ids-in s) B places (Mc.start M) ts) e m) in
       let us = f .us in

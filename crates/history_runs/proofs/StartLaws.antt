@@ -21,7 +21,8 @@ use Rattle.history.specs.Index.{part}
 use Rattle.history.specs.Machine.{Borrowed, none-of}
 use Rattle.history.specs.ForkUndo.{Places}
 use Rattle.history_runs.specs.View.{ids-in, part-in}
-use Rattle.history_runs.specs.Runs.{made, M, Holds, Spells, StepsSaid, Agrees, Empty, lent}
+use Rattle.call_runs.specs.Made.{made}
+use Rattle.history_runs.specs.Runs.{M, Holds, Spells, StepsSaid, Agrees, Empty, lent}
 use Rattle.history_runs.proofs.ViewLaws.{head-long}
 use Rattle.history_runs.proofs.HoldLaws.{fork-undo-runs}
 

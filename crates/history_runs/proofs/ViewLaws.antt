@@ -30,7 +30,8 @@ use Rattle.calls.specs.declared.Call.the-variants.{Append, Flip, Pop, Flush}
 use Rattle.call_steps.specs.State.{State, state, parent-id, head-at, length-at, spills-at, head-counts, head-of, with-head, Within, Ready}
 use Rattle.call_steps.specs.Steps.{counts-in, lengths-by, spills-by, appended-by, append-by, of-append, popped-by, pop-by, of-pop, flipped-by, flip-by, of-flip, flushed-by, flush-by, of-flush, step-of}
 use Rattle.call_steps.proofs.StateLaws.{kind-few}
-use Rattle.call_steps.proofs.RefusedLaws.{both, AppendSame, append-refused-same, PopSame, pop-refused-same, FlushSame, flush-refused-same}
+use Rattle.buffer_core.proofs.RefusedLaws as refused
+use Rattle.buffer_core.proofs.RefusedLaws.{AppendSame, PopSame, FlipSame, FlushSame}
 use Rattle.call_steps.proofs.KeepLaws.{within}
 use Rattle.ledger.specs.Ledger.{Series, boxes, parentOf, series-dec, ite}
 use Rattle.history.specs.Index.{part, index, kind-of, set-part, after-append, after-pop, after-flip, after-flush, do-append, do-pop, do-flip, do-flush}
@@ -116,15 +117,14 @@ module _ (s : State) (ch : Series) (w : Within (parentOf ch) (s .ids) (s .number
       (refl, λ i. state (s .ids) (put-back new (e .0) i) (s .lengths) (s .spills) (lists (b .staged-counts) (e .1 i) (b .table-counts) (b .table) (b .deleted-counts) (b .deleted)))
 
   append-in : (z : ℤ) → Same s (step-of edition-1 (Append k p z) s) (do-append edition-1 (ids-in s) (view s) ch z)
-  unfolding step-of append-by append-of
+  unfolding step-of append-by
   append-in z =
       let n = head-counts k p (s .lengths) (s .spills) in
       let c = s .lists .staged-counts in
       let o = append-of edition-1 k (parent-id p (s .ids)) n z c head (s .lists .staged) in
       append-by-answer (o .answer) (o .head) (o .staged)
       (append-long k (parent-id p (s .ids)) n c head (s .lists .staged) (omega (arith, head-long)) z ∙ head-long)
-      (both (AppendSame head (s .lists .staged)) (append-ok edition-1 n c head (s .lists .staged))
-      (append-refused-same head (s .lists .staged) k (parent-id p (s .ids)) n z c) (λ code e. (refl, refl)))
+      (refused.append-same edition-1 head (s .lists .staged) k (parent-id p (s .ids)) n z c)
 
   -- ---- pop
   pop-by-answer : (a : Popped) (new : List ℤ) (staged deleted : List ℕ) → length new ≡ 512 → PopSame head (s .lists) (popping a new staged deleted)
@@ -137,14 +137,13 @@ module _ (s : State) (ch : Series) (w : Within (parentOf ch) (s .ids) (s .number
       (refl, λ i. state (s .ids) (put-back new (e .0) i) (s .lengths) (s .spills) (lists (b .staged-counts) (e .1 i) (b .table-counts) (b .table) (b .deleted-counts) (e .2 i)))
 
   pop-in : SamePop s (step-of edition-1 (Pop k p) s) (do-pop edition-1 (ids-in s) (view s) ch)
-  unfolding step-of pop-by pop-of
+  unfolding step-of pop-by
   pop-in =
       let n = head-counts k p (s .lengths) (s .spills) in
       let o = pop-of edition-1 k (parent-id p (s .ids)) n (s .lists) head in
       pop-by-answer (o .answer) (o .head) (o .staged) (o .deleted)
       (pop-long (s .lists) head (omega (arith, head-long)) k (parent-id p (s .ids)) n ∙ head-long)
-      (both (PopSame head (s .lists)) (pop-ok edition-1 n (s .lists) head)
-      (pop-refused-same head (s .lists) k (parent-id p (s .ids)) n) (λ code e. (refl, refl, refl)))
+      (refused.pop-same edition-1 head (s .lists) k (parent-id p (s .ids)) n)
 
   -- a head put anew beside the counts it had
   head-view : (new : List ℤ) → length new ≡ 512 → (b : Lists)
@@ -164,10 +163,7 @@ module _ (s : State) (p : ℕ) (w : Within p (s .ids) (s .numbers) (s .lengths) 
   abbrev head-now : List ℤ
   head-now = head-of Box p (s .numbers)
 
-  abbrev FlipSame : Flipping → Type 0
-  FlipSame o = (code : ℕ) → o .answer ≡ flipped.Refused code → (o .head ≡ head-now) × (o .staged ≡ s .lists .staged)
-
-  flip-by-answer : (a : Flipped) (new : List ℤ) (staged : List ℕ) → length new ≡ 512 → FlipSame (flipping a new staged)
+  flip-by-answer : (a : Flipped) (new : List ℤ) (staged : List ℕ) → length new ≡ 512 → FlipSame head-now (s .lists .staged) (flipping a new staged)
       → Same s (of-flip (flipped-by (flipping a new staged) p (counts-in (s .lists)) (s .numbers)) s) (after-flip (view s) (boxes p) a new staged)
   flip-by-answer (flipped.Done c) new staged long same = (refl, head-view s (boxes p) w new long _, head-beside s (boxes p) w new long (s .lists), refl)
   flip-by-answer (flipped.Refused code) new staged long same =
@@ -176,17 +172,14 @@ module _ (s : State) (p : ℕ) (w : Within p (s .ids) (s .numbers) (s .lengths) 
       (refl, λ i. state (s .ids) (put-back s (boxes p) w new (e .0) i) (s .lengths) (s .spills) (lists (b .staged-counts) (e .1 i) (b .table-counts) (b .table) (b .deleted-counts) (b .deleted)))
 
   flip-in : (d : Direction) (z : ℤ) → Same s (step-of edition-1 (Flip d p z) s) (do-flip edition-1 (ids-in s) d (view s) p z)
-  unfolding step-of flip-by flip-of
+  unfolding step-of flip-by
   flip-in d z =
       let n = head-counts Box p (s .lengths) (s .spills) in
       let b = s .lists in
       let o = flip-of edition-1 d (parent-id p (s .ids)) n z (b .staged-counts) (b .staged) (b .table-counts) (b .table) head-now in
-      let core = flip-core edition-1 d (parent-id p (s .ids)) n z (b .staged-counts) (b .staged) (b .table-counts) (b .table) head-now in
       flip-by-answer (o .answer) (o .head) (o .staged)
       (flip-long (b .staged-counts) head-now (b .staged) d (parent-id p (s .ids)) n z (b .table-counts) (b .table) ∙ head-long s (boxes p) w)
-      (both FlipSame (flip-ok edition-1 n (b .staged-counts) (b .staged) (b .table-counts) (b .table) head-now)
-      (λ code e. flip-refused d (parent-id p (s .ids)) n z (b .staged-counts) (b .staged) (b .table-counts) (b .table) head-now (core .head) (core .staged) code (λ i. flipping (sym e i) (core .head) (core .staged)))
-      (λ code e. (refl, refl)))
+      (refused.flip-same edition-1 d (parent-id p (s .ids)) n z (b .staged-counts) (b .staged) (b .table-counts) (b .table) head-now)
 
 -- ---- flush
 module _ (s : State) where
@@ -200,11 +193,11 @@ module _ (s : State) where
 
   -- in any state
   pub flush-same : Same s (step-of edition-1 Flush s) (do-flush edition-1 (ids-in s) (view s))
-  unfolding step-of flush-by flush-of
+  unfolding step-of flush-by
   flush-same =
       let o = flush-of edition-1 (s .lists) in
       flush-by-answer (o .answer) (o .table) (o .staged) (o .deleted)
-      (both (FlushSame (s .lists)) (lists-ok edition-1 (s .lists)) (flush-refused-same (s .lists)) (λ code e. (refl, refl, refl)))
+      (refused.flush-same edition-1 (s .lists))
 
 -- ---- the calls of a state that refusal 25 passed, on one of its parents
 module _ (parents : ℕ) (s : State) (r : Ready parents s) where

@@ -3,17 +3,16 @@ use mathlib.Core.Path.{_≡_}
 use mathlib.Core.Logic.{_⊎_}
 use mathlib.Core.Bool.{Bool, true, false}
 use mathlib.Core.List.{List, [], _∷_, _++_, map}
-use Prim.Native.Nat.{ℕ, zero, suc, _+_, _*_, _≤_, _<_}
+use Prim.Native.Nat.{ℕ, _+_, _*_, _≤_, _<_}
 use lib.IntN.{ℤ, pos}
 use lib.Signed.{mag}
-use lib.ListN.{length, drop, getD, replicate}
+use lib.ListN.{length, drop, replicate}
 use native.Mathlib.Decide.{decLt}
 use Rattle.buffer_core.specs.declared.Direction.the-variants.{Spend, Unspend}
 use Rattle.buffer_core.specs.Edition.{edition-1}
 use Rattle.buffer_core.specs.Append.{counts-of}
 use Rattle.calls.specs.declared.Call.{Call}
 use Rattle.calls.specs.declared.Call.the-variants.{Append, Flip, Pop, Flush, Change}
-use Rattle.calls.specs.Calls.{call-at, size-of}
 use Rattle.call_steps.specs.declared.Said.{Said}
 use Rattle.call_steps.specs.State.{State, Ready}
 use Rattle.call_steps.specs.Steps.{accepted, number-popped, refused, step-of}
@@ -27,33 +26,6 @@ use Rattle.history.specs.Index.{kind-of, entries-of}
 use Rattle.history.specs.Machine.{Borrowed}
 use Rattle.history.specs.ForkUndo.{Places, empty-balance, index-machine}
 use Rattle.history_runs.specs.View.{ids-in, part-in, view, balance-in, one-token}
-
--- the calls, one after the other
-unfoldable pub made : List Call → State → State
-made [] s = s
-made (x ∷ xs) s = made xs (step-of edition-1 x s .after)
-
--- what each of the calls says
-unfoldable pub heard : List Call → State → List Said
-heard [] s = []
-heard (x ∷ xs) s = step-of edition-1 x s .said ∷ heard xs (step-of edition-1 x s .after)
-
--- the answers as the runner gives them: "the refusal or 0, and a popped number", of each of n calls from the i-th on
-abbrev pub is-one : ℕ → Bool
-is-one zero = false
-is-one (suc n) = true
-
-abbrev pub said-at : List ℕ → List ℤ → ℕ → Said
-said-at answers popped i = record { code = getD answers (i * 2) 0; popped = is-one (getD answers (i * 2 + 1) 0); number = getD popped i (pos 0) }
-
-unfoldable pub said-from : List ℕ → List ℤ → (i n : ℕ) → List Said
-said-from answers popped i zero = []
-said-from answers popped i (suc n) = said-at answers popped i ∷ said-from answers popped (i + 1) n
-
--- the calls that stand in the bytes one after the other, from a byte on up to where no call stands
-unfoldable pub Stand : (parents : ℕ) → List ℕ → ℕ → List Call → Type 0
-Stand parents input at [] = size-of (call-at parents input at) ≡ 0
-Stand parents input at (x ∷ xs) = (call-at parents input at ≡ x) × (size-of x ≡ 0 → ⊥) × Stand parents input (at + size-of x) xs
 
 -- ---- an input that is read in pieces: each run gets the bytes that the one before left, then the next piece, and starts from the state it left
 pub record Piece : Type 0 where

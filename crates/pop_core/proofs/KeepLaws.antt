@@ -24,7 +24,7 @@ use Rattle.buffer_core.specs.Append.{counts-of}
 use Rattle.buffer_core.specs.Pop.{Popping, popping, Lists, lists, count-without, bytes-without, last-of, without-last, row-head, staged-at, deleted-at, merged, merge-of, unspill-of, pop-core, lists-ok, pop-ok}
 use Rattle.buffer_core.proofs.HeadLaws.{HeadOk, head-facts, head-test}
 use Rattle.buffer_core.proofs.ListLaws.{ListsFit, lists-fit, fit-lists, without-ok}
-use Rattle.buffer_core.proofs.SpillLaws.{padded-length, spill-under, under-few}
+use Rattle.spill_rows.proofs.SpillLaws.{padded-length, spill-under, under-few}
 use Rattle.pop_core.specs.Ready.{PopReady}
 
 -- ---- the test as facts, and back

@@ -23,14 +23,14 @@ use Rattle.segment_id.specs.declared.Kind.{Kind}
 use Rattle.segment_core.specs.Loading.{padded}
 use Rattle.buffer_core.specs.declared.HeadCounts.{HeadCounts}
 use Rattle.buffer_core.specs.declared.Popped.the-variants.{Number, Refused}
-use Rattle.buffer_core.specs.declared.SpillRead.{SpillRead}
-use Rattle.buffer_core.specs.declared.SpillRead.the-variants as read
 use Rattle.buffer_core.specs.Edition.{edition-1, RowRead, bad, good}
-use Rattle.buffer_core.specs.Steps.{SpillInto, read-under}
 use Rattle.buffer_core.specs.Append.{counts-of}
 use Rattle.buffer_core.specs.Pop.{Popping, popping, Lists, lists, count-without, bytes-without, last-of, without-last, merged, merge-of, unspill-of, pop-core}
 use Rattle.buffer_core.proofs.HeadLaws.{spills-below}
-use Rattle.buffer_core.proofs.SpillLaws.{padded-length, spill-under, under-few}
+use Rattle.spill_rows.specs.declared.SpillRead.{SpillRead}
+use Rattle.spill_rows.specs.declared.SpillRead.the-variants as read
+use Rattle.spill_rows.specs.Steps.{SpillInto, read-under}
+use Rattle.spill_rows.proofs.SpillLaws.{padded-length, spill-under, under-few}
 use Rattle.pop_core.specs.Ready.{PopReady, MergeReady, Merges}
 
 -- ---- a key's record leaves a list

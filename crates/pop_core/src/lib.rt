@@ -9,10 +9,10 @@ ghost use Rattle.buffer_core.specs.Pop.{popping, lists, count-without, bytes-wi
 ghost use Rattle.pop_core.specs.Ready.{PopReady, MergeReady, Merges};
 use buffer_core::HeadCounts;
 use buffer_core::Popped;
-use buffer_core::SpillRead;
 use records::Found;
 use records::ListCounts;
 use segment_id::Kind;
+use spill_rows::SpillRead;
 
 // Takes the last of the head's numbers; its place becomes 0.
 fn take_last(head: &mut [i64], len: usize) -> i64
@@ -35,7 +35,7 @@ fn unstage(staged: &mut [u8], counts: ListCounts, key: &[u8]) -> ListCounts
     let found = records::find(staged, buffer_core::RECORD, count, key);
     match found {
         Found::At(i) => {
-            records::remove(staged, buffer_core::RECORD, count, i);
+            record_changes::remove(staged, buffer_core::RECORD, count, i);
             ListCounts {
                 count: count - 1,
                 capacity: counts.capacity,
@@ -64,7 +64,7 @@ fn merge(
     stores::copy_numbers(head, 0, list);
     let number = take_last(head, n);
     let staged_after = unstage(staged, staged_counts, key);
-    let count = records::put_key(deleted, deleted_counts.count, key);
+    let count = record_changes::put_key(deleted, deleted_counts.count, key);
     let rows = signed::i32_from_usize(spills);
     Popped::Number(
         number,
@@ -98,10 +98,10 @@ fn unspill(
         ≡ unspill-of edition-1 kind (now (parent .entry)) spills
         (lists «staged_counts» (now (staged .entry)) «table_counts» (now (table .entry)) «deleted_counts» (now (deleted .entry))) (now (head .entry)) ⌝ }
 {
-    let key = buffer_core::spill_key(kind, parent, spills);
+    let key = spill_rows::spill_key(kind, parent, spills);
     let none = [0u16; 1];
     let mut list = [0i64; 512];
-    let read = buffer_core::read_under(
+    let read = spill_rows::read_under(
         kind,
         &key,
         staged,
@@ -117,7 +117,7 @@ fn unspill(
             if n == 0 {
                 return Popped::Refused(refusal::ROW_WITHOUT_NUMBERS);
             }
-            if records::full_for(deleted, 32, deleted_counts, &key) {
+            if record_changes::full_for(deleted, 32, deleted_counts, &key) {
                 return Popped::Refused(refusal::DELETED_FULL);
             }
             merge(

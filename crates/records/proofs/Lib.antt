@@ -6,4 +6,3 @@ pub mod RecordLaws
 pub mod PutLaws
 pub mod RemoveLaws
 pub mod CheckLaws
-pub mod TreeLaws

@@ -17,8 +17,9 @@ use Rattle.calls.specs.declared.Call.the-variants.{Append, Flip, Pop, Flush, Ch
 use Rattle.calls.specs.Calls.{signed-of, number-at, with-number, with-token, with-parent, of-kind, call-at, size-of, end-of}
 use Rattle.calls.proofs.CallLaws.{call-sound}
 use Rattle.call_steps.specs.Steps.{step-of}
-use Rattle.call_steps.proofs.RefusedLaws.{both}
-use Rattle.runner.proofs.RunLaws.{and-off, runs-stop}
+use Rattle.buffer_core.proofs.RefusedLaws.{both}
+use Rattle.run_checks.proofs.CheckLaws.{and-off}
+use Rattle.runner.proofs.RunLaws.{runs-stop}
 use Rattle.runner.specs.Run.{Run, run-at, may-go, ended, answered, called, turn-of, runs}
 
 -- ---- a call that stands in the piece stands in the whole
@@ -153,7 +154,8 @@ module _ (s : List ℕ) (k : ℕ) where
 
 -- ---- runs
 
-settled : (c : Call) → (size-of c ≡ 0 → ⊥) → Settled c
+-- a call of some bytes is neither cut nor the end
+pub settled : (c : Call) → (size-of c ≡ 0 → ⊥) → Settled c
 settled (Append k p n) h = tt
 settled (Flip d p n) h = tt
 settled (Pop k p) h = tt

@@ -13,34 +13,17 @@ use Rattle.segment_id.specs.declared.Kind.{Kind}
 use Rattle.segment_id.specs.declared.Kind.the-variants.{Box, Tx}
 use Rattle.records.proofs.CheckLaws.{and-left, and-right}
 use Rattle.buffer_core.specs.Edition.{Edition, edition-1}
-use Rattle.buffer_core.specs.Pop.{lists-ok}
 use Rattle.calls.specs.Calls.{call-at, size-of, end-of}
 use Rattle.calls.specs.declared.Call.{Call}
 use Rattle.calls.proofs.CallLaws.{call-sound}
-use Rattle.call_steps.specs.State.{State, length-at, counts-ok, lengths-ok, blocks-ok, state-ok, Blocks, Ready}
+use Rattle.call_steps.specs.State.{State, length-at, counts-ok, lengths-ok, blocks-ok, state-ok, Ready}
 use Rattle.call_steps.specs.Steps.{Stepping, step-of, StepReady}
 use Rattle.call_steps.proofs.KeepLaws.{step-kept, step-ready}
-use Rattle.runner.specs.Run.{Run, run-at, with-code, with-number, may-go, ended, answered, called, turn-of, runs, start, run-of, TurnReady}
-
--- a test in front that passes, and one that does not
-pub and-on : (a b : Bool) → a ≡ true → b ≡ a && b
-and-on a b e = sym (ap (λ (x : Bool). x && b) e)
-
-pub and-off : (a b : Bool) → a ≡ false → false ≡ a && b
-and-off a b e = sym (ap (λ (x : Bool). x && b) e)
+use Rattle.run_checks.specs.Answers.{with-code, with-number, end-at}
+use Rattle.run_checks.proofs.CheckLaws.{more}
+use Rattle.runner.specs.Run.{Run, run-at, may-go, ended, answered, called, turn-of, runs, start, closed, run-of, TurnReady}
 
 -- ---- refusal 25 of the state
-
--- the definition at one parent more
-more : (p : ℕ) (l : List ℕ) → lengths-ok (suc p) l ≡ counts-ok p l && lengths-ok p l
-unfolding lengths-ok
-more p l = refl
-
-pub lengths-step : (p : ℕ) (l : List ℕ) → 0 < p → lengths-ok p l ≡ counts-ok (p - 1) l && lengths-ok (p - 1) l
-lengths-step zero l h = absurd (omega arith)
-lengths-step (suc p) l h =
-    let e : p ≡ suc p - 1 = omega arith in
-    more p l ∙ (λ i. counts-ok (e i) l && lengths-ok (e i) l)
 
 few-of : (l : List ℕ) (p : ℕ) → counts-ok p l ≡ true → (k : Kind) → getD l (length-at k p) 0 ≤ 512
 few-of l p t Box =
@@ -78,15 +61,6 @@ module _ (parents : ℕ) (s : State) where
         few = few-in parents (s .lengths) (and-left l _ u);
         listed = and-right l _ u;
       }
-
-pub lengths-there : (parents : ℕ) (ids : List ℕ) (numbers : List ℤ) (lengths : List ℕ) (spills : List ℤ) → blocks-ok parents ids numbers lengths spills ≡ true
-    → parents * 3 ≤ length lengths
-unfolding blocks-ok
-lengths-there parents ids numbers lengths spills t =
-    let v = and-right (leb parents (length ids / 4128)) _ t in
-    let w = and-right (leb parents (length numbers / 1153)) _ v in
-    let k = leb-true parents (length lengths / 3) (and-left (leb parents (length lengths / 3)) _ w) in
-    omega (arith, k)
 
 -- ---- the turns
 
@@ -194,11 +168,16 @@ module _ (sizes : Type 0) (parents : ℕ) (input : List ℕ) where
     kept-end h = runs-end parents input left r h ∙ k .rest
 
 -- ---- refusal 25, or the run
+
+-- how reading ended is told last
+pub told-end : (size : ℕ) (x y : Run) (e : ℕ) → x ≡ y → e ≡ end-at size (x .at) (x .end) → run-at (x .now) (x .at) (x .made) e (x .answers) (x .popped) ≡ closed size y
+told-end size x y e q h = ap (λ (k : ℕ). run-at (x .now) (x .at) (x .made) k (x .answers) (x .popped)) h ∙ ap (closed size) q
+
 module _ (parents : ℕ) (input : List ℕ) (s : State) (answers : List ℕ) (popped : List ℤ) where
-  pub run-passed : state-ok edition-1 parents s ≡ true → runs edition-1 parents input (length input + 1) (start s answers popped) ≡ run-of edition-1 parents input s answers popped
+  pub run-passed : state-ok edition-1 parents s ≡ true → closed (length input) (runs edition-1 parents input (length input + 1) (start s answers popped)) ≡ run-of edition-1 parents input s answers popped
   unfolding run-of
-  run-passed e = sym (ap (λ (b : Bool). cond b (runs edition-1 parents input (length input + 1) (start s answers popped)) (run-at s 0 0 25 answers popped)) e)
+  run-passed e = sym (ap (λ (b : Bool). cond b (closed (length input) (runs edition-1 parents input (length input + 1) (start s answers popped))) (run-at s 0 0 25 answers popped)) e)
 
   pub run-refused : state-ok edition-1 parents s ≡ false → run-at s 0 0 25 answers popped ≡ run-of edition-1 parents input s answers popped
   unfolding run-of
-  run-refused e = sym (ap (λ (b : Bool). cond b (runs edition-1 parents input (length input + 1) (start s answers popped)) (run-at s 0 0 25 answers popped)) e)
+  run-refused e = sym (ap (λ (b : Bool). cond b (closed (length input) (runs edition-1 parents input (length input + 1) (start s answers popped))) (run-at s 0 0 25 answers popped)) e)

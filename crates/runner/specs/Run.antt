@@ -1,18 +1,16 @@
 -- The calls of an input, one after the other, each as the single function defines it, and what each says.
 use Prim.Native.Nat.{ℕ, zero, suc, _+_, _*_, _≤_, _<_}
-use mathlib.Core.Path.{_≡_}
-use mathlib.Core.Bool.{Bool, true, false, cond, _&&_}
-use mathlib.Core.List.{List, [], _∷_}
-use lib.Dec.{eqb, leb, ltb}
+use mathlib.Core.Bool.{Bool, cond}
+use mathlib.Core.List.{List}
+use lib.Dec.{eqb}
 use lib.IntN.{ℤ}
-use lib.ListN.{length, set}
-use Rattle.buffer_core.specs.Edition.{Edition, edition-1}
+use lib.ListN.{length}
+use Rattle.buffer_core.specs.Edition.{Edition}
 use Rattle.calls.specs.declared.Call.{Call}
 use Rattle.calls.specs.Calls.{call-at, size-of, end-of}
-use Rattle.call_steps.specs.declared.Said.{Said}
-use Rattle.call_steps.specs.declared.SpillCounts.{SpillCounts}
 use Rattle.call_steps.specs.State.{State, state, state-ok, Ready}
-use Rattle.call_steps.specs.Steps.{Stepping, counts-in, lists-with, step-of}
+use Rattle.call_steps.specs.Steps.{Stepping, lists-with, step-of}
+use Rattle.run_checks.specs.Answers.{with-code, with-number, has-room, end-at}
 use Rattle.runner.specs.declared.Progress.{Progress}
 
 -- where a run stands: the state, the next byte, the calls made, how reading ended, and the answers so far, two bytes a call and a number a call
@@ -31,21 +29,6 @@ run-at s at made end answers popped = record { now = s; at = at; made = made; en
 abbrev pub run : Progress → (ids : List ℕ) → (numbers : List ℤ) → (lengths : List ℕ) → (spills : List ℤ) → (staged table deleted answers : List ℕ) → (popped : List ℤ) → Run
 run p ids numbers lengths spills staged table deleted answers popped =
     run-at (state ids numbers lengths spills (lists-with (p .counts) staged table deleted)) (p .at) (p .made) (p .end) answers popped
-
--- an answer: "the refusal or 0, and a popped number"
-abbrev pub flag : Bool → ℕ
-flag true = 1
-flag false = 0
-
-abbrev pub with-code : Said → ℕ → List ℕ → List ℕ
-with-code a i answers = set (set answers (i * 2) (a .code)) (i * 2 + 1) (flag (a .popped))
-
-abbrev pub with-number : Said → ℕ → List ℤ → List ℤ
-with-number a i popped = set popped i (a .number)
-
--- reading has not ended, and another answer has room
-abbrev pub has-room : (made end : ℕ) → List ℕ → List ℤ → Bool
-has-room made end answers popped = eqb end 0 && (ltb made (length popped) && leb (made * 2 + 2) (length answers))
 
 abbrev pub may-go : Run → Bool
 may-go r = has-room (r .made) (r .end) (r .answers) (r .popped)
@@ -72,10 +55,14 @@ runs E parents input (suc n) r = cond (may-go r) (runs E parents input n (turn-o
 abbrev pub start : State → List ℕ → List ℤ → Run
 start s answers popped = run-at s 0 0 0 answers popped
 
+-- at the very end of an input of so many bytes that is how reading ended, even where the answers are just full
+abbrev pub closed : (size : ℕ) → Run → Run
+closed size r = run-at (r .now) (r .at) (r .made) (end-at size (r .at) (r .end)) (r .answers) (r .popped)
+
 -- "25 is tested first": once, before the calls; then each call from the front of the input, until no call stands there or the answers have no room
 unfoldable pub run-of : Edition → (parents : ℕ) → List ℕ → State → List ℕ → List ℤ → Run
 run-of E parents input s answers popped =
-    cond (state-ok E parents s) (runs E parents input (length input + 1) (start s answers popped)) (run-at s 0 0 25 answers popped)
+    cond (state-ok E parents s) (closed (length input) (runs E parents input (length input + 1) (start s answers popped))) (run-at s 0 0 25 answers popped)
 
 -- ---- what a turn asks once 25 is tested
 pub record TurnReady (parents : ℕ) (input : List ℕ) (r : Run) : Type 0 where

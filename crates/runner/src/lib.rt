@@ -1,107 +1,27 @@
 // Runs the calls that an input holds, over borrowed state for any number of parents: refusal 25 is tested once, then each call is made by its core function.
 ghost use mathlib.Core.Path.{_≡_};
-ghost use mathlib.Core.Bool.{true};
-ghost use Prim.Native.Nat.{_+_, _*_, _≤_, _<_};
+ghost use Prim.Native.Nat.{_+_, _*_, _<_};
 ghost use lib.ListN.{length};
 ghost use Rattle.buffer_core.specs.Edition.{edition-1};
-ghost use Rattle.buffer_core.specs.Pop.{lists-ok};
-ghost use Rattle.call_steps.specs.State.{Ready, state, counts-ok, blocks-ok, lengths-ok, state-ok};
-ghost use Rattle.call_steps.specs.Steps.{refused, stepped, left-by, lists-with, step-of, StepReady};
-ghost use Rattle.runner.specs.Run.{run, start, flag, with-code, with-number, has-room, TurnReady, turn-of, runs, run-of};
-use call_steps::Said;
+ghost use Rattle.call_steps.specs.State.{Ready, state};
+ghost use Rattle.call_steps.specs.Steps.{left-by, lists-with, step-of, StepReady};
+ghost use Rattle.runner.specs.Run.{run, start, TurnReady, turn-of, runs, run-of};
 use call_steps::SpillCounts;
 use call_steps::Stepped;
 use calls::Call;
 
 mod noted;
 
-// How far the calls have come: the counts of the lists, the next byte of the input, the calls made, and how reading ended: 0 not yet, 1 at the end of the
-// input, 2 inside a call, else the refusal: 31 at what is no call, 25 where the state was refused and no call made.
+pub use run_checks::state_ok;
+
+// How far the calls have come: the counts of the lists, the next byte of the input, the calls made, and how reading ended: 0 not yet, the answers have no
+// more room; 1 at the end of the input, also where the answers are just full; 2 inside a call; else the refusal: 31 at what is no call, 25 where the state was
+// refused and no call made.
 pub struct Progress {
     pub counts: SpillCounts,
     pub at: usize,
     pub made: usize,
     pub end: u8,
-}
-
-// ---- refusal 25 of the state
-
-fn blocks_ok(parents: usize, ids: &[u8], numbers: &[i64], lengths: &[usize], spills: &[i32]) -> bool
-    ensures { λ r. ⌜ r ≡ blocks-ok parents (now (ids .entry)) (now (numbers .entry)) (now (lengths .entry)) (now (spills .entry)) ⌝ }
-{
-    if parents <= ids.len() / 4128 {
-        if parents <= numbers.len() / 1153 {
-            if parents <= lengths.len() / 3 {
-                return parents <= spills.len() / 2;
-            }
-        }
-    }
-    false
-}
-
-// Of one parent: its heads and its token count.
-fn counts_ok(lengths: &[usize], p: usize) -> bool
-    requires { ⌜ p * 3 + 3 ≤ length (now lengths) ⌝ }
-    ensures { λ r. ⌜ r ≡ counts-ok p (now (lengths .entry)) ⌝ }
-{
-    if lengths[p * 3] <= 512 {
-        if lengths[p * 3 + 1] <= 512 {
-            return lengths[p * 3 + 2] <= 128;
-        }
-    }
-    false
-}
-
-fn lengths_ok(parents: usize, lengths: &[usize]) -> bool
-    requires { ⌜ parents * 3 ≤ length (now lengths) ⌝ }
-    ensures { λ r. ⌜ r ≡ lengths-ok parents (now (lengths .entry)) ⌝ }
-{
-    let mut p = parents;
-    while 0 < p {
-        p -= 1;
-        if !counts_ok(lengths, p) {
-            return false;
-        }
-    }
-    true
-}
-
-fn lists_ok(staged: &[u8], table: &[u8], deleted: &[u8], counts: SpillCounts) -> bool
-    ensures { λ r. ⌜ r ≡ lists-ok edition-1 (lists-with counts (now (staged .entry)) (now (table .entry)) (now (deleted .entry))) ⌝ }
-{
-    let staged_counts = counts.staged;
-    let table_counts = counts.table;
-    let deleted_counts = counts.deleted;
-    segment_buffer::lists_ok(
-        staged_counts,
-        staged,
-        table_counts,
-        table,
-        deleted_counts,
-        deleted,
-    )
-}
-
-pub fn state_ok(
-    parents: usize,
-    ids: &[u8],
-    numbers: &[i64],
-    lengths: &[usize],
-    spills: &[i32],
-    staged: &[u8],
-    table: &[u8],
-    deleted: &[u8],
-    counts: SpillCounts,
-) -> bool
-    ensures { λ r. ⌜ r ≡ state-ok edition-1 parents (state (now (ids .entry)) (now (numbers .entry)) (now (lengths .entry)) (now (spills .entry))
-        (lists-with counts (now (staged .entry)) (now (table .entry)) (now (deleted .entry)))) ⌝ }
-{
-    if blocks_ok(parents, ids, numbers, lengths, spills) {
-        if lengths_ok(parents, lengths) {
-            return lists_ok(staged, table, deleted, counts);
-        }
-    }
-    false
 }
 
 // ---- one call
@@ -174,47 +94,13 @@ fn step(
             );
             Stepped { said, counts }
         }
-        Call::Bad => no_call(counts),
-        Call::Cut => no_call(counts),
-        Call::End => no_call(counts),
-    }
-}
-
-fn no_call(counts: SpillCounts) -> Stepped
-    ensures { λ r. ⌜ r ≡ stepped (refused 31) counts ⌝ }
-{
-    Stepped {
-        said: Said {
-            code: refusal::UNKNOWN_CALL,
-            popped: false,
-            number: 0,
-        },
-        counts,
+        Call::Bad => run_checks::no_call(counts),
+        Call::Cut => run_checks::no_call(counts),
+        Call::End => run_checks::no_call(counts),
     }
 }
 
 // ---- the calls of an input
-
-fn flag(popped: bool) -> u8
-    ensures { λ r. ⌜ r ≡ flag popped ⌝ }
-{
-    if popped { 1 } else { 0 }
-}
-
-// The answer of call i takes its places.
-fn put_answer(said: Said, i: usize, answers: &mut [u8], popped: &mut [i64])
-    requires { ⌜ (i * 2 + 2 ≤ length (now answers)) × (i < length (now popped)) ⌝ }
-    ensures { λ _. ⌜ (now (answers .exit) ≡ with-code said i (now (answers .entry))) × (now (popped .exit) ≡ with-number said i (now (popped .entry))) ⌝ }
-{
-    let code = said.code;
-    let number = said.number;
-    let marked = flag(said.popped);
-    let a = i * 2;
-    let b = i * 2 + 1;
-    answers[a] = code;
-    answers[b] = marked;
-    popped[i] = number;
-}
 
 // The call at the next byte is made and answered; where there is none, how reading ended is noted.
 fn turn(
@@ -266,24 +152,13 @@ fn turn(
     );
     let said = s.said;
     let after = s.counts;
-    put_answer(said, made, answers, popped);
+    run_checks::put_answer(said, made, answers, popped);
     Progress {
         counts: after,
         at: next,
         made: count,
         end: 0,
     }
-}
-
-fn may_go(answers: &[u8], popped: &[i64], made: usize, end: u8) -> bool
-    ensures { λ r. ⌜ r ≡ has-room made end (now (answers .entry)) (now (popped .entry)) ⌝ }
-{
-    if end == 0 {
-        if made < popped.len() {
-            return made * 2 + 2 <= answers.len();
-        }
-    }
-    false
 }
 
 // The calls from the front of the input, until none stands there or the answers have no room.
@@ -316,7 +191,7 @@ fn run_ready(
     while 0 < left {
         let made = p.made;
         let end = p.end;
-        if may_go(answers, popped, made, end) {
+        if run_checks::may_go(answers, popped, made, end) {
             p = turn(
                 input,
                 parents,
@@ -359,7 +234,7 @@ pub fn run_calls(
     ensures { λ r. ⌜ run r (now (ids .exit)) (now (numbers .exit)) (now (lengths .exit)) (now (spills .exit)) (now (staged .exit)) (now (table .exit)) (now (deleted .exit)) (now (answers .exit)) (now (popped .exit))
         ≡ run-of edition-1 parents (now (input .entry)) (state (now (ids .entry)) (now (numbers .entry)) (now (lengths .entry)) (now (spills .entry)) (lists-with counts (now (staged .entry)) (now (table .entry)) (now (deleted .entry)))) (now (answers .entry)) (now (popped .entry)) ⌝ }
 {
-    if state_ok(
+    if run_checks::state_ok(
         parents,
         ids,
         numbers,
@@ -370,7 +245,7 @@ pub fn run_calls(
         deleted,
         counts,
     ) {
-        return noted::run_noted(
+        let p = noted::run_noted(
             input,
             parents,
             ids,
@@ -384,6 +259,16 @@ pub fn run_calls(
             popped,
             counts,
         );
+        let counts_after = p.counts;
+        let at = p.at;
+        let made = p.made;
+        let end = run_checks::end_at(input, at, p.end);
+        return Progress {
+            counts: counts_after,
+            at,
+            made,
+            end,
+        };
     }
     Progress {
         counts,

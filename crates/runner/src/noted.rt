@@ -1,4 +1,4 @@
-// Hints of where the table's records stand (`records::hints`) while calls are made: noted before the first call, and anew after a flush.
+// Hints of where the table's records stand (`record_hints`) while calls are made: noted before the first call, and anew after a flush.
 ghost use mathlib.Core.Path.{_≡_};
 ghost use mathlib.Core.Bool.{true};
 ghost use Prim.Native.Nat.{_+_};
@@ -18,7 +18,7 @@ fn note_table(counts: SpillCounts, table: &[u8], hints: &mut [u16]) {
     if table.len() / buffer_core::RECORD < count {
         return;
     }
-    records::hints::note_places(table, buffer_core::RECORD, count, hints);
+    record_hints::note_places(table, buffer_core::RECORD, count, hints);
 }
 
 // A flush, and where the records of the table then stand.
@@ -39,81 +39,7 @@ pub fn flush_noted(
     s
 }
 
-// run_ready without hints, for a table of few records.
-fn run_few(
-    input: &[u8],
-    parents: usize,
-    ids: &mut [u8],
-    numbers: &mut [i64],
-    lengths: &mut [usize],
-    spills: &mut [i32],
-    staged: &mut [u8],
-    table: &mut [u8],
-    deleted: &mut [u8],
-    answers: &mut [u8],
-    popped: &mut [i64],
-    counts: SpillCounts,
-) -> Progress
-    requires { ⌜ Ready parents (state (now ids) (now numbers) (now lengths) (now spills) (lists-with counts (now staged) (now table) (now deleted))) ⌝ }
-    ensures { λ r. ⌜ run r (now (ids .exit)) (now (numbers .exit)) (now (lengths .exit)) (now (spills .exit)) (now (staged .exit)) (now (table .exit)) (now (deleted .exit)) (now (answers .exit)) (now (popped .exit))
-        ≡ runs edition-1 parents (now (input .entry)) (length (now (input .entry)) + 1) (start (state (now (ids .entry)) (now (numbers .entry)) (now (lengths .entry)) (now (spills .entry)) (lists-with counts (now (staged .entry)) (now (table .entry)) (now (deleted .entry)))) (now (answers .entry)) (now (popped .entry))) ⌝ }
-{
-    let mut none = [0u16; 1];
-    super::run_ready(
-        input,
-        parents,
-        ids,
-        numbers,
-        lengths,
-        spills,
-        staged,
-        table,
-        deleted,
-        answers,
-        popped,
-        &mut none[..0],
-        counts,
-    )
-}
-
-// run_ready with hints, for a table of many records.
-fn run_many(
-    input: &[u8],
-    parents: usize,
-    ids: &mut [u8],
-    numbers: &mut [i64],
-    lengths: &mut [usize],
-    spills: &mut [i32],
-    staged: &mut [u8],
-    table: &mut [u8],
-    deleted: &mut [u8],
-    answers: &mut [u8],
-    popped: &mut [i64],
-    counts: SpillCounts,
-) -> Progress
-    requires { ⌜ Ready parents (state (now ids) (now numbers) (now lengths) (now spills) (lists-with counts (now staged) (now table) (now deleted))) ⌝ }
-    ensures { λ r. ⌜ run r (now (ids .exit)) (now (numbers .exit)) (now (lengths .exit)) (now (spills .exit)) (now (staged .exit)) (now (table .exit)) (now (deleted .exit)) (now (answers .exit)) (now (popped .exit))
-        ≡ runs edition-1 parents (now (input .entry)) (length (now (input .entry)) + 1) (start (state (now (ids .entry)) (now (numbers .entry)) (now (lengths .entry)) (now (spills .entry)) (lists-with counts (now (staged .entry)) (now (table .entry)) (now (deleted .entry)))) (now (answers .entry)) (now (popped .entry))) ⌝ }
-{
-    let mut hints = [0u16; 65536];
-    note_table(counts, table, &mut hints);
-    super::run_ready(
-        input,
-        parents,
-        ids,
-        numbers,
-        lengths,
-        spills,
-        staged,
-        table,
-        deleted,
-        answers,
-        popped,
-        &mut hints,
-        counts,
-    )
-}
-
+// The calls from the front of the input, with hints where the table has many records.
 pub fn run_noted(
     input: &[u8],
     parents: usize,
@@ -134,7 +60,8 @@ pub fn run_noted(
 {
     let held = counts.table;
     if held.count <= 128 {
-        return run_few(
+        let mut none = [0u16; 1];
+        return super::run_ready(
             input,
             parents,
             ids,
@@ -146,10 +73,13 @@ pub fn run_noted(
             deleted,
             answers,
             popped,
+            &mut none[..0],
             counts,
         );
     }
-    run_many(
+    let mut hints = [0u16; 65536];
+    note_table(counts, table, &mut hints);
+    super::run_ready(
         input,
         parents,
         ids,
@@ -161,6 +91,7 @@ pub fn run_noted(
         deleted,
         answers,
         popped,
+        &mut hints,
         counts,
     )
 }

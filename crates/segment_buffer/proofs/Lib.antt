@@ -1,3 +1,2 @@
--- Laws of the public calls, and the table theorem of document 01's starred trial values.
-pub mod CallLaws
+-- The table theorem of document 01's starred trial values.
 pub mod TestVectorsLaw

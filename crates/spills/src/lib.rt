@@ -27,8 +27,8 @@ fn spills_ok(
 ) -> bool
     ensures { λ r. ⌜ r ≡ spills-ok 10288 10254 «staged_counts» (now (staged .entry)) «table_counts» (now (table .entry)) ⌝ }
 {
-    if records::records_ok(staged, RECORD_SIZE, ROW_LIMIT, staged_counts) {
-        return records::records_ok(table, RECORD_SIZE, ROW_LIMIT, table_counts);
+    if distinct_keys::records_ok(staged, RECORD_SIZE, ROW_LIMIT, staged_counts) {
+        return distinct_keys::records_ok(table, RECORD_SIZE, ROW_LIMIT, table_counts);
     }
     false
 }

@@ -1,10 +1,9 @@
 -- Laws of a tally: what a counted row tells, one law for a turn of the loop and for each way out.
-use Prim.Native.Nat.{ℕ, zero, suc, _+_, _*_, _-_, _≤_, _<_}
+use Prim.Native.Nat.{ℕ, suc, _+_, _-_, _≤_, _<_}
 use mathlib.Core.Path.{_≡_, refl, sym, ap, _∙_}
 use mathlib.Core.Bool.{Bool, true, false, not, _&&_, cond}
 use mathlib.Core.List.{List, [], _∷_}
 use native.Mathlib.Omega.{arith}
-use native.Mathlib.Numerals.{add-one}
 use lib.Dec.{eqb}
 use lib.IntN.{ℤ, natAbs}
 use lib.ListN.{length, take}
@@ -15,14 +14,13 @@ use Rattle.entries.specs.Order.{order-ok}
 use Rattle.entries.specs.Tally.{one-if, unspent, spent}
 use Rattle.buffer_core.specs.declared.Tallied.{Tallied}
 use Rattle.buffer_core.specs.declared.Tallied.the-variants.{Counts, Refused}
-use Rattle.buffer_core.specs.declared.Read.{Read}
-use Rattle.buffer_core.specs.declared.Read.the-variants as read
 use Rattle.buffer_core.specs.Edition.{RowRead, good, bad, edition-1}
 use Rattle.buffer_core.specs.Spills.{Sources, spill-read}
 use Rattle.buffer_core.specs.Flip.{check-row, row-checked}
 use Rattle.buffer_core.specs.Tally.{tally-row, tally-rows, tally-core}
-use Rattle.flip_core.specs.Steps.{CheckedInto, read-of}
-use Rattle.tally_core.specs.declared.RowCount.{RowCount}
+use Rattle.spill_rows.specs.declared.Read.{Read}
+use Rattle.spill_rows.specs.declared.Read.the-variants as read
+use Rattle.spill_rows.specs.Steps.{CheckedInto}
 use Rattle.tally_core.specs.declared.RowCount.the-variants.{Spent, Faulty}
 use Rattle.tally_core.specs.Steps.{counted}
 

@@ -12,9 +12,9 @@ ghost use Rattle.buffer_core.specs.Tally.{tally-rows, tally-core};
 ghost use Rattle.flip_core.specs.Ready.{FlipReady};
 ghost use Rattle.tally_core.specs.Steps.{counted};
 use buffer_core::HeadCounts;
-use buffer_core::Read;
 use buffer_core::Tallied;
 use records::ListCounts;
+use spill_rows::Read;
 
 // How many entries of a row are spent, or the row's refusal code.
 pub enum RowCount {
@@ -37,7 +37,7 @@ fn count_row<'a>(
     ensures { λ r. ⌜ r ≡ counted (row-checked edition-1 (sources (now (parent .entry)) (now (staged .entry)) «staged_count» (now (table .entry)) «table_count») number) ⌝ }
 {
     let mut row = [0i64; 512];
-    let read = flip_core::rows::read_checked(
+    let read = spill_rows::read_checked(
         parent,
         number,
         staged,
@@ -133,7 +133,7 @@ fn count_many<'a>(
     ensures { λ r. ⌜ r ≡ tally-rows (row-checked edition-1 (sources (now (parent .entry)) (now (staged .entry)) «staged_count» (now (table .entry)) «table_count»)) 0 spills unspent spent ⌝ }
 {
     let mut hints = [0u16; 16384];
-    records::hints::note_places(table, buffer_core::RECORD, table_count, &mut hints);
+    record_hints::note_places(table, buffer_core::RECORD, table_count, &mut hints);
     count_rows(
         parent,
         spills,

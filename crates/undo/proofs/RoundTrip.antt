@@ -1,7 +1,7 @@
 -- An encoding is decoded to its entry, so that no two entries share bytes.
 use Prim.Native.Nat.{ℕ, _+_, _≤_, _<_}
 use mathlib.Core.Path.{_≡_, refl, sym, ap, subst, _∙_}
-use mathlib.Core.Bool.{Bool, true, false}
+use mathlib.Core.Bool.{Bool, true, false, cond}
 use mathlib.Core.List.{List, [], _∷_, _++_, append-assoc, append-nil}
 use native.Mathlib.Omega.{arith}
 use lib.ListN.{length, getD, take, drop, length-append}
@@ -62,3 +62,23 @@ entry-in d = d .entry
 -- no two entries share bytes
 pub entries-apart : (d e : UndoEntry) → Tidy d → Tidy e → encoding d ≡ encoding e → d ≡ e
 entries-apart d e s t q = ap entry-in (sym (decode-back d s) ∙ ap decoded-of q ∙ decode-back e t)
+
+-- an entry with the header's places zero where no header is known: what encoding it and decoding the bytes gives, whatever the places held
+abbrev pub tidied : UndoEntry → UndoEntry
+tidied e = record { known = e .known; header = cond (e .known) (e .header) no-header; txs = e .txs; boxes = e .boxes }
+
+pub decode-tidied : (e : UndoEntry) → length (e .header) ≡ 32 → e .txs < 18446744073709551616 → e .boxes < 18446744073709551616
+    → decoded-of (encoding e) ≡ accepted (tidied e)
+unfolding encoding
+decode-tidied e long m n = by-known (e .known) refl
+  where
+    by-known : (b : Bool) → e .known ≡ b → decoded-of (encoding e) ≡ accepted (tidied e)
+    by-known true h =
+        decode-back e (record { id-in = long; plain = λ q. (let z : _≡_ {A = ℕ} 0 1 = cc in absurd (omega arith)); txs-in = m; boxes-in = n }) ∙ rw h
+    by-known false h = ap decoded-of same ∙ decode-back (tidied e) (record { id-in = zeros; plain = λ q. rw h; txs-in = m; boxes-in = n })
+      where
+        zeros : length (tidied e .header) ≡ 32
+        zeros = rw h
+
+        same : encoding e ≡ encoding (tidied e)
+        same = rw h

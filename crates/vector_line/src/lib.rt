@@ -27,6 +27,15 @@ pub fn signed_number(n: i64) {
     io::print_decimal(STDOUT_FILENO, signed::magnitude(n));
 }
 
+// Whether something holds, as 1 or 0.
+pub fn flag(holds: bool) {
+    if holds {
+        number(1);
+    } else {
+        number(0);
+    }
+}
+
 // Ends the line.
 pub fn end() {
     io::write_all(STDOUT_FILENO, b"\n");

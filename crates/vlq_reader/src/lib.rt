@@ -66,10 +66,10 @@ pub fn new<'a>(src: &'a [u8]) -> VlqReader<'a>
 }
 
 // The position of the next byte to read.
-pub fn position<'a>(reader: VlqReader<'a>) -> usize
-    ensures { λ r. ⌜ r ≡ reader .entry .at ⌝ }
+pub fn position<'a>(held: VlqReader<'a>) -> usize
+    ensures { λ r. ⌜ r ≡ held .entry .at ⌝ }
 {
-    reader.at
+    held.at
 }
 
 // Reads a signed 64-bit number; a refusal leaves the reader where it was.

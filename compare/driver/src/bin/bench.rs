@@ -13,8 +13,9 @@ use driver::hashlib::Hashlib;
 use driver::index::{
     blake2b256, row_key, write_segment, Balance, Batch, Direction, Head, Id, Kind, Lists, ReadLists, Records, ROW_LIMIT,
 };
-use driver::measure::{alone, both, keep, line, plot, shown, thread_time, Curve, Times, ROUNDS};
+use driver::measure::{both, keep, line, plot, shown, thread_time, Curve, Times, ROUNDS};
 use driver::sides::Sides;
+use driver::tables;
 use reference::address::BalanceInfo;
 use reference::segment::Segment;
 use reference::{calls, Digest32, VlqWriter};
@@ -342,23 +343,6 @@ fn balances() {
     }
 }
 
-/// The cost of testing 25: an inspection of a table of this many records.
-fn buffers(curve: &mut Vec<(f64, f64)>) {
-    for count in [1, 16, 64, 512, 4096] {
-        let mut table = Records::new(count);
-        for number in 0..count {
-            table.push(&row_key(Kind::Box, &PARENT, number as i32), &[0; 4]);
-        }
-        let mut lists = Lists::new(1, 0, 1);
-        lists.table = table;
-        let times = alone(1, || keep(lists.inspect(&PARENT).is_ok()));
-        line(&format!("refusal 25 tested, records: {count}"), &times, None);
-        if count > 1 {
-            curve.push((count as f64, times.median()));
-        }
-    }
-}
-
 /// The runner's program on appends and spends of two parents, if it is built.
 fn runner() {
     let path = env::var("ERGO_RUNNER").unwrap_or_else(|_| "../target/bin/call_runner".into());
@@ -408,8 +392,8 @@ fn main() {
     appends();
     flushes();
     balances();
-    let mut records = Vec::new();
-    buffers(&mut records);
+    let records = tables::by_rows();
+    tables::by_room();
     runner();
     let Some(folder) = folder else { return };
     let (mut ours, mut theirs) = (Vec::new(), Vec::new());
@@ -429,10 +413,9 @@ fn main() {
         plot("Spend of the oldest box", "spills", &curves),
     )
     .expect("a plot");
-    let curves: [Curve; 1] = [("index", "#1b6ca8", records)];
     fs::write(
         format!("{folder}/cost-of-records.svg"),
-        plot("Test of refusal 25", "records in the table", &curves),
+        plot("Single calls", "rows in the table", &records),
     )
     .expect("a plot");
 }

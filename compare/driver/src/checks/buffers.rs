@@ -107,7 +107,11 @@ fn inspection_differs(sides: &Sides, report: &mut Report) -> Option<String> {
     for number in 0..4 {
         report.call("inspect_spill");
         let key = row_key(Kind::Box, &PARENT, number);
-        let ours = sides.lists.inspect(&key).ok()?;
+        let ours = match sides.lists.inspect(&key) {
+            Ok(row) => Some(row),
+            Err(12) => None,
+            Err(_) => return None,
+        };
         let staged = sides.spills.staged.get(&Digest32::from_bytes(key)).map(write_segment);
         let theirs = staged.or_else(|| sides.spills.rows().into_iter().find(|(k, _)| *k == key).map(|(_, row)| row));
         if ours != theirs.as_deref() {

@@ -239,7 +239,7 @@ impl History<'_> {
             let mut entries = address.segment.boxes.clone();
             for number in 0..address.segment.box_segment_count {
                 let key = row_key(Kind::Box, &parent.id, number);
-                let Ok(Some(row)) = self.sides.lists.inspect(&key) else {
+                let Ok(row) = self.sides.lists.inspect(&key) else {
                     continue;
                 };
                 entries.extend(

@@ -38,8 +38,8 @@ impl Balance {
         call: unsafe extern "C" fn(
             *mut u8,
             *mut i64,
-            &mut usize,
-            &mut i64,
+            *mut usize,
+            *mut i64,
             i64,
             *const u8,
             usize,

@@ -5,19 +5,13 @@ use reference::segment::Segment;
 use super::{Id, Kind, HEAD};
 use crate::ffi::*;
 
-pub fn row_key(kind: Kind, parent: &Id, number: i32) -> Id {
-    let mut key = [0; 32];
-    match kind {
-        Kind::Box => unsafe { ergo_index_box_segment_id(parent.as_ptr(), number, key.as_mut_ptr()) },
-        Kind::Tx => unsafe { ergo_index_tx_segment_id(parent.as_ptr(), number, key.as_mut_ptr()) },
-    }
-    key
-}
+pub use ergo_index::blake2b256;
 
-pub fn blake2b256(input: &[u8]) -> Id {
-    let mut digest = [0; 32];
-    unsafe { ergo_index_blake2b256(input.as_ptr(), input.len(), digest.as_mut_ptr()) };
-    digest
+pub fn row_key(kind: Kind, parent: &Id, number: i32) -> Id {
+    match kind {
+        Kind::Box => ergo_index::box_segment_id(parent, number),
+        Kind::Tx => ergo_index::tx_segment_id(parent, number),
+    }
 }
 
 /// Writes a segment at the front of a buffer: the bytes that it took, or the refusal.

@@ -279,8 +279,8 @@ impl Lists {
         }
     }
 
-    /// The row under a key.
-    pub fn inspect(&self, key: &Id) -> Result<Option<&[u8]>, u8> {
+    /// The row under a key; 12 where it is missing.
+    pub fn inspect(&self, key: &Id) -> Result<&[u8], u8> {
         let (s, t) = (&self.staged, &self.table);
         let (mut list, mut offset, mut length) = (0, 0, 0);
         let code = unsafe {
@@ -300,9 +300,8 @@ impl Lists {
             )
         };
         match (code, list) {
-            (0, 1) => Ok(Some(&s.bytes[offset..offset + length])),
-            (0, 2) => Ok(Some(&t.bytes[offset..offset + length])),
-            (0, _) => Ok(None),
+            (0, 1) => Ok(&s.bytes[offset..offset + length]),
+            (0, _) => Ok(&t.bytes[offset..offset + length]),
             (refused, _) => Err(refused),
         }
     }

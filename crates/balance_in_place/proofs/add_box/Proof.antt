@@ -1,4 +1,5 @@
 -- The walk of Walk.antt, at `balance::add_box`.
+use mathlib.Core.Path.{_≡_, refl}
 use contract.Running.{givenOf, tables, tablesOf}
 use denote.Triple.Spec.{tripleOf}
 use denote.Triple.Table.{entered, cited}
@@ -6,11 +7,15 @@ use Rattle.balance.specs.Boxes.{add-box}
 use Rattle.balance.proofs.add_box.Symbol as add-box-def
 use Rattle.balance.proofs.add_box.Symbol.{name as #balance·add-box}
 use Rattle.balance.proofs.add_box.Met as add-box-thm
-use Rattle.balance_in_place.proofs.Walk.{ByValue, meets}
+use Rattle.balance_in_place.proofs.Walk.{function, ByValue, meets}
 use Rattle.balance_in_place.proofs.add_box.Key.{name as #balance-in-place·add-box}
 use Rattle.balance_in_place.proofs.add_box as add-box
 use Rattle.balance_in_place.proofs.add_box.Statement as stated
 use Rattle.balance_in_place.proofs.add_box.Code as code
+
+-- what is copied out, passed, stored and answered is what the walk says
+is-walked : code.function ≡ function #balance·add-box
+is-walked = refl
 
 pub add-box-spec : {M : Type 1} → stated.statement M
 unfolding code.routine tablesOf

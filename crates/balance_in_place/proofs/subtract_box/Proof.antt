@@ -1,4 +1,5 @@
 -- The walk of Walk.antt, at `balance::subtract_box`.
+use mathlib.Core.Path.{_≡_, refl}
 use contract.Running.{givenOf, tables, tablesOf}
 use denote.Triple.Spec.{tripleOf}
 use denote.Triple.Table.{entered, cited}
@@ -6,11 +7,15 @@ use Rattle.balance.specs.Boxes.{subtract-box}
 use Rattle.balance.proofs.subtract_box.Symbol as subtract-box-def
 use Rattle.balance.proofs.subtract_box.Symbol.{name as #balance·subtract-box}
 use Rattle.balance.proofs.subtract_box.Met as subtract-box-thm
-use Rattle.balance_in_place.proofs.Walk.{ByValue, meets}
+use Rattle.balance_in_place.proofs.Walk.{function, ByValue, meets}
 use Rattle.balance_in_place.proofs.subtract_box.Key.{name as #balance-in-place·subtract-box}
 use Rattle.balance_in_place.proofs.subtract_box as subtract-box
 use Rattle.balance_in_place.proofs.subtract_box.Statement as stated
 use Rattle.balance_in_place.proofs.subtract_box.Code as code
+
+-- what is copied out, passed, stored and answered is what the walk says
+is-walked : code.function ≡ function #balance·subtract-box
+is-walked = refl
 
 pub subtract-box-spec : {M : Type 1} → stated.statement M
 unfolding code.routine tablesOf

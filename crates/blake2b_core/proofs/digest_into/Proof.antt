@@ -2,7 +2,7 @@
 use mathlib.Core.Path.{_∙_}
 use borrow.Author.Needs.{needs}
 use lib.ListN.{length}
-use Rattle.blake2b_core.specs.Blake2b.{tabulate, byte-at, blake2b}
+use Rattle.blake2b_spec.specs.Blake2b.{tabulate, byte-at, blake2b}
 use Rattle.blake2b_core.proofs.digest_into.Statement.{statement}
 use Rattle.blake2b_core.proofs.digest_into.Tie as tie
 

@@ -1,7 +1,7 @@
 -- The first word takes the parameters.
 use mathlib.Core.Path.{refl}
 use borrow.Author.Needs.{needs}
-use Rattle.blake2b_core.specs.Blake2b.{start, iv}
+use Rattle.blake2b_spec.specs.Blake2b.{start, iv}
 use Rattle.blake2b_core.proofs.start.Statement.{statement}
 use Rattle.blake2b_core.proofs.start.Tie as tie
 

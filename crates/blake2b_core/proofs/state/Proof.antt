@@ -3,7 +3,7 @@ use Prim.Native.Nat.{_-_, _/_, _%_, _≤_}
 use mathlib.Core.Path.{_≡_, refl}
 use native.Mathlib.Omega.{arith}
 use borrow.Author.Needs.{needs}
-use Rattle.blake2b_core.specs.Blake2b as spec
+use Rattle.blake2b_spec.specs.Blake2b as spec
 use Rattle.blake2b_core.proofs.BlockLaws.{absorbed-turn, final-block}
 use Rattle.blake2b_core.proofs.state.Statement.{statement}
 use Rattle.blake2b_core.proofs.state.Tie as tie

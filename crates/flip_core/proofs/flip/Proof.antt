@@ -7,7 +7,8 @@ use mir.Syntax.{w32, w64}
 use borrow.Author.Tests.{not-true, not-false}
 use Rattle.signed.specs.Sign.{is-negative}
 use Rattle.signed.proofs.SignedLaws.{back}
-use Rattle.flip_core.proofs.EffectLaws.{flip-9, flip-10, flip-11, flip-on, spills-below}
+use Rattle.buffer_core.proofs.HeadLaws.{spills-below}
+use Rattle.flip_core.proofs.EffectLaws.{flip-9, flip-10, flip-11, flip-on}
 use borrow.Author.Needs.{needs}
 use Rattle.flip_core.proofs.flip.Statement.{statement}
 use Rattle.flip_core.proofs.flip.Tie as tie

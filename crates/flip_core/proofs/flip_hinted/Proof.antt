@@ -4,8 +4,9 @@ use denote.Ref.{now}
 use Rattle.buffer_core.specs.Edition.{edition-1}
 use Rattle.buffer_core.specs.Spills.{sources}
 use Rattle.buffer_core.specs.Flip.{lead-at, look-at}
-use Rattle.flip_core.proofs.RowLaws.{row-takes}
-use Rattle.flip_core.proofs.SearchLaws.{search-most, walk-hits}
+use Rattle.flip_search.proofs.SearchLaws.{search-most}
+use Rattle.flip_walk.proofs.WalkLaws.{walk-hits}
+use Rattle.flip_core.proofs.TakeLaws.{row-takes}
 use Rattle.flip_core.proofs.EffectLaws.{walk-hit, walk-14, walk-15, walk-bad, rows-broken, rows-walked}
 use borrow.Author.Needs.{needs}
 use Rattle.flip_core.proofs.flip_hinted.Statement.{statement}

@@ -1,8 +1,10 @@
-use mathlib.Core.Path.{_≡_, sym, _∙_}
+-- Refusal 25, or the run with how reading ended.
+use mathlib.Core.Path.{sym, _∙_}
+use lib.ListN.{length}
 use denote.Ref.{now}
 use Rattle.call_steps.specs.State.{state}
 use Rattle.call_steps.specs.Steps.{lists-with}
-use Rattle.runner.proofs.RunLaws.{ready-when, run-passed, run-refused}
+use Rattle.runner.proofs.RunLaws.{ready-when, run-passed, run-refused, told-end}
 use borrow.Author.Needs.{needs}
 use Rattle.runner.proofs.run_calls.Statement.{statement}
 use Rattle.runner.proofs.run_calls.Tie as tie
@@ -14,6 +16,9 @@ run-noted-requires : tie.Need-run-noted-requires
 run-noted-requires c κs =
     let a = c .before .before .before .before .before .before .before .before .before .before .before .before .before .before .before .before .before .before .before .before .before .before .before .before .before .args in
     ready-when (a .parents) (state (now (a .ids)) (now (a .numbers)) (now (a .lengths)) (now (a .spills)) (lists-with (a .counts) (now (a .staged)) (now (a .table)) (now (a .deleted)))) (sym (c .before .before .before .before .before .before .before .before .before .before .state-ok .ensures) ∙ c .before .before .before .before .before .before .before .before .before .if1 .taken)
+
+end-at-requires : tie.Need-end-at-requires
+end-at-requires c κs = search needs
 
 same-length : tie.Need-same-length
 same-length c = search needs
@@ -44,8 +49,9 @@ same-length-9 c = search needs
 
 returns : tie.Need-returns
 returns c =
-    let a = c .before .before .before .before .before .before .before .before .before .before .before .before .before .before .before .before .before .before .before .before .before .before .before .before .before .before .before .before .before .before .before .before .before .before .before .before .before .before .before .before .before .args in
-    c .before .before .before .before .before .before .before .before .before .before .before .before .before .before .before .run-noted .ensures ∙ run-passed (a .parents) (now (a .input)) (state (now (a .ids)) (now (a .numbers)) (now (a .lengths)) (now (a .spills)) (lists-with (a .counts) (now (a .staged)) (now (a .table)) (now (a .deleted)))) (now (a .answers)) (now (a .popped)) (sym (c .before .before .before .before .before .before .before .before .before .before .before .before .before .before .before .before .before .before .before .before .before .before .before .before .before .before .state-ok .ensures) ∙ c .before .before .before .before .before .before .before .before .before .before .before .before .before .before .before .before .before .before .before .before .before .before .before .before .before .if1 .taken)
+    let a = c .before .before .before .before .before .before .before .before .before .before .before .before .before .before .before .before .before .before .before .before .before .before .before .before .before .before .before .before .before .before .before .before .before .before .before .before .before .before .before .before .before .before .before .args in
+    told-end (length (now (a .input))) _ _ _ (c .before .before .before .before .before .before .before .before .before .before .before .before .before .before .before .before .before .run-noted .ensures) (c .end-at .ensures)
+    ∙ run-passed (a .parents) (now (a .input)) (state (now (a .ids)) (now (a .numbers)) (now (a .lengths)) (now (a .spills)) (lists-with (a .counts) (now (a .staged)) (now (a .table)) (now (a .deleted)))) (now (a .answers)) (now (a .popped)) (sym (c .before .before .before .before .before .before .before .before .before .before .before .before .before .before .before .before .before .before .before .before .before .before .before .before .before .before .before .before .state-ok .ensures) ∙ c .before .before .before .before .before .before .before .before .before .before .before .before .before .before .before .before .before .before .before .before .before .before .before .before .before .before .before .if1 .taken)
 
 same-length-10 : tie.Need-same-length-10
 same-length-10 c = search needs
@@ -79,6 +85,7 @@ run-calls-spec =
     (tie.spec
     state-ok-requires
     run-noted-requires
+    end-at-requires
     same-length
     same-length-2
     same-length-3

@@ -1,12 +1,12 @@
 use Rattle.call_steps.specs.State.{state}
 use Rattle.call_steps.specs.Steps.{lists-with}
-use Prim.Native.Nat.{ℕ, _+_, _-_, _≤_, _<_}
-use mathlib.Core.Path.{_≡_, refl, sym, ap, _∙_}
+use Prim.Native.Nat.{_-_}
+use mathlib.Core.Path.{_≡_, refl, sym, _∙_}
 use native.Mathlib.Omega.{arith}
 use borrow.Author.Needs.{needs}
 use denote.Ref.{now}
 use lib.ListN.{length}
-use Rattle.runner.specs.Run.{run, start, runs}
+use Rattle.runner.specs.Run.{run, start}
 use Rattle.runner.proofs.RunLaws.{Kept, kept-start, kept-ready, kept-turn, kept-stop, kept-end}
 use Rattle.runner.proofs.run_ready.Statement.{statement}
 use Rattle.runner.proofs.run_ready.Tie as tie

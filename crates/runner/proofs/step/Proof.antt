@@ -1,5 +1,5 @@
 use borrow.Author.Needs.{needs}
-use mathlib.Core.Path.{_≡_, refl, sym, ap, _∙_, subst}
+use mathlib.Core.Path.{subst}
 use denote.Ref.{now}
 use mir.Syntax.{w64}
 use Rattle.signed.proofs.SignedLaws.{back}

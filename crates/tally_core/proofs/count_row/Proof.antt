@@ -1,6 +1,4 @@
 -- A row that passes the checks has its 512 numbers in `row`.
-use mathlib.Core.Path.{_≡_}
-use native.Mathlib.Omega.{arith}
 use lib.Seq.{take-all}
 use Rattle.tally_core.proofs.TallyLaws.{counted-good, counted-bad}
 use borrow.Author.Needs.{needs}

@@ -1,7 +1,7 @@
 -- The counts of the rows below n are in u and s, and the rest are still to count.
 use Rattle.records.proofs.TurnLaws.{left-all}
 use Rattle.segment_id.specs.declared.Kind.the-variants.{Box}
-use Prim.Native.Nat.{_+_, _*_, _-_, _≤_, _<_}
+use Prim.Native.Nat.{_+_, _*_, _-_, _≤_}
 use mathlib.Core.Path.{_≡_, refl, sym, _∙_}
 use native.Mathlib.Omega.{arith}
 use denote.Ref.{now}

@@ -4,8 +4,8 @@ use mathlib.Core.Path.{_≡_, refl}
 use native.Mathlib.Omega.{arith}
 use borrow.Author.Needs.{needs}
 use lib.ListN.{length, take, length-set}
-use Rattle.blake2b_core.specs.Blake2b.{tabulate, le64, block}
-use Rattle.blake2b_core.proofs.TabulateLaws.{tabulate-start, tabulate-turn, tabulate-end}
+use Rattle.blake2b_spec.specs.Blake2b.{tabulate, le64, block}
+use Rattle.blake2b_spec.proofs.TabulateLaws.{tabulate-start, tabulate-turn, tabulate-end}
 use Rattle.blake2b_core.proofs.blocks.block.Statement.{statement}
 use Rattle.blake2b_core.proofs.blocks.block.Tie as tie
 

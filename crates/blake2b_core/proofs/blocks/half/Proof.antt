@@ -2,7 +2,7 @@
 use Prim.Native.Nat.{_+_, _*_, _^_}
 use native.Mathlib.Omega.{arith}
 use borrow.Author.Needs.{needs}
-use Rattle.blake2b_core.specs.Blake2b.{le32}
+use Rattle.blake2b_spec.specs.Blake2b.{le32}
 use Rattle.blake2b_core.proofs.blocks.half.Statement.{statement}
 use Rattle.blake2b_core.proofs.blocks.half.Tie as tie
 

@@ -1,7 +1,7 @@
 -- The lower half and the higher half.
 use Prim.Native.Nat.{_+_, _*_, _^_}
 use borrow.Author.Needs.{needs}
-use Rattle.blake2b_core.specs.Blake2b.{le64}
+use Rattle.blake2b_spec.specs.Blake2b.{le64}
 use Rattle.blake2b_core.proofs.blocks.load.Statement.{statement}
 use Rattle.blake2b_core.proofs.blocks.load.Tie as tie
 

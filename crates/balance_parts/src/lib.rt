@@ -1,0 +1,190 @@
+// A balance changed in its borrowed parts: ids, amounts, count and nanoErgs. A refusal leaves them as they were.
+ghost use mathlib.Core.Path.{_≡_};
+ghost use mathlib.Core.Bool.{true};
+ghost use mathlib.Core.List.{List};
+ghost use Prim.Native.Nat.{ℕ, _*_, _≤_};
+ghost use lib.ListN.{length};
+ghost use Rattle.balance_tokens.specs.Tokens.{change-tokens};
+ghost use Rattle.balance.specs.Boxes.{change-box, add-box, subtract-box};
+ghost use Rattle.balance.specs.Parts.{Small, Passed, Kept, flat, outcome};
+use balance_tokens::Counted;
+use refusal::Answer;
+use signed::Checked;
+
+// Whether the absolute values of the first n numbers are below a bound. All are looked at: there is no branch inside.
+fn all_small(numbers: &[i64], n: usize, bound: u64) -> bool
+    requires { ⌜ n ≤ length (now numbers) ⌝ }
+    ensures { λ r. ⌜ (r ≡ true → Small bound (now (numbers .entry)) n) ⌝ }
+{
+    let mut small = true;
+    let mut i = 0;
+    while i < n {
+        let x = numbers[i];
+        let size = signed::magnitude(x);
+        small = small & (size < bound);
+        i += 1;
+    }
+    small
+}
+
+// A test that rules out every refusal of a box's n tokens: there is room for n new ones, and with n ≤ 128 no sum of an amount held, below 2^62, and n amounts
+// below 2^55 leaves 64 signed bits. Where it is false a token may be refused or not.
+fn none_refused(adding: bool, sums: &[i64], count: usize, amounts: &[i64], n: usize) -> bool
+    requires { ⌜ (length (now sums) ≡ 128) × (count ≤ 128) × (n ≤ length (now amounts)) ⌝ }
+    ensures { λ r. ⌜ (r ≡ true → (table ids : List ℕ) → Passed (change-tokens adding ids (now (amounts .entry)) 0 n (record { ids = table; amounts = now (sums .entry); count = count }))) ⌝ }
+{
+    let room = if adding { 128 - count } else { 128 };
+    if room < n {
+        return false;
+    }
+    if !all_small(amounts, n, 36028797018963968) {
+        return false;
+    }
+    all_small(sums, count, 4611686018427387904)
+}
+
+// Adds or subtracts the n tokens of a box on copies of the arrays, which are copied back unless a token is refused.
+fn change_copies(
+    adding: bool,
+    table: &mut [u8],
+    sums: &mut [i64],
+    count: usize,
+    ids: &[u8],
+    amounts: &[i64],
+    n: usize,
+) -> Counted
+    requires { ⌜ (length (now table) ≡ 4096) × (length (now sums) ≡ 128) × (count ≤ 128) × (n * 32 ≤ length (now ids)) × (n ≤ length (now amounts)) ⌝ }
+    ensures { λ r. ⌜ Kept r (now (table .entry)) (now (sums .entry)) (now (table .exit)) (now (sums .exit))
+        (change-tokens adding (now (ids .entry)) (now (amounts .entry)) 0 n (record { ids = now (table .entry); amounts = now (sums .entry); count = count })) ⌝ }
+{
+    let mut new_table = [0u8; 4096];
+    let mut new_sums = [0i64; 128];
+    stores::copy_bytes(&mut new_table, 0, table);
+    stores::copy_numbers(&mut new_sums, 0, sums);
+    match balance_tokens::change_tokens(
+        adding,
+        &mut new_table,
+        &mut new_sums,
+        count,
+        ids,
+        amounts,
+        n,
+    ) {
+        Counted::Count(m) => {
+            stores::copy_bytes(table, 0, &new_table);
+            stores::copy_numbers(sums, 0, &new_sums);
+            Counted::Count(m)
+        }
+        Counted::Refused(code) => Counted::Refused(code),
+    }
+}
+
+// The same, in the arrays themselves where no token can be refused.
+fn change_held(
+    adding: bool,
+    table: &mut [u8; 4096],
+    sums: &mut [i64; 128],
+    count: usize,
+    ids: &[u8],
+    amounts: &[i64],
+    n: usize,
+) -> Counted
+    requires { ⌜ (count ≤ 128) × (n * 32 ≤ length (now ids)) × (n ≤ length (now amounts)) ⌝ }
+    ensures { λ r. ⌜ Kept r (now (table .entry)) (now (sums .entry)) (now (table .exit)) (now (sums .exit))
+        (change-tokens adding (now (ids .entry)) (now (amounts .entry)) 0 n (record { ids = now (table .entry); amounts = now (sums .entry); count = count })) ⌝ }
+{
+    if none_refused(adding, sums, count, amounts, n) {
+        balance_tokens::change_tokens(adding, table, sums, count, ids, amounts, n)
+    } else {
+        change_copies(adding, table, sums, count, ids, amounts, n)
+    }
+}
+
+// Adds or subtracts a box: nanoErgs first, then the tokens.
+fn change_parts(
+    adding: bool,
+    held_ids: &mut [u8; 4096],
+    held_amounts: &mut [i64; 128],
+    held_count: &mut usize,
+    held_nanos: &mut i64,
+    nanos: i64,
+    ids: &[u8],
+    amounts: &[i64],
+    count: usize,
+) -> Answer
+    ensures { λ r. ⌜ outcome r (flat (now («held_ids» .exit)) (now («held_amounts» .exit)) (now («held_count» .exit)) (now («held_nanos» .exit)))
+        ≡ change-box adding (flat (now («held_ids» .entry)) (now («held_amounts» .entry)) (now («held_count» .entry)) (now («held_nanos» .entry))) nanos (now (ids .entry)) (now (amounts .entry)) count ⌝ }
+{
+    let held = *held_count;
+    if !balance::buffers_ok(held, ids, amounts, count) {
+        return Answer::Refused(refusal::BUFFERS);
+    }
+    let old = *held_nanos;
+    match balance::change_nanos(adding, old, nanos) {
+        Checked::Is(sum) => {
+            match change_held(adding, held_ids, held_amounts, held, ids, amounts, count) {
+                Counted::Count(n) => {
+                    *held_count = n;
+                    *held_nanos = sum;
+                    Answer::Accepted
+                }
+                Counted::Refused(code) => Answer::Refused(code),
+            }
+        }
+        Checked::Out => Answer::Refused(refusal::AMOUNT_OUT_OF_RANGE),
+    }
+}
+
+// Adds a box: its nanoErgs, then its tokens in list order; new ids go last.
+pub fn add_box(
+    held_ids: &mut [u8; 4096],
+    held_amounts: &mut [i64; 128],
+    held_count: &mut usize,
+    held_nanos: &mut i64,
+    nanos: i64,
+    ids: &[u8],
+    amounts: &[i64],
+    count: usize,
+) -> Answer
+    ensures { λ r. ⌜ outcome r (flat (now («held_ids» .exit)) (now («held_amounts» .exit)) (now («held_count» .exit)) (now («held_nanos» .exit)))
+        ≡ add-box (flat (now («held_ids» .entry)) (now («held_amounts» .entry)) (now («held_count» .entry)) (now («held_nanos» .entry))) nanos (now (ids .entry)) (now (amounts .entry)) count ⌝ }
+{
+    change_parts(
+        true,
+        held_ids,
+        held_amounts,
+        held_count,
+        held_nanos,
+        nanos,
+        ids,
+        amounts,
+        count,
+    )
+}
+
+// Subtracts a box: its nanoErgs, which stop at 0, then its tokens in list order; a token at 0 or below is dropped, an unknown id ignored.
+pub fn subtract_box(
+    held_ids: &mut [u8; 4096],
+    held_amounts: &mut [i64; 128],
+    held_count: &mut usize,
+    held_nanos: &mut i64,
+    nanos: i64,
+    ids: &[u8],
+    amounts: &[i64],
+    count: usize,
+) -> Answer
+    ensures { λ r. ⌜ outcome r (flat (now («held_ids» .exit)) (now («held_amounts» .exit)) (now («held_count» .exit)) (now («held_nanos» .exit)))
+        ≡ subtract-box (flat (now («held_ids» .entry)) (now («held_amounts» .entry)) (now («held_count» .entry)) (now («held_nanos» .entry))) nanos (now (ids .entry)) (now (amounts .entry)) count ⌝ }
+{
+    change_parts(
+        false,
+        held_ids,
+        held_amounts,
+        held_count,
+        held_nanos,
+        nanos,
+        ids,
+        amounts,
+        count,
+    )
+}

@@ -1,0 +1,2 @@
+-- The definitions that the contracts of `balance_tokens` cite.
+pub mod Tokens

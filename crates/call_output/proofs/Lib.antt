@@ -1,0 +1,2 @@
+-- Laws and proofs of `call_output`.
+pub mod LineRoom

@@ -1,0 +1,3 @@
+-- The definitions that the contracts of `call_output` cite.
+pub mod EndLines
+pub mod Told

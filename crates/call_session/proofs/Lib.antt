@@ -1,0 +1,4 @@
+-- Laws and proofs of `call_session`.
+pub mod LineLaws
+pub mod CallLaws
+pub mod SessionLaws

@@ -1,0 +1,2 @@
+-- The laws of the search for equal keys.
+pub mod TreeLaws

@@ -1,0 +1,32 @@
+-- The ways out of the exports of the spend, the unspend and the tally: the answer was accepted or refused, and the outs hold its counts or are as they were.
+use Prim.Native.Nat.{ℕ}
+use mathlib.Core.Path.{_≡_, ap}
+use mathlib.Core.List.{List}
+use lib.IntN.{ℤ}
+use Rattle.records.specs.declared.ListCounts.{ListCounts}
+use Rattle.buffer_core.specs.declared.Flipped.{Flipped}
+use Rattle.buffer_core.specs.declared.Flipped.the-variants as flipped
+use Rattle.buffer_core.specs.declared.Tallied.{Tallied}
+use Rattle.buffer_core.specs.declared.Tallied.the-variants as tallied
+use Rattle.buffer_core.specs.Flip.{Flipping, flipping}
+use Rattle.ergo_index_flips.specs.Flips.{flip-out, flip-by, flip-export, tally-out, tally-export}
+
+-- ---- spend and unspend: what goes to the outs
+module _ (r : Flipped) (count : ℕ) (head : List ℤ) (staged : List ℕ) where
+  pub told-done : (c : ListCounts) → r ≡ flipped.Done c → flip-out 0 (c .count) head staged ≡ flip-by r count head staged
+  told-done c f = rw f
+
+  pub told-refused : (code : ℕ) → r ≡ flipped.Refused code → flip-out code count head staged ≡ flip-by r count head staged
+  told-refused code f = rw f
+
+-- r, head and staged are what the public call left
+pub flip-told : (r : Flipped) (head : List ℤ) (staged : List ℕ) (o : Flipping) → flipping r head staged ≡ o → (count : ℕ) → flip-by r count head staged ≡ flip-export count o
+flip-told r head staged o e count = ap (λ (f : Flipping). flip-export count f) e
+
+-- ---- tally
+module _ (r o : Tallied) (e : r ≡ o) (u s : ℕ) where
+  pub tally-done : (v w : ℕ) → r ≡ tallied.Counts v w → tally-out 0 v w ≡ tally-export u s o
+  tally-done v w f = rw (← e, f)
+
+  pub tally-refused : (code : ℕ) → r ≡ tallied.Refused code → tally-out code u s ≡ tally-export u s o
+  tally-refused code f = rw (← e, f)

@@ -1,0 +1,53 @@
+-- What the exports of the spend, the unspend and the tally leave: the code, and every out and borrowed list at exit, from the definition of the public call.
+-- Counts are borrowed numbers; an accepted call sets them, "a refusal returns its number only and changes nothing".
+use Prim.Native.Nat.{ℕ}
+use mathlib.Core.List.{List}
+use lib.IntN.{ℤ}
+use Rattle.buffer_core.specs.declared.Direction.{Direction}
+use Rattle.buffer_core.specs.declared.Flipped.{Flipped}
+use Rattle.buffer_core.specs.declared.Flipped.the-variants as flipped
+use Rattle.buffer_core.specs.declared.Tallied.{Tallied}
+use Rattle.buffer_core.specs.declared.Tallied.the-variants as tallied
+use Rattle.buffer_core.specs.Edition.{edition-1}
+use Rattle.buffer_core.specs.Append.{counts-of}
+use Rattle.buffer_core.specs.Flip.{Flipping, flip-of}
+use Rattle.buffer_core.specs.Tally.{tally-of}
+use Rattle.ergo_index_lists.specs.Lists.{list-of}
+
+-- ---- spend and unspend: the code, the count of staged spills, the head and the staged spills
+pub record FlipOut : Type 0 where
+  pub code : ℕ
+  pub count : ℕ
+  pub head : List ℤ
+  pub staged : List ℕ
+
+abbrev pub flip-out : ℕ → ℕ → List ℤ → List ℕ → FlipOut
+flip-out code count head staged = record { code = code; count = count; head = head; staged = staged }
+
+abbrev pub flip-by : Flipped → ℕ → List ℤ → List ℕ → FlipOut
+flip-by (flipped.Done c) count head staged = flip-out 0 (c .count) head staged
+flip-by (flipped.Refused code) count head staged = flip-out code count head staged
+
+abbrev pub flip-export : ℕ → Flipping → FlipOut
+flip-export count f = flip-by (f .answer) count (f .head) (f .staged)
+
+abbrev pub flip-call : Direction → (parent : List ℕ) (len : ℕ) (spills : ℤ) → List ℤ → (target : ℤ) (s s-capacity : ℕ) → List ℕ → (t t-capacity : ℕ) → List ℕ → FlipOut
+flip-call d parent len spills head target s sc staged t tc table =
+    flip-export s (flip-of edition-1 d parent (counts-of len spills) target (list-of s sc) staged (list-of t tc) table head)
+
+-- ---- tally: the code, and how many entries are unspent and spent
+pub record TallyOut : Type 0 where
+  pub code : ℕ
+  pub unspent : ℕ
+  pub spent : ℕ
+
+abbrev pub tally-out : ℕ → ℕ → ℕ → TallyOut
+tally-out code u s = record { code = code; unspent = u; spent = s }
+
+abbrev pub tally-export : ℕ → ℕ → Tallied → TallyOut
+tally-export u s (tallied.Counts v w) = tally-out 0 v w
+tally-export u s (tallied.Refused code) = tally-out code u s
+
+abbrev pub tally-call : (parent : List ℕ) (len : ℕ) (spills : ℤ) → List ℤ → (s s-capacity : ℕ) → List ℕ → (t t-capacity : ℕ) → List ℕ → (unspent spent : ℕ) → TallyOut
+tally-call parent len spills head s sc staged t tc table u v =
+    tally-export u v (tally-of edition-1 parent (counts-of len spills) (list-of s sc) staged (list-of t tc) table head)

@@ -1,0 +1,152 @@
+// Spends and unspends of one box, and the tally of one parent's boxes. Heads and lists of spills are borrowed as for appends and pops.
+ghost use Prim.Native.Nat.{ℕ};
+ghost use mathlib.Core.Path.{_≡_};
+ghost use mathlib.Core.List.{List};
+ghost use lib.IntN.{ℤ};
+ghost use Rattle.buffer_core.specs.declared.Direction.the-variants.{Spend, Unspend};
+ghost use Rattle.ergo_index_flips.specs.Flips.{flip-out, flip-by, flip-call, tally-out, tally-call};
+use buffer_core::Flipped;
+use buffer_core::HeadCounts;
+use buffer_core::Tallied;
+use records::ListCounts;
+use segment_buffer::BoxNumber;
+
+// What a spend or an unspend answers goes to the out, and its code is the result; a refusal sets no out.
+fn told(flipped: Flipped, staged_count: &mut usize) -> u8
+    ensures { λ r. ⌜ ((head : List ℤ) (staged : List ℕ) → flip-out r (now («staged_count» .exit)) head staged ≡ flip-by flipped (now («staged_count» .entry)) head staged) ⌝ }
+{
+    match flipped {
+        Flipped::Done(staged_after) => {
+            *staged_count = staged_after.count;
+            0
+        }
+        Flipped::Refused(code) => code,
+    }
+}
+
+// Marks one box as spent.
+#[no_mangle]
+pub extern "C" fn ergo_index_flip_box_segment_entry(
+    parent: &[u8; 32],
+    len: usize,
+    spills: i32,
+    head: &mut [i64],
+    target: i64,
+    staged_count: &mut usize,
+    staged_capacity: usize,
+    staged: &mut [u8],
+    table_count: usize,
+    table_capacity: usize,
+    table: &[u8],
+) -> u8
+    ensures { λ r. ⌜ flip-out r (now («staged_count» .exit)) (now (head .exit)) (now (staged .exit))
+        ≡ flip-call Spend (now (parent .entry)) len spills (now (head .entry)) target (now («staged_count» .entry)) «staged_capacity» (now (staged .entry)) «table_count» «table_capacity» (now (table .entry)) ⌝ }
+{
+    let counts = HeadCounts { len, spills };
+    let staged_counts = ListCounts {
+        count: *staged_count,
+        capacity: staged_capacity,
+    };
+    let table_counts = ListCounts {
+        count: table_count,
+        capacity: table_capacity,
+    };
+    let flipped = segment_buffer::flip_box_segment_entry(
+        parent,
+        counts,
+        BoxNumber(target),
+        staged_counts,
+        staged,
+        table_counts,
+        table,
+        head,
+    );
+    told(flipped, staged_count)
+}
+
+// Takes a spend back.
+#[no_mangle]
+pub extern "C" fn ergo_index_unflip_box_segment_entry(
+    parent: &[u8; 32],
+    len: usize,
+    spills: i32,
+    head: &mut [i64],
+    target: i64,
+    staged_count: &mut usize,
+    staged_capacity: usize,
+    staged: &mut [u8],
+    table_count: usize,
+    table_capacity: usize,
+    table: &[u8],
+) -> u8
+    ensures { λ r. ⌜ flip-out r (now («staged_count» .exit)) (now (head .exit)) (now (staged .exit))
+        ≡ flip-call Unspend (now (parent .entry)) len spills (now (head .entry)) target (now («staged_count» .entry)) «staged_capacity» (now (staged .entry)) «table_count» «table_capacity» (now (table .entry)) ⌝ }
+{
+    let counts = HeadCounts { len, spills };
+    let staged_counts = ListCounts {
+        count: *staged_count,
+        capacity: staged_capacity,
+    };
+    let table_counts = ListCounts {
+        count: table_count,
+        capacity: table_capacity,
+    };
+    let flipped = segment_buffer::unflip_box_segment_entry(
+        parent,
+        counts,
+        BoxNumber(target),
+        staged_counts,
+        staged,
+        table_counts,
+        table,
+        head,
+    );
+    told(flipped, staged_count)
+}
+
+// How many entries of the boxes are unspent and how many spent, over all rows and the head.
+#[no_mangle]
+pub extern "C" fn ergo_index_tally<'a>(
+    parent: &[u8; 32],
+    len: usize,
+    spills: i32,
+    head: &[i64],
+    staged_count: usize,
+    staged_capacity: usize,
+    staged: &'a [u8],
+    table_count: usize,
+    table_capacity: usize,
+    table: &'a [u8],
+    unspent: &mut usize,
+    spent: &mut usize,
+) -> u8
+    ensures { λ r. ⌜ tally-out r (now (unspent .exit)) (now (spent .exit))
+        ≡ tally-call (now (parent .entry)) len spills (now (head .entry)) «staged_count» «staged_capacity» (now (staged .entry)) «table_count» «table_capacity» (now (table .entry)) (now (unspent .entry)) (now (spent .entry)) ⌝ }
+{
+    let counts = HeadCounts { len, spills };
+    let staged_counts = ListCounts {
+        count: staged_count,
+        capacity: staged_capacity,
+    };
+    let table_counts = ListCounts {
+        count: table_count,
+        capacity: table_capacity,
+    };
+    let tallied = segment_buffer::tally(
+        parent,
+        counts,
+        staged_counts,
+        staged,
+        table_counts,
+        table,
+        head,
+    );
+    match tallied {
+        Tallied::Counts(not_negative, negative) => {
+            *unspent = not_negative;
+            *spent = negative;
+            0
+        }
+        Tallied::Refused(code) => code,
+    }
+}

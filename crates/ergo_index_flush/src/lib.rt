@@ -1,0 +1,68 @@
+// The flush. Lists of spills are borrowed as for appends and pops.
+ghost use Prim.Native.Nat.{ℕ};
+ghost use mathlib.Core.Path.{_≡_};
+ghost use mathlib.Core.List.{List};
+ghost use Rattle.ergo_index_flush.specs.Flush.{flush-out, flush-by, flush-call};
+use buffer_core::Flushed;
+use records::ListCounts;
+
+// What the flush answers goes to the outs, and its code is the result; a refusal sets no out.
+fn told(
+    flushed: Flushed,
+    staged_count: &mut usize,
+    table_count: &mut usize,
+    deleted_count: &mut usize,
+) -> u8
+    ensures { λ r. ⌜ ((staged table deleted : List ℕ)
+        → flush-out r (now («staged_count» .exit)) (now («table_count» .exit)) (now («deleted_count» .exit)) staged table deleted
+        ≡ flush-by flushed (now («staged_count» .entry)) (now («table_count» .entry)) (now («deleted_count» .entry)) staged table deleted) ⌝ }
+{
+    match flushed {
+        Flushed::Done(table_after, staged_after, deleted_after) => {
+            *staged_count = staged_after.count;
+            *table_count = table_after.count;
+            *deleted_count = deleted_after.count;
+            0
+        }
+        Flushed::Refused(code) => code,
+    }
+}
+
+// Writes the staged rows whose key is not deleted to the table, then removes the deleted keys from it; staged and deleted spills end empty.
+#[no_mangle]
+pub extern "C" fn ergo_index_flush_staged_spills(
+    staged_count: &mut usize,
+    staged_capacity: usize,
+    staged: &mut [u8],
+    table_count: &mut usize,
+    table_capacity: usize,
+    table: &mut [u8],
+    deleted_count: &mut usize,
+    deleted_capacity: usize,
+    deleted: &mut [u8],
+) -> u8
+    ensures { λ r. ⌜ flush-out r (now («staged_count» .exit)) (now («table_count» .exit)) (now («deleted_count» .exit)) (now (staged .exit)) (now (table .exit)) (now (deleted .exit))
+        ≡ flush-call (now («staged_count» .entry)) «staged_capacity» (now (staged .entry)) (now («table_count» .entry)) «table_capacity» (now (table .entry)) (now («deleted_count» .entry)) «deleted_capacity» (now (deleted .entry)) ⌝ }
+{
+    let staged_counts = ListCounts {
+        count: *staged_count,
+        capacity: staged_capacity,
+    };
+    let table_counts = ListCounts {
+        count: *table_count,
+        capacity: table_capacity,
+    };
+    let deleted_counts = ListCounts {
+        count: *deleted_count,
+        capacity: deleted_capacity,
+    };
+    let flushed = segment_buffer::flush_staged_spills(
+        table,
+        table_counts,
+        staged,
+        staged_counts,
+        deleted,
+        deleted_counts,
+    );
+    told(flushed, staged_count, table_count, deleted_count)
+}

@@ -1,0 +1,3 @@
+-- The laws that the exports' proofs cite: one for each way out.
+pub mod InspectionLaws
+pub mod PartLaws

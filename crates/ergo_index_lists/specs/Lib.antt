@@ -1,0 +1,2 @@
+-- What the exports of the C interface share.
+pub mod Lists

@@ -1,0 +1,171 @@
+// Pops from one parent's heads. A head is a borrowed list of 512 numbers beside its length and spill count; each list of spills is borrowed bytes
+// beside a count and a capacity. Counts that a call changes are borrowed too.
+ghost use Prim.Native.Nat.{ℕ};
+ghost use mathlib.Core.Path.{_≡_};
+ghost use mathlib.Core.List.{List};
+ghost use lib.IntN.{ℤ};
+ghost use Rattle.buffer_checks.specs.Answers.{as-popped-box, as-popped-tx};
+ghost use Rattle.segment_id.specs.declared.Kind.the-variants.{Box, Tx};
+ghost use Rattle.ergo_index_pop.specs.Pop.{pop-out, pop-by, pop-call};
+use buffer_core::HeadCounts;
+use buffer_core::Popped;
+use records::ListCounts;
+use segment_buffer::PoppedBox;
+use segment_buffer::PoppedTx;
+
+// The answer of a pop of boxes, as that of either kind.
+fn box_answer(popped: PoppedBox) -> Popped
+    ensures { λ r. ⌜ r ≡ as-popped-box popped ⌝ }
+{
+    match popped {
+        PoppedBox::Number(last, after, staged_after, deleted_after) => {
+            Popped::Number(last.0, after, staged_after, deleted_after)
+        }
+        PoppedBox::Refused(code) => Popped::Refused(code),
+    }
+}
+
+// The same for transactions.
+fn tx_answer(popped: PoppedTx) -> Popped
+    ensures { λ r. ⌜ r ≡ as-popped-tx popped ⌝ }
+{
+    match popped {
+        PoppedTx::Number(last, after, staged_after, deleted_after) => {
+            Popped::Number(last.0, after, staged_after, deleted_after)
+        }
+        PoppedTx::Refused(code) => Popped::Refused(code),
+    }
+}
+
+// What a pop answers goes to the outs, and its code is the result; a refusal sets no out.
+fn told(
+    popped: Popped,
+    number: &mut i64,
+    len: &mut usize,
+    spills: &mut i32,
+    staged_count: &mut usize,
+    deleted_count: &mut usize,
+) -> u8
+    ensures { λ r. ⌜ ((head : List ℤ) (staged deleted : List ℕ)
+        → pop-out r (now (number .exit)) (now (len .exit)) (now (spills .exit)) (now («staged_count» .exit)) (now («deleted_count» .exit)) head staged deleted
+        ≡ pop-by popped (now (number .entry)) (now (len .entry)) (now (spills .entry)) (now («staged_count» .entry)) (now («deleted_count» .entry)) head staged deleted) ⌝ }
+{
+    match popped {
+        Popped::Number(last, after, staged_after, deleted_after) => {
+            let spills_after = after.spills;
+            *number = last;
+            *len = after.len;
+            *spills = spills_after;
+            *staged_count = staged_after.count;
+            *deleted_count = deleted_after.count;
+            0
+        }
+        Popped::Refused(code) => code,
+    }
+}
+
+// The last box number of the head; on an empty head the newest row becomes the head first.
+#[no_mangle]
+pub extern "C" fn ergo_index_pop_box_entry(
+    parent: &[u8; 32],
+    len: &mut usize,
+    spills: &mut i32,
+    head: &mut [i64],
+    staged_count: &mut usize,
+    staged_capacity: usize,
+    staged: &mut [u8],
+    table_count: usize,
+    table_capacity: usize,
+    table: &[u8],
+    deleted_count: &mut usize,
+    deleted_capacity: usize,
+    deleted: &mut [u8],
+    number: &mut i64,
+) -> u8
+    ensures { λ r. ⌜ pop-out r (now (number .exit)) (now (len .exit)) (now (spills .exit)) (now («staged_count» .exit)) (now («deleted_count» .exit)) (now (head .exit)) (now (staged .exit)) (now (deleted .exit))
+        ≡ pop-call Box (now (parent .entry)) (now (len .entry)) (now (spills .entry)) (now (head .entry)) (now («staged_count» .entry)) «staged_capacity» (now (staged .entry)) «table_count» «table_capacity» (now (table .entry))
+        (now («deleted_count» .entry)) «deleted_capacity» (now (deleted .entry)) (now (number .entry)) ⌝ }
+{
+    let counts = HeadCounts {
+        len: *len,
+        spills: *spills,
+    };
+    let staged_counts = ListCounts {
+        count: *staged_count,
+        capacity: staged_capacity,
+    };
+    let table_counts = ListCounts {
+        count: table_count,
+        capacity: table_capacity,
+    };
+    let deleted_counts = ListCounts {
+        count: *deleted_count,
+        capacity: deleted_capacity,
+    };
+    let popped = segment_buffer::pop_box_entry(
+        parent,
+        counts,
+        head,
+        staged_counts,
+        staged,
+        table_counts,
+        table,
+        deleted_counts,
+        deleted,
+    );
+    let answer = box_answer(popped);
+    told(answer, number, len, spills, staged_count, deleted_count)
+}
+
+// The same for transactions.
+#[no_mangle]
+pub extern "C" fn ergo_index_pop_tx_entry(
+    parent: &[u8; 32],
+    len: &mut usize,
+    spills: &mut i32,
+    head: &mut [i64],
+    staged_count: &mut usize,
+    staged_capacity: usize,
+    staged: &mut [u8],
+    table_count: usize,
+    table_capacity: usize,
+    table: &[u8],
+    deleted_count: &mut usize,
+    deleted_capacity: usize,
+    deleted: &mut [u8],
+    number: &mut i64,
+) -> u8
+    ensures { λ r. ⌜ pop-out r (now (number .exit)) (now (len .exit)) (now (spills .exit)) (now («staged_count» .exit)) (now («deleted_count» .exit)) (now (head .exit)) (now (staged .exit)) (now (deleted .exit))
+        ≡ pop-call Tx (now (parent .entry)) (now (len .entry)) (now (spills .entry)) (now (head .entry)) (now («staged_count» .entry)) «staged_capacity» (now (staged .entry)) «table_count» «table_capacity» (now (table .entry))
+        (now («deleted_count» .entry)) «deleted_capacity» (now (deleted .entry)) (now (number .entry)) ⌝ }
+{
+    let counts = HeadCounts {
+        len: *len,
+        spills: *spills,
+    };
+    let staged_counts = ListCounts {
+        count: *staged_count,
+        capacity: staged_capacity,
+    };
+    let table_counts = ListCounts {
+        count: table_count,
+        capacity: table_capacity,
+    };
+    let deleted_counts = ListCounts {
+        count: *deleted_count,
+        capacity: deleted_capacity,
+    };
+    let popped = segment_buffer::pop_tx_entry(
+        parent,
+        counts,
+        head,
+        staged_counts,
+        staged,
+        table_counts,
+        table,
+        deleted_counts,
+        deleted,
+    );
+    let answer = tx_answer(popped);
+    told(answer, number, len, spills, staged_count, deleted_count)
+}

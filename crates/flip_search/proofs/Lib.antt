@@ -1,0 +1,2 @@
+-- The laws of the halving.
+pub mod SearchLaws

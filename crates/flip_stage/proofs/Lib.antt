@@ -1,0 +1,3 @@
+-- The laws of a row written anew and of staging it.
+pub mod RewriteLaws
+pub mod StageLaws

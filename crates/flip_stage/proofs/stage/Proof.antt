@@ -1,0 +1,127 @@
+-- `flip_stage::stage` meets its contract: the row is found by its key, written anew, and put under it.
+use native.Mathlib.Omega.{arith}
+use denote.Ref.{now}
+use lib.ListN.{length-take}
+use Rattle.flip_stage.proofs.StageLaws.{stage-12, stage-16, table-lies, table-takes, table-room, stage-copied, staged-lies, staged-takes, staged-room, stage-again}
+use borrow.Author.Needs.{needs}
+use Rattle.flip_stage.proofs.stage.Statement.{statement}
+use Rattle.flip_stage.proofs.stage.Tie as tie
+
+spill-key-requires : tie.Need-spill-key-requires
+spill-key-requires c κs = search needs
+
+slice-aggregate-locate-hinted : tie.Need-slice-aggregate-locate-hinted
+slice-aggregate-locate-hinted c = search needs
+
+locate-hinted-requires : tie.Need-locate-hinted-requires
+locate-hinted-requires c κs = search needs
+
+enum-known-place : tie.Need-enum-known-place
+enum-known-place c = search needs
+
+slice-aggregate-rewrite-record : tie.Need-slice-aggregate-rewrite-record
+slice-aggregate-rewrite-record c = search needs
+
+rewrite-record-requires : tie.Need-rewrite-record-requires
+rewrite-record-requires c κs =
+    (staged-lies (now (c .before .before .before .before .before .before .before .before .before .before .before .before .args .parent)) (now (c .before .before .before .before .before .before .before .before .before .before .before .before .args .staged)) (c .before .before .before .before .before .before .before .before .before .before .before .before .args .staged-counts) (now (c .before .before .before .before .before .before .before .before .before .before .before .before .args .table)) (c .before .before .before .before .before .before .before .before .before .before .before .before .args .table-count) (c .before .before .before .before .before .before .before .before .before .before .before .before .args .number) (c .before .before .before .before .before .before .before .before .before .before .before .before .args .at) _ (c .before .before .before .before .before .before .before .before .spill-key .ensures .0) _ (c .before .before .before .before .before .locate-hinted .ensures) _ (c .before .before .before .place .given .1) (c .before .before .before .before .before .before .before .before .before .before .before .before .pre .0 .bounds .within), search needs, staged-takes (now (c .before .before .before .before .before .before .before .before .before .before .before .before .args .parent)) (now (c .before .before .before .before .before .before .before .before .before .before .before .before .args .staged)) (c .before .before .before .before .before .before .before .before .before .before .before .before .args .staged-counts) (now (c .before .before .before .before .before .before .before .before .before .before .before .before .args .table)) (c .before .before .before .before .before .before .before .before .before .before .before .before .args .table-count) (c .before .before .before .before .before .before .before .before .before .before .before .before .args .number) (c .before .before .before .before .before .before .before .before .before .before .before .before .args .at) _ (c .before .before .before .before .before .before .before .before .spill-key .ensures .0) _ (c .before .before .before .before .before .locate-hinted .ensures) _ (c .before .before .before .place .given .1) (c .before .before .before .before .before .before .before .before .before .before .before .before .pre .2))
+
+slice-aggregate-put : tie.Need-slice-aggregate-put
+slice-aggregate-put c = search needs
+
+array-share-prefix-row : tie.Need-array-share-prefix-row
+array-share-prefix-row c = search needs
+
+slice-aggregate-put-2 : tie.Need-slice-aggregate-put-2
+slice-aggregate-put-2 c =
+    simp length-take (omega (arith, c .before .before .before .before .rewrite-record .ensures .0, c .before .before .before .before .rewrite-record .kept))
+
+put-requires : tie.Need-put-requires
+put-requires c κs =
+    (c .before .before .before .before .before .before .before .before .before .before .before .before .before .before .before .before .before .pre .0 .bounds .within, c .before .before .before .before .before .before .before .before .before .before .before .before .before .spill-key .ensures .1, simp length-take (omega (arith, c .before .before .before .before .rewrite-record .ensures .0)), staged-room (now (c .before .before .before .before .before .before .before .before .before .before .before .before .before .before .before .before .before .args .parent)) (now (c .before .before .before .before .before .before .before .before .before .before .before .before .before .before .before .before .before .args .staged)) (c .before .before .before .before .before .before .before .before .before .before .before .before .before .before .before .before .before .args .staged-counts) (now (c .before .before .before .before .before .before .before .before .before .before .before .before .before .before .before .before .before .args .table)) (c .before .before .before .before .before .before .before .before .before .before .before .before .before .before .before .before .before .args .table-count) (c .before .before .before .before .before .before .before .before .before .before .before .before .before .before .before .before .before .args .number) (c .before .before .before .before .before .before .before .before .before .before .before .before .before .before .before .before .before .args .at) _ (c .before .before .before .before .before .before .before .before .before .before .before .before .before .spill-key .ensures .0) _ (c .before .before .before .before .before .before .before .before .before .before .locate-hinted .ensures) _ (c .before .before .before .before .before .before .before .before .place .given .1) (c .before .before .before .before .before .before .before .before .before .before .before .before .before .before .before .before .before .pre .0 .bounds .within))
+
+enum-known-place-2 : tie.Need-enum-known-place-2
+enum-known-place-2 c = search needs
+
+same-length : tie.Need-same-length
+same-length c = search needs
+
+returns : tie.Need-returns
+returns c =
+    stage-16 (now (c .before .before .before .before .before .before .before .before .before .before .before .args .parent)) (now (c .before .before .before .before .before .before .before .before .before .before .before .args .staged)) (c .before .before .before .before .before .before .before .before .before .before .before .args .staged-counts) (now (c .before .before .before .before .before .before .before .before .before .before .before .args .table)) (c .before .before .before .before .before .before .before .before .before .before .before .args .table-count) (c .before .before .before .before .before .before .before .before .before .before .before .args .number) (c .before .before .before .before .before .before .before .before .before .before .before .args .at) _ (c .before .before .before .before .before .before .before .spill-key .ensures .0) _ (c .before .before .before .before .locate-hinted .ensures) _ (c .before .before .place2 .given .1) (c .if1 .taken)
+
+slice-aggregate-rewrite-record-2 : tie.Need-slice-aggregate-rewrite-record-2
+slice-aggregate-rewrite-record-2 c = search needs
+
+rewrite-record-requires-2 : tie.Need-rewrite-record-requires-2
+rewrite-record-requires-2 c κs =
+    (table-lies (now (c .before .before .before .before .before .before .before .before .before .before .before .before .args .parent)) (now (c .before .before .before .before .before .before .before .before .before .before .before .before .args .staged)) (c .before .before .before .before .before .before .before .before .before .before .before .before .args .staged-counts) (now (c .before .before .before .before .before .before .before .before .before .before .before .before .args .table)) (c .before .before .before .before .before .before .before .before .before .before .before .before .args .table-count) (c .before .before .before .before .before .before .before .before .before .before .before .before .args .number) (c .before .before .before .before .before .before .before .before .before .before .before .before .args .at) _ (c .before .before .before .before .before .before .before .before .spill-key .ensures .0) _ (c .before .before .before .before .before .locate-hinted .ensures) _ (c .before .before .before .place2 .given .1) (c .before .before .before .before .before .before .before .before .before .before .before .before .pre .0 .within), search needs, table-takes (now (c .before .before .before .before .before .before .before .before .before .before .before .before .args .parent)) (now (c .before .before .before .before .before .before .before .before .before .before .before .before .args .staged)) (c .before .before .before .before .before .before .before .before .before .before .before .before .args .staged-counts) (now (c .before .before .before .before .before .before .before .before .before .before .before .before .args .table)) (c .before .before .before .before .before .before .before .before .before .before .before .before .args .table-count) (c .before .before .before .before .before .before .before .before .before .before .before .before .args .number) (c .before .before .before .before .before .before .before .before .before .before .before .before .args .at) _ (c .before .before .before .before .before .before .before .before .spill-key .ensures .0) _ (c .before .before .before .before .before .locate-hinted .ensures) _ (c .before .before .before .place2 .given .1) (c .before .before .before .before .before .before .before .before .before .before .before .before .pre .2))
+
+slice-aggregate-put-3 : tie.Need-slice-aggregate-put-3
+slice-aggregate-put-3 c = search needs
+
+array-share-prefix-row-2 : tie.Need-array-share-prefix-row-2
+array-share-prefix-row-2 c = search needs
+
+slice-aggregate-put-4 : tie.Need-slice-aggregate-put-4
+slice-aggregate-put-4 c =
+    simp length-take (omega (arith, c .before .before .before .before .rewrite-record2 .ensures .0, c .before .before .before .before .rewrite-record2 .kept))
+
+put-requires-2 : tie.Need-put-requires-2
+put-requires-2 c κs =
+    (c .before .before .before .before .before .before .before .before .before .before .before .before .before .before .before .before .before .pre .0 .bounds .within, c .before .before .before .before .before .before .before .before .before .before .before .before .before .spill-key .ensures .1, simp length-take (omega (arith, c .before .before .before .before .rewrite-record2 .ensures .0)), table-room (now (c .before .before .before .before .before .before .before .before .before .before .before .before .before .before .before .before .before .args .parent)) (now (c .before .before .before .before .before .before .before .before .before .before .before .before .before .before .before .before .before .args .staged)) (c .before .before .before .before .before .before .before .before .before .before .before .before .before .before .before .before .before .args .staged-counts) (now (c .before .before .before .before .before .before .before .before .before .before .before .before .before .before .before .before .before .args .table)) (c .before .before .before .before .before .before .before .before .before .before .before .before .before .before .before .before .before .args .table-count) (c .before .before .before .before .before .before .before .before .before .before .before .before .before .before .before .before .before .args .number) (c .before .before .before .before .before .before .before .before .before .before .before .before .before .before .before .before .before .args .at) _ (c .before .before .before .before .before .before .before .before .before .before .before .before .before .spill-key .ensures .0) _ (c .before .before .before .before .before .before .before .before .before .before .locate-hinted .ensures) _ (c .before .before .before .before .before .before .before .before .place2 .given .1) (c .before .before .before .before .before .before .if1 .left) (c .before .before .before .before .before .before .before .before .before .before .before .before .before .before .before .before .before .pre .0 .bounds))
+
+enum-told : tie.Need-enum-told
+enum-told c = search needs
+
+same-length-2 : tie.Need-same-length-2
+same-length-2 c = search needs
+
+returns-2 : tie.Need-returns-2
+returns-2 c =
+    stage-again (now (c .before .before .before .before .before .before .before .before .before .before .before .before .before .before .before .before .before .before .before .before .args .parent)) (now (c .before .before .before .before .before .before .before .before .before .before .before .before .before .before .before .before .before .before .before .before .args .staged)) (c .before .before .before .before .before .before .before .before .before .before .before .before .before .before .before .before .before .before .before .before .args .staged-counts) (now (c .before .before .before .before .before .before .before .before .before .before .before .before .before .before .before .before .before .before .before .before .args .table)) (c .before .before .before .before .before .before .before .before .before .before .before .before .before .before .before .before .before .before .before .before .args .table-count) (c .before .before .before .before .before .before .before .before .before .before .before .before .before .before .before .before .before .before .before .before .args .number) (c .before .before .before .before .before .before .before .before .before .before .before .before .before .before .before .before .before .before .before .before .args .at) _ (c .before .before .before .before .before .before .before .before .before .before .before .before .before .before .before .before .spill-key .ensures .0) _ (c .before .before .before .before .before .before .before .before .before .before .before .before .before .locate-hinted .ensures) _ (c .before .before .before .before .before .before .before .before .before .before .before .place .given .1) _ (c .before .before .before .before .before .before .before .rewrite-record .ensures .1) _ _ (c .before .before .put .ensures .0) (c .before .before .put .ensures .1)
+
+same-length-3 : tie.Need-same-length-3
+same-length-3 c = search needs
+
+returns-3 : tie.Need-returns-3
+returns-3 c =
+    stage-copied (now (c .before .before .before .before .before .before .before .before .before .before .before .before .before .before .before .before .before .before .before .before .args .parent)) (now (c .before .before .before .before .before .before .before .before .before .before .before .before .before .before .before .before .before .before .before .before .args .staged)) (c .before .before .before .before .before .before .before .before .before .before .before .before .before .before .before .before .before .before .before .before .args .staged-counts) (now (c .before .before .before .before .before .before .before .before .before .before .before .before .before .before .before .before .before .before .before .before .args .table)) (c .before .before .before .before .before .before .before .before .before .before .before .before .before .before .before .before .before .before .before .before .args .table-count) (c .before .before .before .before .before .before .before .before .before .before .before .before .before .before .before .before .before .before .before .before .args .number) (c .before .before .before .before .before .before .before .before .before .before .before .before .before .before .before .before .before .before .before .before .args .at) _ (c .before .before .before .before .before .before .before .before .before .before .before .before .before .before .before .before .spill-key .ensures .0) _ (c .before .before .before .before .before .before .before .before .before .before .before .before .before .locate-hinted .ensures) _ (c .before .before .before .before .before .before .before .before .before .before .before .place2 .given .1) (c .before .before .before .before .before .before .before .before .before .if1 .left) _ (c .before .before .before .before .before .before .before .rewrite-record2 .ensures .1) _ _ (c .before .before .put2 .ensures .0) (c .before .before .put2 .ensures .1)
+
+same-length-4 : tie.Need-same-length-4
+same-length-4 c = search needs
+
+returns-4 : tie.Need-returns-4
+returns-4 c =
+    stage-12 (now (c .before .before .before .before .before .before .before .before .before .args .parent)) (now (c .before .before .before .before .before .before .before .before .before .args .staged)) (c .before .before .before .before .before .before .before .before .before .args .staged-counts) (now (c .before .before .before .before .before .before .before .before .before .args .table)) (c .before .before .before .before .before .before .before .before .before .args .table-count) (c .before .before .before .before .before .before .before .before .before .args .number) (c .before .before .before .before .before .before .before .before .before .args .at) _ (c .before .before .before .before .before .spill-key .ensures .0) _ (c .before .before .locate-hinted .ensures) (c .enum-told .given .1)
+
+pub stage-spec : {M : Type 1} → statement M
+stage-spec =
+    tie.close
+    (tie.spec
+    spill-key-requires
+    slice-aggregate-locate-hinted
+    locate-hinted-requires
+    enum-known-place
+    slice-aggregate-rewrite-record
+    rewrite-record-requires
+    slice-aggregate-put
+    array-share-prefix-row
+    slice-aggregate-put-2
+    put-requires
+    enum-known-place-2
+    same-length
+    returns
+    slice-aggregate-rewrite-record-2
+    rewrite-record-requires-2
+    slice-aggregate-put-3
+    array-share-prefix-row-2
+    slice-aggregate-put-4
+    put-requires-2
+    enum-told
+    same-length-2
+    returns-2
+    same-length-3
+    returns-3
+    same-length-4
+    returns-4)

@@ -1,0 +1,56 @@
+-- The pop of either kind, for this one.
+use mir.Syntax.{w64}
+use Rattle.signed.proofs.SignedLaws.{back}
+use Rattle.pop_calls.proofs.CallLaws.{same-number}
+use borrow.Author.Needs.{needs}
+use Rattle.pop_calls.proofs.pop_tx_entry.Statement.{statement}
+use Rattle.pop_calls.proofs.pop_tx_entry.Tie as tie
+
+pop-entry-requires : tie.Need-pop-entry-requires
+pop-entry-requires c κs = search needs
+
+enum-known-popped : tie.Need-enum-known-popped
+enum-known-popped c = search needs
+
+enum-known-popped-2 : tie.Need-enum-known-popped-2
+enum-known-popped-2 c = search needs
+
+same-length : tie.Need-same-length
+same-length c = search needs
+
+same-length-2 : tie.Need-same-length-2
+same-length-2 c = search needs
+
+same-length-3 : tie.Need-same-length-3
+same-length-3 c = search needs
+
+returns : tie.Need-returns
+returns c = same-number _ (c .before .popped .given .0 .0) _ _ _ _ _ _ _ (c .before .before .before .before .before .before .before .before .pop-entry .ensures) (c .before .popped .given .1) _ (back w64 (c .before .popped .given .0 .0) (search needs))
+
+same-length-4 : tie.Need-same-length-4
+same-length-4 c = search needs
+
+same-length-5 : tie.Need-same-length-5
+same-length-5 c = search needs
+
+same-length-6 : tie.Need-same-length-6
+same-length-6 c = search needs
+
+returns-2 : tie.Need-returns-2
+returns-2 c = rw (c .before .popped2 .given .1) at (c .before .before .before .before .before .before .before .before .pop-entry .ensures)
+
+pub pop-tx-entry-spec : {M : Type 1} → statement M
+pop-tx-entry-spec =
+    tie.close
+    (tie.spec
+    pop-entry-requires
+    enum-known-popped
+    enum-known-popped-2
+    same-length
+    same-length-2
+    same-length-3
+    returns
+    same-length-4
+    same-length-5
+    same-length-6
+    returns-2)

@@ -1,0 +1,2 @@
+-- The law of hints.
+pub mod HintLaws

@@ -1,0 +1,2 @@
+-- Laws and proofs of `run_checks`.
+pub mod CheckLaws

@@ -1,0 +1,3 @@
+-- The laws of reading a spill's row and of checking it.
+pub mod SpillLaws
+pub mod CheckedLaws

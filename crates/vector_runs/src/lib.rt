@@ -1,0 +1,71 @@
+// Histories, a line each: how many calls were made, the answer of each, which is a code and the number of an accepted
+// pop, and the state of both parents behind them.
+ghost use Prim.Native.Nat.{_<_};
+
+fn answer(code: u8, popped: bool, number: i64) {
+    vector_line::code(code);
+    if popped {
+        vector_line::signed_number(number);
+    }
+}
+
+// The answers of n calls, at most 1,024.
+fn answers(codes: &[u8; 2048], numbers: &[i64; 1024], n: usize) {
+    vector_line::number(n as u64);
+    for i in 0..1024 {
+        if i < n {
+            let code = i * 2;
+            let flag = code + 1;
+            answer(codes[code], codes[flag] == 1, numbers[i]);
+        }
+    }
+}
+
+fn head(len: usize, spills: i32) {
+    vector_line::number(len as u64);
+    vector_line::signed_number(signed::i64_from_i32(spills));
+}
+
+// A parent's heads, boxes first, with their spill counts, its nanoErgs and its token count.
+fn parent(p: usize, numbers: &[i64; 2306], lengths: &[usize; 6], spills: &[i32; 4])
+    requires { ⌜ p < 2 ⌝ }
+{
+    head(lengths[p * 3], spills[p * 2]);
+    head(lengths[p * 3 + 1], spills[p * 2 + 1]);
+    vector_line::signed_number(numbers[p * 1153 + 1152]);
+    vector_line::number(lengths[p * 3 + 2] as u64);
+}
+
+// Makes the calls of a history on two parents, from the empty state of the call runner.
+pub fn run(name: &[u8], s: &[u8]) {
+    let mut ids = runner_start::parent_ids();
+    let mut numbers = [0i64; 2306];
+    let mut lengths = [0usize; 6];
+    let mut spills = [0i32; 4];
+    let mut staged = [0u8; 10288];
+    let mut table = [0u8; 20576];
+    let mut deleted = [0u8; 64];
+    let mut codes = [0u8; 2048];
+    let mut popped = [0i64; 1024];
+    let counts = runner_start::empty_lists();
+    let p = runner::run_calls(
+        s,
+        2,
+        &mut ids,
+        &mut numbers,
+        &mut lengths,
+        &mut spills,
+        &mut staged,
+        &mut table,
+        &mut deleted,
+        &mut codes,
+        &mut popped,
+        counts,
+    );
+    let made = p.made;
+    vector_line::start(name);
+    answers(&codes, &popped, made);
+    parent(0, &numbers, &lengths, &spills);
+    parent(1, &numbers, &lengths, &spills);
+    vector_line::end();
+}
