@@ -261,7 +261,7 @@ uint8_t ergo_index_prune_below_window(uint64_t *heights, size_t heights_len, siz
 /* The drift rule of a derived index, on the code of a flip: 15 gives 0 and sets *skipped, 0 gives 0 and clears it, any other code is given back. */
 uint8_t ergo_index_tolerate_secondary_drift(uint8_t flip, bool *skipped);
 
-/* The milliErgs of an amount of nanoErgs, rounded to the nearest, the half upward. */
+/* The milliErgs of an amount of nanoErgs, rounded to the nearest, an exact half to the even neighbour: 500,000 give 0, 1,500,000 give 2, -1,500,000 give -2. */
 int64_t ergo_index_statement_milli_ergs(int64_t nano_ergs);
 
 #ifdef __cplusplus

@@ -120,10 +120,12 @@ impl PartialEq for Balance {
 
 impl Eq for Balance {}
 
-/// The milliErgs of an amount of nanoErgs, rounded to the nearest, the half upward.
+/// The milliErgs of an amount of nanoErgs, rounded to the nearest, an exact half to the even neighbour.
 ///
 /// ```
+/// assert_eq!(ergo_index::statement_milli_ergs(500_000), 0);
 /// assert_eq!(ergo_index::statement_milli_ergs(1_500_000), 2);
+/// assert_eq!(ergo_index::statement_milli_ergs(-1_500_000), -2);
 /// assert_eq!(ergo_index::statement_milli_ergs(i64::MAX), 9_223_372_036_855);
 /// ```
 pub fn statement_milli_ergs(nano_ergs: i64) -> i64 {

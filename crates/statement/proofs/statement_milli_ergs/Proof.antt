@@ -20,6 +20,9 @@ is-negative-requires c κs = search needs
 add-below : tie.Need-add-below
 add-below c = let s = c .before .before .before in omega (arith, size-is (s .args .nano-ergs) (s .fits .nano-ergs) _ (c .before .before .magnitude .ensures) .1)
 
+add-below-2 : tie.Need-add-below-2
+add-below-2 c = let s = c .before .before .before in omega (arith, size-is (s .args .nano-ergs) (s .fits .nano-ergs) _ (c .before .before .magnitude .ensures) .1)
+
 i64-from-u64-requires : tie.Need-i64-from-u64-requires
 i64-from-u64-requires c κs = search needs
 
@@ -42,6 +45,9 @@ returns c =
 add-above : tie.Need-add-above
 add-above c = let s = c .before .before .before in omega (arith, size-is (s .args .nano-ergs) (s .fits .nano-ergs) _ (c .before .before .magnitude .ensures) .1)
 
+add-above-2 : tie.Need-add-above-2
+add-above-2 c = let s = c .before .before .before in omega (arith, size-is (s .args .nano-ergs) (s .fits .nano-ergs) _ (c .before .before .magnitude .ensures) .1)
+
 i64-from-u64-requires-2 : tie.Need-i64-from-u64-requires-2
 i64-from-u64-requires-2 c κs = search needs
 
@@ -59,9 +65,11 @@ statement-milli-ergs-spec =
     magnitude-requires
     is-negative-requires
     add-below
+    add-below-2
     i64-from-u64-requires
     negate-requires
     returns
     add-above
+    add-above-2
     i64-from-u64-requires-2
     returns-2)
