@@ -8,7 +8,7 @@ use native.Mathlib.Omega.{arith}
 use lib.Dec.{T, ltb, eqb, ltb→lt, eqb→eq}
 use lib.ListN.{getD, take, drop}
 use Rattle.blake2b_spec.specs.Blake2b.{sigma}
-use Rattle.blake2b_spec.proofs.Entry.{and-left, and-right, at}
+use Rattle.stores.proofs.TableLaws.{and-left, and-right, at}
 
 -- how often x stands in a list
 abbrev pub times : ℕ → List ℕ → ℕ

@@ -13,7 +13,9 @@ use Rattle.stores.specs.Stores.{Put}
 use Rattle.stores.proofs.PutLaws.{put-both}
 use Rattle.text.specs.Text.{hex, number}
 use Rattle.text.proofs.TextLaws.{hex-length, number-32}
-use Rattle.text.proofs.ApartLaws.{Bytes, hex-apart, number-apart}
+use Rattle.text.proofs.HexLaws.{Bytes, hex-by-cases, hex-is}
+use Rattle.text.proofs.ApartLaws.{hex-apart, number-apart}
+use Rattle.blake2b_core.specs.Blake2b.{blake2b256}
 use Rattle.blake2b_core.proofs.DigestLaws.{digest256-length}
 use Rattle.segment_id.specs.Key.{separator, key-text, row-key}
 use Rattle.segment_id.specs.declared.Kind.{Kind}
@@ -66,3 +68,8 @@ text-apart p q j k x y hp hq fp fq fx fy e =
     let hx = mag-natAbs x 2147483648 (fx .sfits) in
     let hy = mag-natAbs y 2147483648 (fy .sfits) in
     (hex-apart p q fp fq a, m .0, number-apart x y (omega arith) (omega arith) (m .1))
+
+-- document 02, U3: "Rows on existing shelves must be found under the same keys": those of the text whose hex digits come by cases
+pub key-stays : (parent : List ℕ) (kind : Kind) (z : ℤ) → Bytes parent → row-key parent kind z ≡ blake2b256 (hex-by-cases parent ++ (separator kind ++ number z))
+unfolding row-key key-text
+key-stays parent kind z f = rw (hex-is parent f)

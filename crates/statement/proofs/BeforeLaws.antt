@@ -32,8 +32,10 @@ as-before (negsuc n) apart = by-test (ltb 500000 (suc n)) refl
   where
     size : (suc n + 499999 + suc n / 1000000 % 2) / 1000000 ≡ rounded (suc n)
     size = rounded-is (suc n)
+
     h : suc n % 1000000 ≡ 500000 → ⊥
     h = apart
+
     by-test : (t : Bool) → ltb 500000 (suc n) ≡ t → negℤ (pos (rounded (suc n))) ≡ floor-div (negsuc n +ℤ pos 500000) 1000000
     by-test true q =
         let l = ltb-true 500000 (suc n) q in

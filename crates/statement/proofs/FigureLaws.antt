@@ -22,6 +22,7 @@ rounded-is m = by-less (ltb (m % milli) half) refl
         → (m + 499999 + m / 1000000 % 2) / 1000000 ≡ cond t (m / milli + m / milli % 2) (m / milli + 1)
     by-half true e l = let h = eqb-true (m % milli) half e in omega arith
     by-half false e l = let h = eqb-false (m % milli) half e in omega arith
+
     by-less : (t : Bool) → ltb (m % milli) half ≡ t
         → (m + 499999 + m / 1000000 % 2) / 1000000 ≡ cond t (m / milli) (cond (eqb (m % milli) half) (m / milli + m / milli % 2) (m / milli + 1))
     by-less true e = let h = ltb-true (m % milli) half e in omega arith

@@ -3,3 +3,4 @@ pub mod StoreLaws
 pub mod LoopLaws
 pub mod PutLaws
 pub mod EqualLaws
+pub mod TableLaws

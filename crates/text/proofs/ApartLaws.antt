@@ -9,6 +9,7 @@ use lib.Dec.{ltb}
 use lib.IntN.{ℤ, pos, negsuc, natAbs}
 use borrow.Author.Tests.{ltb-true, ltb-false}
 use Rattle.text.specs.Text.{hex-digit, hex, digits, decimal, number}
+use Rattle.text.proofs.HexLaws.{Bytes, digit-apart}
 
 -- ---- the number that digits stand for
 
@@ -63,19 +64,6 @@ number-apart (negsuc m) (negsuc n) h k e =
     let g : suc m ≡ suc n = decimal-apart (suc m) (suc n) h k f in ap negsuc (omega arith)
 
 -- ---- hex, of bytes
-
-abbrev pub Bytes : List ℕ → Type 0
-Bytes [] = Unit
-Bytes (b ∷ bs) = (b < 256) × Bytes bs
-
-digit-apart : (m n : ℕ) → m < 16 → n < 16 → hex-digit m ≡ hex-digit n → m ≡ n
-digit-apart m n h k e = by-tests (ltb m 10) (ltb n 10) refl refl e
-  where
-    by-tests : (p q : Bool) → ltb m 10 ≡ p → ltb n 10 ≡ q → cond p (48 + m) (87 + m) ≡ cond q (48 + n) (87 + n) → m ≡ n
-    by-tests true true a b e = omega arith
-    by-tests true false a b e = omega (arith, ltb-true m 10 a, ltb-false n 10 b)
-    by-tests false true a b e = omega (arith, ltb-false m 10 a, ltb-true n 10 b)
-    by-tests false false a b e = omega arith
 
 pub hex-apart : (s t : List ℕ) → Bytes s → Bytes t → hex s ≡ hex t → s ≡ t
 unfolding hex

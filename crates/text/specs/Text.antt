@@ -4,10 +4,15 @@ use mathlib.Core.Bool.{cond}
 use mathlib.Core.List.{List, [], _∷_, _++_}
 use lib.Dec.{ltb}
 use lib.IntN.{ℤ, pos, negsuc, natAbs}
+use lib.ListN.{getD}
 
--- "0" to "9" for 0 to 9, then "a" to "f" for 10 to 15
-abbrev pub hex-digit : ℕ → ℕ
-hex-digit n = cond (ltb n 10) (48 + n) (87 + n)
+-- the sixteen characters "0123456789abcdef"
+unfoldable pub hex-digits : List ℕ
+hex-digits = 48 ∷ 49 ∷ 50 ∷ 51 ∷ 52 ∷ 53 ∷ 54 ∷ 55 ∷ 56 ∷ 57 ∷ 97 ∷ 98 ∷ 99 ∷ 100 ∷ 101 ∷ 102 ∷ []
+
+-- document 02, U3: "take the digit from a constant row of the sixteen characters"
+unfoldable pub hex-digit : ℕ → ℕ
+hex-digit n = getD hex-digits n 0
 
 -- two digits for each byte, the higher one first
 unfoldable pub hex : List ℕ → List ℕ

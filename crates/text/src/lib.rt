@@ -5,12 +5,15 @@ ghost use lib.ListN.{length};
 ghost use Rattle.stores.specs.Stores.{Put};
 ghost use Rattle.text.specs.Text.{hex-digit, hex, decimal, number};
 
+const HEX_DIGITS: [u8; 16] = *b"0123456789abcdef";
+
 // The hex digit of a number below 16.
 pub fn hex_digit(n: u8) -> u8
     requires { ⌜ n < 16 ⌝ }
     ensures { λ r. ⌜ r ≡ hex-digit n ⌝ }
 {
-    if n < 10 { 48 + n } else { 87 + n }
+    let i = n as usize;
+    HEX_DIGITS[i]
 }
 
 // Writes bytes in hex.
