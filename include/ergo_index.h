@@ -250,7 +250,7 @@ uint8_t ergo_index_encode_undo_entry(bool known, const uint8_t header[32], uint6
 uint8_t ergo_index_decode_undo_entry(const uint8_t *bytes, size_t bytes_len, bool *known, uint8_t header[32], uint64_t *txs, uint64_t *boxes);
 
 /* Keeps those of the first *count heights that are at least current - window if current is above the window, else all; zeros follow up to the
- * capacity. The window is window_heights if window_named, else 200.
+ * capacity. The window is window_heights if window_named, else 720.
  * Refusals: 25 (count above the capacity, list shorter than the capacity).
  * Changes: heights, *count. */
 uint8_t ergo_index_prune_below_window(uint64_t *heights, size_t heights_len, size_t *count, size_t capacity, uint64_t current,

@@ -270,7 +270,7 @@ static void codecs(void) {
     EXPECT(known && memcmp(header, read_header, 32) == 0 && undo_txs == 3 && undo_boxes == 4);
     EXPECT(ergo_index_decode_undo_entry(out, 48, &known, read_header, &undo_txs, &undo_boxes) == ERGO_INDEX_UNDO_ENTRY_NUMBERS_CUT);
 
-    EXPECT(ergo_index_prune_below_window(heights, 4, &count, 3, 600, false, 0) == ERGO_INDEX_ACCEPTED);
+    EXPECT(ergo_index_prune_below_window(heights, 4, &count, 3, 1120, false, 0) == ERGO_INDEX_ACCEPTED);
     EXPECT(count == 1 && heights[0] == 400 && heights[1] == 0 && heights[2] == 0 && heights[3] == 5);
 
     EXPECT(ergo_index_tolerate_secondary_drift(15, &skipped) == ERGO_INDEX_ACCEPTED && skipped);

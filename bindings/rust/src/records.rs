@@ -144,12 +144,14 @@ impl UndoEntry {
     }
 }
 
-/// Keeps the heights that are at least `current - window` if `current` is above the window, else all. Without a window it is 200.
+/// Keeps the heights that are at least `current - window` if `current` is above the window, else all. Without a window it is 720.
 ///
 /// ```
 /// let mut heights = vec![1, 400, 399];
-/// ergo_index::prune_below_window(&mut heights, 600, None);
+/// ergo_index::prune_below_window(&mut heights, 1120, None);
 /// assert_eq!(heights, [400]);
+/// ergo_index::prune_below_window(&mut heights, 601, Some(200));
+/// assert!(heights.is_empty());
 /// ```
 pub fn prune_below_window(heights: &mut Vec<u64>, current: u64, window: Option<u64>) {
     let mut count = heights.len();

@@ -4,7 +4,7 @@ use reference::address::{BalanceInfo, IndexedAddress};
 use reference::calls::{self, UndoTable};
 use reference::segment::Segment;
 use reference::segment_id::{box_segment_id, tx_segment_id};
-use reference::store::undo::{UndoEntry, ROLLBACK_WINDOW};
+use reference::store::undo::UndoEntry;
 use reference::{blake2b256, Digest32, VlqReader};
 
 use crate::call::Call;
@@ -32,7 +32,7 @@ const HEADER: &str = "\
 # txs PARENT NUMBER = KEY                                   a row key of transactions
 # adr BYTES = CODE HASH FLAG NANOS IDS AMOUNTS TXS BOXES BOX_COUNT TX_COUNT   an address record; FLAG is one byte
 # und BYTES = CODE FLAG HEADER TXS BOXES                    an undo entry; FLAG is one byte
-# prn HEIGHTS CURRENT FLAG WINDOW = HEIGHTS                 pruning; the window counts only where FLAG is 01
+# prn HEIGHTS CURRENT 01 WINDOW = HEIGHTS                   pruning; the window is always named
 # add NANOS IDS AMOUNTS NANOS IDS AMOUNTS = NANOS IDS AMOUNTS   a balance, a box added to it, the balance after
 # sub NANOS IDS AMOUNTS NANOS IDS AMOUNTS = NANOS IDS AMOUNTS   the same, subtracted
 # run CALLS = ANSWERS STATE                                 calls in the runner's form; each answer is a code, and the number of an accepted pop;
@@ -118,13 +118,14 @@ fn undo(input: &[u8]) {
     println!("und {} = {answer}", bytes(input));
 }
 
+/// On named windows only: the default of the index is another than the reference's.
 fn prune(heights: &[u64], current: u64, window: Option<u64>) {
-    let kept = UndoTable::new(heights).prune(current, window.unwrap_or(ROLLBACK_WINDOW));
+    let Some(window) = window else { return };
+    let kept = UndoTable::new(heights).prune(current, window);
     let list = |h: &[u64]| bytes(&h.iter().flat_map(|n| n.to_be_bytes()).collect::<Vec<u8>>());
-    let flag = u8::from(window.is_some());
-    let window = number(window.unwrap_or(0) as i64);
+    let window = number(window as i64);
     println!(
-        "prn {} {} {flag:02x} {window} = {}",
+        "prn {} {} 01 {window} = {}",
         list(heights),
         number(current as i64),
         list(&kept)

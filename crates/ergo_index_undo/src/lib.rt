@@ -76,7 +76,7 @@ fn window_of(named: bool, heights: u64) -> Window
     }
 }
 
-// Keeps the heights within the window below the current one; without a named window it is 200.
+// Keeps the heights within the window below the current one; without a named window it is 720.
 #[no_mangle]
 pub extern "C" fn ergo_index_prune_below_window(
     heights: &mut [u64],

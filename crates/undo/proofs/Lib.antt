@@ -2,3 +2,4 @@
 pub mod EntryLaws
 pub mod RoundTrip
 pub mod PruneLaws
+pub mod WindowLaws

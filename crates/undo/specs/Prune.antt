@@ -1,4 +1,5 @@
--- Pruning of document 01 ("Beside the spend"): "Pruning keeps heights >= current - window if current > window, else all; no window named means 200."
+-- Pruning of document 01 ("Beside the spend"): "Pruning keeps heights >= current - window if current > window, else all". No window named means 720
+-- (document 02, U6: "pruning with no window named should use 720 instead of 200").
 use Prim.Native.Nat.{ℕ, _-_, _≤_}
 use mathlib.Core.Path.{_≡_}
 use mathlib.Core.Bool.{Bool, true, cond, _&&_}
@@ -10,10 +11,12 @@ use Rattle.undo.specs.declared.prune.Window.the-variants.{Named, Unnamed
 use Rattle.undo.specs.declared.prune.Pruned.{Pruned}
 use Rattle.undo.specs.declared.prune.Pruned.the-variants.{Kept, Refused}
 
--- "no window named means 200"
+abbrev pub rollback-window : ℕ
+rollback-window = 720
+
 abbrev pub window-of : Window → ℕ
 window-of (Named heights) = heights
-window-of Unnamed = 200
+window-of Unnamed = rollback-window
 
 -- "keeps heights >= current - window if current > window, else all"
 abbrev pub keeps : (current window height : ℕ) → Bool

