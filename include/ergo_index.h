@@ -112,12 +112,13 @@ uint8_t ergo_index_unflip_box_segment_entry(const uint8_t parent[32], size_t len
                                             size_t *staged_count, size_t staged_capacity, uint8_t *staged, size_t staged_len,
                                             size_t table_count, size_t table_capacity, const uint8_t *table, size_t table_len);
 
-/* Counts the entries of the boxes that are not negative and those that are negative, over all rows and the head.
+/* Counts the entries of the boxes that are above 0 (unspent), below 0 (spent) and equal to 0 (unknown: 0 has no sign), over all rows and the head.
  * Refusals, in order: 25 (head, staged spills, table), 10, 11; per row from spill 0 up: 12, 1 to 6, 8, 13.
- * Changes: *unspent, *spent. */
+ * Changes: *unspent, *spent, *unknown; together they are all entries. */
 uint8_t ergo_index_tally(const uint8_t parent[32], size_t len, int32_t spills, const int64_t *head, size_t head_len,
                          size_t staged_count, size_t staged_capacity, const uint8_t *staged, size_t staged_len,
-                         size_t table_count, size_t table_capacity, const uint8_t *table, size_t table_len, size_t *unspent, size_t *spent);
+                         size_t table_count, size_t table_capacity, const uint8_t *table, size_t table_len, size_t *unspent, size_t *spent,
+                         size_t *unknown);
 
 /* Writes the staged rows whose key is not deleted to the table, then removes the deleted keys from it; staged and deleted spills end empty, all zero
  * to their capacity. A row that was staged again after its key was deleted is lost.

@@ -81,11 +81,11 @@ static uint8_t flush(void) {
 
 /* how many boxes are spent */
 static size_t spent_boxes(void) {
-    size_t unspent = 0, spent = 0;
+    size_t unspent = 0, spent = 0, unknown = 0;
     EXPECT(ergo_index_tally(parent, boxes.len, boxes.spills, boxes.numbers, ERGO_INDEX_HEAD_LENGTH,
                             staged.count, CAPACITY, staged.bytes, sizeof staged.bytes,
-                            table.count, CAPACITY, table.bytes, sizeof table.bytes, &unspent, &spent) == ERGO_INDEX_ACCEPTED);
-    EXPECT(unspent + spent == boxes.len + (size_t)boxes.spills * ERGO_INDEX_HEAD_LENGTH);
+                            table.count, CAPACITY, table.bytes, sizeof table.bytes, &unspent, &spent, &unknown) == ERGO_INDEX_ACCEPTED);
+    EXPECT(unspent + spent + unknown == boxes.len + (size_t)boxes.spills * ERGO_INDEX_HEAD_LENGTH);
     return spent;
 }
 

@@ -115,6 +115,7 @@ extern "C" {
         table_len: usize,
         unspent: *mut usize,
         spent: *mut usize,
+        unknown: *mut usize,
     ) -> u8;
     pub fn ergo_index_flush_staged_spills(
         staged_count: *mut usize,

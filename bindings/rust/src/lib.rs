@@ -22,7 +22,7 @@
 //! // a spend in that row, once it is in the table, stages it again
 //! flush_staged_spills(&mut staged, &mut table, &mut deleted)?;
 //! segment.flip_box_segment_entry(BoxNumber(100), &mut staged, &table)?;
-//! assert_eq!(segment.tally(&staged, &table)?, Tally { unspent: 512, spent: 1 });
+//! assert_eq!(segment.tally(&staged, &table)?, Tally { unspent: 512, spent: 1, unknown: 0 });
 //!
 //! // the spend and two boxes are taken back
 //! flush_staged_spills(&mut staged, &mut table, &mut deleted)?;

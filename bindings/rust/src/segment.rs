@@ -16,13 +16,15 @@ pub struct BoxNumber(pub i64);
 #[derive(Clone, Copy, Debug, PartialEq, Eq, PartialOrd, Ord, Hash)]
 pub struct TxNumber(pub i64);
 
-/// How many entries of a segment's boxes are unspent, and how many spent.
+/// How many entries of a segment's boxes are unspent, spent and unknown; the three add up to all entries.
 #[derive(Clone, Copy, Debug, PartialEq, Eq)]
 pub struct Tally {
-    /// Entries that are not negative.
+    /// Entries above 0.
     pub unspent: usize,
     /// Negative entries.
     pub spent: usize,
+    /// Entries equal to 0: the first box of the chain, whose entry has no sign.
+    pub unknown: usize,
 }
 
 /// A head: up to 512 numbers, and how many rows it has spilled.
@@ -261,23 +263,23 @@ impl Segment {
         flip(ffi::ergo_index_unflip_box_segment_entry, &self.parent, &mut self.boxes, target.0, staged, table)
     }
 
-    /// How many entries of the boxes are unspent and how many spent, over all rows and the head. Refused by 25, 10, 11 and those of the rows.
+    /// How many entries of the boxes are unspent, spent and unknown, over all rows and the head. Refused by 25, 10, 11 and those of the rows.
     ///
     /// ```
     /// use ergo_index::{BoxNumber, Segment, SegmentTable, StagedSpills};
     /// let mut segment = Segment::new([7; 32]);
     /// let (mut staged, table) = (StagedSpills::with_capacity(1), SegmentTable::with_capacity(1));
-    /// for n in [1, 2, 3] {
+    /// for n in [0, 1, 2, 3] {
     ///     segment.append_box_entry(BoxNumber(n), &mut staged)?;
     /// }
     /// segment.flip_box_segment_entry(BoxNumber(2), &mut staged, &table)?;
     /// let tally = segment.tally(&staged, &table)?;
-    /// assert_eq!((tally.unspent, tally.spent), (2, 1));
+    /// assert_eq!((tally.unspent, tally.spent, tally.unknown), (2, 1, 1));
     /// # Ok::<(), ergo_index::Refusal>(())
     /// ```
     pub fn tally(&self, staged: &StagedSpills, table: &SegmentTable) -> Result<Tally, Refusal> {
         let (s, t) = (&staged.list, &table.list);
-        let mut tally = Tally { unspent: 0, spent: 0 };
+        let mut tally = Tally { unspent: 0, spent: 0, unknown: 0 };
         // SAFETY: as in `append`.
         accepted(unsafe {
             ffi::ergo_index_tally(
@@ -296,6 +298,7 @@ impl Segment {
                 t.bytes.len(),
                 &mut tally.unspent,
                 &mut tally.spent,
+                &mut tally.unknown,
             )
         })?;
         Ok(tally)

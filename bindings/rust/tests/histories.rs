@@ -50,7 +50,7 @@ fn what_was_done_is_undone() -> Result<(), Refusal> {
         }
     }
     assert_eq!(index.segment.box_spills(), 3);
-    assert_eq!(index.segment.tally(&index.staged, &index.table)?, Tally { unspent: 1600 - 533, spent: 533 });
+    assert_eq!(index.segment.tally(&index.staged, &index.table)?, Tally { unspent: 1600 - 533, spent: 533, unknown: 0 });
     index.flush()?;
     assert_eq!((index.staged.len(), index.table.len()), (0, 3));
     for n in (1..=1600).rev() {

@@ -4,5 +4,6 @@ pub mod Spills
 pub mod Append
 pub mod Pop
 pub mod Flip
+pub mod Rows
 pub mod Tally
 pub mod Flush

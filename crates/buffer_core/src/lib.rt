@@ -2,6 +2,7 @@
 // numbers beside its counts. Staged spills and the segments table are record lists, deleted spills a key list.
 ghost use mathlib.Core.Path.{_≡_};
 ghost use Rattle.buffer_core.specs.Spills.{head-ok};
+use entries::Tally;
 use records::ListCounts;
 
 // The bytes of a record and of the longest row, in edition 1.
@@ -38,9 +39,9 @@ pub enum Flipped {
     Refused(u8),
 }
 
-// How many entries are unspent, and how many spent.
+// The figures of a tally.
 pub enum Tallied {
-    Counts(usize, usize),
+    Counts(Tally),
     Refused(u8),
 }
 

@@ -4,3 +4,4 @@ pub mod Counts
 pub mod OrderLaws
 pub mod PositionLaws
 pub mod FlipLaws
+pub mod TallyLaws

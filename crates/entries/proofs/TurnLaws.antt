@@ -1,6 +1,6 @@
 -- One turn of each loop over the first n numbers of a list: the definition on what is left from i, by the test on the ith.
 use mathlib.Core.Path.{_≡_, refl, sym, ap, _∙_, subst}
-use mathlib.Core.Bool.{Bool, true, false, not, _&&_, cond}
+use mathlib.Core.Bool.{Bool, true, false, _&&_, cond}
 use mathlib.Core.List.{List, [], _∷_, map}
 use Prim.Native.Nat.{ℕ, zero, suc, _<_, _≤_, _+_}
 use native.Mathlib.Numerals.{add-one}
@@ -10,8 +10,8 @@ use lib.Dec.{leb, ltb, eqb}
 use lib.ListN.{length, getD}
 use lib.Seq.{slice, slice-cons, slice-empty}
 use Rattle.entries.specs.Order.{ordered}
-use Rattle.signed.specs.Sign.{is-negative, wanted}
-use Rattle.entries.specs.Tally.{one-if, unspent, spent}
+use Rattle.signed.specs.Sign.{wanted}
+use Rattle.entries.specs.Tally.{one-if, how-many}
 use Rattle.entries.specs.Flip.{position}
 use Rattle.entries.specs.declared.Position.the-variants.{At, Seen, Absent}
 
@@ -33,21 +33,11 @@ module _ (xs : List ℤ) (n i : ℕ) (h : i < n) (k : n ≤ length xs) where
       ap (λ (l : List ℤ). position d t l i seen) next
       ∙ ap (λ (b : ℕ). cond (eqb b t) (cond (wanted d (getD xs i (pos 0))) (At i) (position d t (slice (i + 1) n xs) (i + 1) true)) (position d t (slice (i + 1) n xs) (i + 1) seen)) (sym e)
 
-  -- a turn of the count
-  pub spent-step : spent (slice i n xs) ≡ one-if (is-negative (getD xs i (pos 0))) + spent (slice (i + 1) n xs)
-  unfolding spent
-  spent-step = ap spent next
+  -- a turn of a count
+  pub count-step : (test : ℤ → Bool) → how-many test (slice i n xs) ≡ one-if (test (getD xs i (pos 0))) + how-many test (slice (i + 1) n xs)
+  unfolding how-many
+  count-step test = ap (how-many test) next
 
-pub spent-empty : (n : ℕ) (xs : List ℤ) → spent (slice n n xs) ≡ 0
-unfolding spent
-spent-empty n xs = ap spent (slice-empty n xs)
-
--- every entry is spent or not
-pub tally-all : (zs : List ℤ) → unspent zs + spent zs ≡ length zs
-unfolding unspent spent
-tally-all [] = refl
-tally-all (z ∷ zs) = by-sign (is-negative z) (tally-all zs)
-  where
-    by-sign : (b : Bool) → unspent zs + spent zs ≡ length zs → one-if (not b) + unspent zs + (one-if b + spent zs) ≡ suc (length zs)
-    by-sign true e = omega arith
-    by-sign false e = omega arith
+pub count-empty : (test : ℤ → Bool) (n : ℕ) (xs : List ℤ) → how-many test (slice n n xs) ≡ 0
+unfolding how-many
+count-empty test n xs = ap (how-many test) (slice-empty n xs)

@@ -7,13 +7,21 @@ ghost use Prim.Native.Nat.{_+_, _<_, _≤_};
 ghost use Rattle.entries.specs.declared.Position.the-variants.{Seen, Absent};
 ghost use Rattle.entries.specs.Order.{order-ok, Below, From};
 ghost use Rattle.entries.specs.Flip.{position, flipped-at};
-ghost use Rattle.entries.specs.Tally.{spent};
+ghost use Rattle.entries.specs.Tally.{is-above, one-if, figures};
+ghost use Rattle.signed.specs.Sign.{is-negative};
 
 // Where the entry stands that is to be flipped; or that only entries of the other sign were seen; or none.
 pub enum Position {
     At(usize),
     Seen,
     Absent,
+}
+
+// How many entries are unspent, spent and unknown: above, below and equal to 0.
+pub struct Tally {
+    pub unspent: usize,
+    pub spent: usize,
+    pub unknown: usize,
 }
 
 // Whether none of the first n numbers is -2^63 and their absolute values never fall.
@@ -95,18 +103,43 @@ pub fn flip_at(xs: &mut [i64], i: usize)
     xs[i] = signed::negate(x);
 }
 
-// How many of the first n numbers are negative.
-pub fn count_spent(xs: &[i64], n: usize) -> usize
-    requires { ⌜ n ≤ length (now xs) ⌝ }
-    ensures { λ r. ⌜ (r ≡ spent (take n (now (xs .entry)))) × (r ≤ n) ⌝ }
+// 1 for a number above 0.
+fn one_above(x: i64) -> usize
+    ensures { λ r. ⌜ r ≡ one-if (is-above x) ⌝ }
 {
-    let mut count = 0;
+    if signed::is_negative(x) {
+        return 0;
+    }
+    if signed::magnitude(x) == 0 {
+        return 0;
+    }
+    1
+}
+
+// 1 for a number below 0.
+fn one_below(x: i64) -> usize
+    ensures { λ r. ⌜ r ≡ one-if (is-negative x) ⌝ }
+{
+    if signed::is_negative(x) { 1 } else { 0 }
+}
+
+// The figures of the first n numbers.
+pub fn tally_entries(xs: &[i64], n: usize) -> Tally
+    requires { ⌜ n ≤ length (now xs) ⌝ }
+    ensures { λ r. ⌜ r ≡ figures (take n (now (xs .entry))) ⌝ }
+{
+    let mut unspent = 0;
+    let mut spent = 0;
     let mut i = 0;
     while i < n {
-        if signed::is_negative(xs[i]) {
-            count += 1;
-        }
+        let x = xs[i];
+        unspent += one_above(x);
+        spent += one_below(x);
         i += 1;
     }
-    count
+    Tally {
+        unspent,
+        spent,
+        unknown: n - unspent - spent,
+    }
 }

@@ -4,6 +4,7 @@ use mathlib.Core.Path.{_≡_, ap}
 use mathlib.Core.List.{List}
 use lib.IntN.{ℤ}
 use Rattle.records.specs.declared.ListCounts.{ListCounts}
+use Rattle.entries.specs.declared.Tally.{Tally}
 use Rattle.buffer_core.specs.declared.Flipped.{Flipped}
 use Rattle.buffer_core.specs.declared.Flipped.the-variants as flipped
 use Rattle.buffer_core.specs.declared.Tallied.{Tallied}
@@ -24,9 +25,9 @@ pub flip-told : (r : Flipped) (head : List ℤ) (staged : List ℕ) (o : Flippin
 flip-told r head staged o e count = ap (λ (f : Flipping). flip-export count f) e
 
 -- ---- tally
-module _ (r o : Tallied) (e : r ≡ o) (u s : ℕ) where
-  pub tally-done : (v w : ℕ) → r ≡ tallied.Counts v w → tally-out 0 v w ≡ tally-export u s o
-  tally-done v w f = rw (← e, f)
+module _ (r o : Tallied) (e : r ≡ o) (u s z : ℕ) where
+  pub tally-done : (t : Tally) → r ≡ tallied.Counts t → tally-out 0 (t .unspent) (t .spent) (t .unknown) ≡ tally-export u s z o
+  tally-done t f = rw (← e, f)
 
-  pub tally-refused : (code : ℕ) → r ≡ tallied.Refused code → tally-out code u s ≡ tally-export u s o
+  pub tally-refused : (code : ℕ) → r ≡ tallied.Refused code → tally-out code u s z ≡ tally-export u s z o
   tally-refused code f = rw (← e, f)

@@ -35,19 +35,20 @@ abbrev pub flip-call : Direction → (parent : List ℕ) (len : ℕ) (spills : �
 flip-call d parent len spills head target s sc staged t tc table =
     flip-export s (flip-of edition-1 d parent (counts-of len spills) target (list-of s sc) staged (list-of t tc) table head)
 
--- ---- tally: the code, and how many entries are unspent and spent
+-- ---- tally: the code, and how many entries are unspent, spent and unknown
 pub record TallyOut : Type 0 where
   pub code : ℕ
   pub unspent : ℕ
   pub spent : ℕ
+  pub unknown : ℕ
 
-abbrev pub tally-out : ℕ → ℕ → ℕ → TallyOut
-tally-out code u s = record { code = code; unspent = u; spent = s }
+abbrev pub tally-out : (code unspent spent unknown : ℕ) → TallyOut
+tally-out code u s z = record { code = code; unspent = u; spent = s; unknown = z }
 
-abbrev pub tally-export : ℕ → ℕ → Tallied → TallyOut
-tally-export u s (tallied.Counts v w) = tally-out 0 v w
-tally-export u s (tallied.Refused code) = tally-out code u s
+abbrev pub tally-export : (u s z : ℕ) → Tallied → TallyOut
+tally-export u s z (tallied.Counts t) = tally-out 0 (t .unspent) (t .spent) (t .unknown)
+tally-export u s z (tallied.Refused code) = tally-out code u s z
 
-abbrev pub tally-call : (parent : List ℕ) (len : ℕ) (spills : ℤ) → List ℤ → (s s-capacity : ℕ) → List ℕ → (t t-capacity : ℕ) → List ℕ → (unspent spent : ℕ) → TallyOut
-tally-call parent len spills head s sc staged t tc table u v =
-    tally-export u v (tally-of edition-1 parent (counts-of len spills) (list-of s sc) staged (list-of t tc) table head)
+abbrev pub tally-call : (parent : List ℕ) (len : ℕ) (spills : ℤ) → List ℤ → (s s-capacity : ℕ) → List ℕ → (t t-capacity : ℕ) → List ℕ → (unspent spent unknown : ℕ) → TallyOut
+tally-call parent len spills head s sc staged t tc table u v z =
+    tally-export u v z (tally-of edition-1 parent (counts-of len spills) (list-of s sc) staged (list-of t tc) table head)

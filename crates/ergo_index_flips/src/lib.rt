@@ -104,7 +104,7 @@ pub extern "C" fn ergo_index_unflip_box_segment_entry(
     told(flipped, staged_count)
 }
 
-// How many entries of the boxes are unspent and how many spent, over all rows and the head.
+// How many entries of the boxes are unspent (above 0), spent (below 0) and unknown (equal to 0), over all rows and the head.
 #[no_mangle]
 pub extern "C" fn ergo_index_tally<'a>(
     parent: &[u8; 32],
@@ -119,9 +119,10 @@ pub extern "C" fn ergo_index_tally<'a>(
     table: &'a [u8],
     unspent: &mut usize,
     spent: &mut usize,
+    unknown: &mut usize,
 ) -> u8
-    ensures { λ r. ⌜ tally-out r (now (unspent .exit)) (now (spent .exit))
-        ≡ tally-call (now (parent .entry)) len spills (now (head .entry)) «staged_count» «staged_capacity» (now (staged .entry)) «table_count» «table_capacity» (now (table .entry)) (now (unspent .entry)) (now (spent .entry)) ⌝ }
+    ensures { λ r. ⌜ tally-out r (now (unspent .exit)) (now (spent .exit)) (now (unknown .exit))
+        ≡ tally-call (now (parent .entry)) len spills (now (head .entry)) «staged_count» «staged_capacity» (now (staged .entry)) «table_count» «table_capacity» (now (table .entry)) (now (unspent .entry)) (now (spent .entry)) (now (unknown .entry)) ⌝ }
 {
     let counts = HeadCounts { len, spills };
     let staged_counts = ListCounts {
@@ -142,9 +143,10 @@ pub extern "C" fn ergo_index_tally<'a>(
         head,
     );
     match tallied {
-        Tallied::Counts(not_negative, negative) => {
-            *unspent = not_negative;
-            *spent = negative;
+        Tallied::Counts(tally) => {
+            *unspent = tally.unspent;
+            *spent = tally.spent;
+            *unknown = tally.unknown;
             0
         }
         Tallied::Refused(code) => code,

@@ -1,8 +1,8 @@
--- Laws of a tally: what a counted row tells, one law for a turn of the loop and for each way out.
-use Prim.Native.Nat.{ℕ, suc, _+_, _-_, _≤_, _<_}
+-- Laws of a tally: what a counted row tells, one law for a turn of the loop and for each way out, and that the rows one after the other are the rows as one list.
+use Prim.Native.Nat.{ℕ, zero, suc, _+_, _*_, _-_, _≤_, _<_}
 use mathlib.Core.Path.{_≡_, refl, sym, ap, _∙_}
-use mathlib.Core.Bool.{Bool, true, false, not, _&&_, cond}
-use mathlib.Core.List.{List, [], _∷_}
+use mathlib.Core.Bool.{Bool, true, false, _&&_, cond}
+use mathlib.Core.List.{List, [], _∷_, _++_}
 use native.Mathlib.Omega.{arith}
 use lib.Dec.{eqb}
 use lib.IntN.{ℤ, natAbs}
@@ -10,91 +10,112 @@ use lib.ListN.{length, take}
 use borrow.Author.Tests.{eqb-true}
 use Rattle.signed.specs.Sign.{is-negative}
 use Rattle.records.proofs.CheckLaws.{and-left}
+use Rattle.entries.specs.declared.Tally.{Tally}
 use Rattle.entries.specs.Order.{order-ok}
-use Rattle.entries.specs.Tally.{one-if, unspent, spent}
+use Rattle.entries.specs.Tally.{figures, plus}
+use Rattle.entries.proofs.TallyLaws.{adds-up, figures-append, plus-none, plus-comm, plus-assoc}
 use Rattle.buffer_core.specs.declared.Tallied.{Tallied}
 use Rattle.buffer_core.specs.declared.Tallied.the-variants.{Counts, Refused}
 use Rattle.buffer_core.specs.Edition.{RowRead, good, bad, edition-1}
 use Rattle.buffer_core.specs.Spills.{Sources, spill-read}
+use Rattle.buffer_core.specs.Rows.{then-more, then-rows, rows-up}
 use Rattle.buffer_core.specs.Flip.{check-row, row-checked}
-use Rattle.buffer_core.specs.Tally.{tally-row, tally-rows, tally-core}
+use Rattle.buffer_core.specs.Tally.{tally-over, tally-core}
 use Rattle.spill_rows.specs.declared.Read.{Read}
 use Rattle.spill_rows.specs.declared.Read.the-variants as read
-use Rattle.spill_rows.specs.Steps.{CheckedInto}
-use Rattle.tally_core.specs.declared.RowCount.the-variants.{Spent, Faulty}
-use Rattle.tally_core.specs.Steps.{counted}
-
--- every entry is spent or unspent
-pub both-counts : (zs : List ℤ) → unspent zs + spent zs ≡ length zs
-unfolding unspent spent
-both-counts [] = refl
-both-counts (z ∷ zs) = by-sign (is-negative z) (both-counts zs)
-  where
-    by-sign : (b : Bool) → unspent zs + spent zs ≡ length zs → one-if (not b) + unspent zs + (one-if b + spent zs) ≡ suc (length zs)
-    by-sign true h = omega arith
-    by-sign false h = omega arith
+use Rattle.spill_rows.specs.Steps.{CheckedInto, read-of}
+use Rattle.tally_core.specs.Steps.{counted, tally-row, tally-rows}
 
 -- ---- a row
 
-no-spent : (code k : ℕ) → Faulty code ≡ Spent k → ⊥
-no-spent code k e = let z : _≡_ {A = ℕ} 0 1 = cc in omega arith
+no-counts : (code : ℕ) (t : Tally) → Refused code ≡ Counts t → ⊥
+no-counts code t e = let z : _≡_ {A = ℕ} 0 1 = cc in omega arith
 
 -- a row that was counted has 512 entries
-pub record Row (x : RowRead) (k : ℕ) : Type 0 where
+pub record Row (x : RowRead) (t : Tally) : Type 0 where
   pub numbers : List ℤ
   pub is : x ≡ good numbers
   pub long : length numbers ≡ 512
-  pub spent-in : k ≡ spent numbers
+  pub figured : t ≡ figures numbers
 
-pub row-of : (y : RowRead) (k : ℕ) → Spent k ≡ counted (check-row y) → Row (check-row y) k
-row-of (bad code) k e = absurd (no-spent code k (sym e))
-row-of (good zs) k e = by-test (eqb (length zs) 512 && order-ok zs) refl e
+pub row-of : (y : RowRead) (t : Tally) → Counts t ≡ counted (check-row y) → Row (check-row y) t
+row-of (bad code) t e = absurd (no-counts code t (sym e))
+row-of (good zs) t e = by-test (eqb (length zs) 512 && order-ok zs) refl e
   where
-    by-test : (t : Bool) → eqb (length zs) 512 && order-ok zs ≡ t → Spent k ≡ counted (cond t (good zs) (bad 13)) → Row (cond t (good zs) (bad 13)) k
+    by-test : (b : Bool) → eqb (length zs) 512 && order-ok zs ≡ b → Counts t ≡ counted (cond b (good zs) (bad 13)) → Row (cond b (good zs) (bad 13)) t
     by-test true p e =
-        let q : k ≡ spent zs = cc in
-        record { numbers = zs; is = refl; long = eqb-true (length zs) 512 (and-left (eqb (length zs) 512) (order-ok zs) p); spent-in = q }
-    by-test false p e = absurd (no-spent 13 k (sym e))
+        let q : t ≡ figures zs = cc in
+        record { numbers = zs; is = refl; long = eqb-true (length zs) 512 (and-left (eqb (length zs) 512) (order-ok zs) p); figured = q }
+    by-test false p e = absurd (no-counts 13 t (sym e))
 
-pub counted-most : (y : RowRead) (k : ℕ) → Spent k ≡ counted (check-row y) → k ≤ 512
-counted-most y k e = let r = row-of y k e in omega (arith, r .long, r .spent-in, both-counts (r .numbers))
+pub counted-all : (y : RowRead) (t : Tally) → Counts t ≡ counted (check-row y) → t .unspent + t .spent + t .unknown ≡ 512
+counted-all y t e =
+    let r = row-of y t e in
+    ap (λ (x : Tally). x .unspent + x .spent + x .unknown) (r .figured) ∙ adds-up (r .numbers) ∙ r .long
 
 -- what a checked read tells
-pub counted-good : (x : RowRead) (r : Read) (out : List ℤ) → CheckedInto x r out → r ≡ read.Good → (n : ℕ) → n ≡ spent (take 512 out) → take 512 out ≡ out → Spent n ≡ counted x
-counted-good x r out c e n q t = rw (c .numbers e) (ap Spent (q ∙ ap spent t))
+pub counted-good : (x : RowRead) (r : Read) (out : List ℤ) → CheckedInto x r out → r ≡ read.Good → (t : Tally) → t ≡ figures (take 512 out) → take 512 out ≡ out → Counts t ≡ counted x
+counted-good x r out c e t q f = rw (c .numbers e) (ap Counts (q ∙ ap figures f))
 
-pub counted-bad : (x : RowRead) (r : Read) (out : List ℤ) → CheckedInto x r out → (code : ℕ) → r ≡ read.Faulty code → Faulty code ≡ counted x
+pub counted-bad : (x : RowRead) (r : Read) (out : List ℤ) → CheckedInto x r out → (code : ℕ) → r ≡ read.Faulty code → Refused code ≡ counted x
 counted-bad (good zs) r out c code e = let a = c .answer in let z : _≡_ {A = ℕ} 0 1 = cc in absurd (omega arith)
-counted-bad (bad d) r out c code e = let a = c .answer in let z : code ≡ d = cc in ap Faulty z
+counted-bad (bad d) r out c code e = let a = c .answer in let z : code ≡ d = cc in ap Refused z
 
 -- ---- a turn of the loop, and its end
 
-module _ (w : Sources) (n m u s : ℕ) (h : n < m) where
+module _ (w : Sources) (n m : ℕ) (t : Tally) (h : n < m) where
   abbrev f : ℕ → RowRead
   f i = row-checked edition-1 w i
 
   left : m - n ≡ suc (m - (n + 1))
   left = omega arith
 
-  pub turn : (k : ℕ) → Spent k ≡ counted (f n) → (u′ s′ : ℕ) → u′ ≡ u + (512 - k) → s′ ≡ s + k → tally-rows f n (m - n) u s ≡ tally-rows f (n + 1) (m - (n + 1)) u′ s′
+  pub turn : (more : Tally) → Counts more ≡ counted (f n) → (t′ : Tally) → t′ ≡ plus t more → tally-rows f n (m - n) t ≡ tally-rows f (n + 1) (m - (n + 1)) t′
   unfolding tally-rows
-  turn k e u′ s′ p q =
-      let r = row-of (spill-read edition-1 _ w n) k e in
-      let a : u′ ≡ u + unspent (r .numbers) = omega (arith, r .long, r .spent-in, both-counts (r .numbers)) in
-      let b : s′ ≡ s + spent (r .numbers) = omega (arith, r .spent-in) in
-      rw left (ap (λ (x : RowRead). tally-row x u s (λ u′ s′. tally-rows f (n + 1) (m - (n + 1)) u′ s′)) (r .is) ∙ rw (a, b))
+  turn more e t′ p =
+      let r = row-of (spill-read edition-1 _ w n) more e in
+      let a : t′ ≡ plus t (figures (r .numbers)) = p ∙ ap (plus t) (r .figured) in
+      rw left (ap (λ (x : RowRead). tally-row x t (λ u. tally-rows f (n + 1) (m - (n + 1)) u)) (r .is) ∙ ap (λ (u : Tally). tally-rows f (n + 1) (m - (n + 1)) u) (sym a))
 
-  pub stop : (code : ℕ) → Faulty code ≡ counted (f n) → Refused code ≡ tally-rows f n (m - n) u s
+  pub stop : (code : ℕ) → Refused code ≡ counted (f n) → Refused code ≡ tally-rows f n (m - n) t
   unfolding tally-rows
   stop code e = rw left (by-row (f n) e)
     where
-      by-row : (x : RowRead) → Faulty code ≡ counted x → Refused code ≡ tally-row x u s (λ u′ s′. tally-rows f (n + 1) (m - (n + 1)) u′ s′)
-      by-row (good zs) e = absurd (no-spent code (spent zs) e)
+      by-row : (x : RowRead) → Refused code ≡ counted x → Refused code ≡ tally-row x t (λ u. tally-rows f (n + 1) (m - (n + 1)) u)
+      by-row (good zs) e = absurd (no-counts code (figures zs) e)
       by-row (bad d) e = let z : code ≡ d = cc in ap Refused z
 
-pub past : (w : Sources) (n m u s : ℕ) → m ≤ n → tally-rows (row-checked edition-1 w) n (m - n) u s ≡ Counts u s
+pub past : (w : Sources) (n m : ℕ) (t : Tally) → m ≤ n → tally-rows (row-checked edition-1 w) n (m - n) t ≡ Counts t
 unfolding tally-rows
-past w n m u s h = let z : m - n ≡ 0 = omega arith in rw z
+past w n m t h = let z : m - n ≡ 0 = omega arith in rw z
+
+-- ---- row by row, and as one list
+
+abbrev added : RowRead → Tally → Tallied
+added (bad code) t = Refused code
+added (good zs) t = Counts (plus t (figures zs))
+
+module _ (f : ℕ → RowRead) where
+  all-added : (n k : ℕ) (t : Tally) → tally-rows f n k t ≡ added (rows-up f n k) t
+  unfolding tally-rows rows-up
+  all-added n zero t = ap Counts (sym (plus-none t))
+  all-added n (suc k) t = by-row (f n) (λ u. all-added (n + 1) k u)
+    where
+      more : (zs : List ℤ) (x : RowRead) → added x (plus t (figures zs)) ≡ added (then-more zs x) t
+      more zs (bad code) = refl
+      more zs (good ys) = ap Counts (plus-assoc t (figures zs) (figures ys) ∙ ap (plus t) (sym (figures-append zs ys)))
+
+      by-row : (x : RowRead) → ((u : Tally) → tally-rows f (n + 1) k u ≡ added (rows-up f (n + 1) k) u)
+          → tally-row x t (λ u. tally-rows f (n + 1) k u) ≡ added (then-rows x (rows-up f (n + 1) k)) t
+      by-row (bad code) rest = refl
+      by-row (good zs) rest = rest (plus t (figures zs)) ∙ more zs (rows-up f (n + 1) k)
+
+  pub rows-then-head : (k : ℕ) (zs : List ℤ) → tally-rows f 0 k (figures zs) ≡ tally-over (rows-up f 0 k) zs
+  rows-then-head k zs = all-added 0 k (figures zs) ∙ by-rows (rows-up f 0 k)
+    where
+      by-rows : (x : RowRead) → added x (figures zs) ≡ tally-over x zs
+      by-rows (bad code) = refl
+      by-rows (good ys) = ap Counts (plus-comm (figures zs) (figures ys) ∙ sym (figures-append ys zs))
 
 -- ---- the ways out
 
@@ -107,7 +128,8 @@ module _ (w : Sources) (spills : ℤ) (zs : List ℤ) where
   unfolding tally-core
   tally-11 e f = rw (e, f)
 
-  pub tally-on : order-ok zs ≡ true → is-negative spills ≡ false → (n u s : ℕ) → n ≡ natAbs spills → u ≡ unspent zs → s ≡ spent zs
-      → (r : Tallied) → r ≡ tally-rows (row-checked edition-1 w) 0 n u s → r ≡ tally-core edition-1 w spills zs
+  pub tally-on : order-ok zs ≡ true → is-negative spills ≡ false → (n : ℕ) (t : Tally) → n ≡ natAbs spills → t ≡ figures zs
+      → (r : Tallied) → r ≡ tally-rows (row-checked edition-1 w) 0 n t → r ≡ tally-core edition-1 w spills zs
   unfolding tally-core
-  tally-on e f n u s a b c r q = rw (e, f, ← a, ← b, ← c) q
+  tally-on e f n t a b r q =
+      rw (e, f) (q ∙ (λ i. tally-rows (row-checked edition-1 w) 0 (a i) (b i)) ∙ rows-then-head (row-checked edition-1 w) (natAbs spills) zs)

@@ -1,10 +1,22 @@
--- What counting the entries of a row answers.
-use Rattle.entries.specs.Tally.{spent}
+-- What the steps of a tally answer.
+use Prim.Native.Nat.{ℕ, zero, suc, _+_}
+use Rattle.entries.specs.declared.Tally.{Tally}
+use Rattle.entries.specs.Tally.{figures, plus}
+use Rattle.buffer_core.specs.declared.Tallied.{Tallied}
+use Rattle.buffer_core.specs.declared.Tallied.the-variants.{Counts, Refused}
 use Rattle.buffer_core.specs.Edition.{RowRead, good, bad}
-use Rattle.tally_core.specs.declared.RowCount.{RowCount}
-use Rattle.tally_core.specs.declared.RowCount.the-variants.{Spent, Faulty}
 
--- how many entries of a row are spent, or the row's refusal code
-abbrev pub counted : RowRead → RowCount
-counted (good zs) = Spent (spent zs)
-counted (bad code) = Faulty code
+-- the figures of a row, or the row's refusal code
+abbrev pub counted : RowRead → Tallied
+counted (good zs) = Counts (figures zs)
+counted (bad code) = Refused code
+
+-- t has the entries counted so far
+abbrev pub tally-row : RowRead → Tally → (Tally → Tallied) → Tallied
+tally-row (bad code) t rest = Refused code
+tally-row (good zs) t rest = rest (plus t (figures zs))
+
+-- k rows from spill number n up, on top of them
+unfoldable pub tally-rows : (ℕ → RowRead) → (n k : ℕ) → Tally → Tallied
+tally-rows f n zero t = Counts t
+tally-rows f n (suc k) t = tally-row (f n) t (λ t′. tally-rows f (n + 1) k t′)

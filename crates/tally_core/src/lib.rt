@@ -1,28 +1,24 @@
 // Tally, once refusal 25 has passed: how many entries of a parent's boxes are unspent, and how many spent.
 ghost use mathlib.Core.Path.{_≡_};
 ghost use mathlib.Core.Bool.{true};
-ghost use Prim.Native.Nat.{_*_, _≤_, _<_};
+ghost use Prim.Native.Nat.{_+_, _*_, _≤_, _<_};
 ghost use lib.ListN.{length, take};
 ghost use Rattle.records.specs.Records.{keys};
 ghost use Rattle.records.specs.Find.{distinct};
 ghost use Rattle.buffer_core.specs.Edition.{edition-1};
 ghost use Rattle.buffer_core.specs.Spills.{sources};
 ghost use Rattle.buffer_core.specs.Flip.{row-checked};
-ghost use Rattle.buffer_core.specs.Tally.{tally-rows, tally-core};
+ghost use Rattle.buffer_core.specs.Tally.{tally-core};
 ghost use Rattle.flip_core.specs.Ready.{FlipReady};
-ghost use Rattle.tally_core.specs.Steps.{counted};
+ghost use Rattle.entries.specs.Tally.{plus};
+ghost use Rattle.tally_core.specs.Steps.{counted, tally-rows};
 use buffer_core::HeadCounts;
 use buffer_core::Tallied;
+use entries::Tally;
 use records::ListCounts;
 use spill_rows::Read;
 
-// How many entries of a row are spent, or the row's refusal code.
-pub enum RowCount {
-    Spent(usize),
-    Faulty(u8),
-}
-
-// Counts the entries of the row of a spill number.
+// The figures of the row of a spill number, or the row's refusal code.
 fn count_row<'a>(
     parent: &[u8; 32],
     number: usize,
@@ -31,7 +27,7 @@ fn count_row<'a>(
     table: &'a [u8],
     table_count: usize,
     hints: &[u16],
-) -> RowCount
+) -> Tallied
     requires { ⌜ («staged_count» * 10288 ≤ length (now staged)) × («table_count» * 10288 ≤ length (now table)) × (number < 2147483648)
         × (distinct (keys 10288 «table_count» (now table)) ≡ true) ⌝ }
     ensures { λ r. ⌜ r ≡ counted (row-checked edition-1 (sources (now (parent .entry)) (now (staged .entry)) «staged_count» (now (table .entry)) «table_count») number) ⌝ }
@@ -48,17 +44,29 @@ fn count_row<'a>(
         &mut row,
     );
     match read {
-        Read::Good => RowCount::Spent(entries::count_spent(&row, 512)),
-        Read::Faulty(code) => RowCount::Faulty(code),
+        Read::Good => Tallied::Counts(entries::tally_entries(&row, 512)),
+        Read::Faulty(code) => Tallied::Refused(code),
     }
 }
 
-// Counts the entries of all rows from spill 0 up, on top of those of the head.
+// The sums of two tallies' figures.
+fn plus(a: Tally, b: Tally) -> Tally
+    requires { ⌜ (a .unspent + b .unspent < 18446744073709551616) × (a .spent + b .spent < 18446744073709551616)
+        × (a .unknown + b .unknown < 18446744073709551616) ⌝ }
+    ensures { λ r. ⌜ r ≡ plus a b ⌝ }
+{
+    Tally {
+        unspent: a.unspent + b.unspent,
+        spent: a.spent + b.spent,
+        unknown: a.unknown + b.unknown,
+    }
+}
+
+// Counts the entries of all rows from spill 0 up, on top of those counted so far.
 fn count_rows<'a>(
     parent: &[u8; 32],
     spills: usize,
-    unspent: usize,
-    spent: usize,
+    so_far: Tally,
     staged: &'a [u8],
     staged_count: usize,
     table: &'a [u8],
@@ -66,49 +74,45 @@ fn count_rows<'a>(
     hints: &[u16],
 ) -> Tallied
     requires { ⌜ («staged_count» * 10288 ≤ length (now staged)) × («table_count» * 10288 ≤ length (now table)) × (spills < 2147483648)
-        × (unspent ≤ 512) × (spent ≤ 512) × (distinct (keys 10288 «table_count» (now table)) ≡ true) ⌝ }
-    ensures { λ r. ⌜ r ≡ tally-rows (row-checked edition-1 (sources (now (parent .entry)) (now (staged .entry)) «staged_count» (now (table .entry)) «table_count»)) 0 spills unspent spent ⌝ }
+        × («so_far» .unspent ≤ 512) × («so_far» .spent ≤ 512) × («so_far» .unknown ≤ 512) × (distinct (keys 10288 «table_count» (now table)) ≡ true) ⌝ }
+    ensures { λ r. ⌜ r ≡ tally-rows (row-checked edition-1 (sources (now (parent .entry)) (now (staged .entry)) «staged_count» (now (table .entry)) «table_count»)) 0 spills «so_far» ⌝ }
 {
-    let mut u = unspent;
-    let mut s = spent;
+    let mut t = so_far;
     let mut n = 0;
     while n < spills {
-        let count = count_row(parent, n, staged, staged_count, table, table_count, hints);
-        match count {
-            RowCount::Spent(k) => {
-                u += 512 - k;
-                s += k;
+        let row = count_row(parent, n, staged, staged_count, table, table_count, hints);
+        match row {
+            Tallied::Counts(more) => {
+                t = plus(t, more);
             }
-            RowCount::Faulty(code) => {
+            Tallied::Refused(code) => {
                 return Tallied::Refused(code);
             }
         }
         n += 1;
     }
-    Tallied::Counts(u, s)
+    Tallied::Counts(t)
 }
 
 // count_rows for a table of few records.
 fn count_few<'a>(
     parent: &[u8; 32],
     spills: usize,
-    unspent: usize,
-    spent: usize,
+    so_far: Tally,
     staged: &'a [u8],
     staged_count: usize,
     table: &'a [u8],
     table_count: usize,
 ) -> Tallied
     requires { ⌜ («staged_count» * 10288 ≤ length (now staged)) × («table_count» * 10288 ≤ length (now table)) × (spills < 2147483648)
-        × (unspent ≤ 512) × (spent ≤ 512) × (distinct (keys 10288 «table_count» (now table)) ≡ true) ⌝ }
-    ensures { λ r. ⌜ r ≡ tally-rows (row-checked edition-1 (sources (now (parent .entry)) (now (staged .entry)) «staged_count» (now (table .entry)) «table_count»)) 0 spills unspent spent ⌝ }
+        × («so_far» .unspent ≤ 512) × («so_far» .spent ≤ 512) × («so_far» .unknown ≤ 512) × (distinct (keys 10288 «table_count» (now table)) ≡ true) ⌝ }
+    ensures { λ r. ⌜ r ≡ tally-rows (row-checked edition-1 (sources (now (parent .entry)) (now (staged .entry)) «staged_count» (now (table .entry)) «table_count»)) 0 spills «so_far» ⌝ }
 {
     let none = [0u16; 1];
     count_rows(
         parent,
         spills,
-        unspent,
-        spent,
+        so_far,
         staged,
         staged_count,
         table,
@@ -121,24 +125,22 @@ fn count_few<'a>(
 fn count_many<'a>(
     parent: &[u8; 32],
     spills: usize,
-    unspent: usize,
-    spent: usize,
+    so_far: Tally,
     staged: &'a [u8],
     staged_count: usize,
     table: &'a [u8],
     table_count: usize,
 ) -> Tallied
     requires { ⌜ («staged_count» * 10288 ≤ length (now staged)) × («table_count» * 10288 ≤ length (now table)) × (spills < 2147483648)
-        × (unspent ≤ 512) × (spent ≤ 512) × (distinct (keys 10288 «table_count» (now table)) ≡ true) ⌝ }
-    ensures { λ r. ⌜ r ≡ tally-rows (row-checked edition-1 (sources (now (parent .entry)) (now (staged .entry)) «staged_count» (now (table .entry)) «table_count»)) 0 spills unspent spent ⌝ }
+        × («so_far» .unspent ≤ 512) × («so_far» .spent ≤ 512) × («so_far» .unknown ≤ 512) × (distinct (keys 10288 «table_count» (now table)) ≡ true) ⌝ }
+    ensures { λ r. ⌜ r ≡ tally-rows (row-checked edition-1 (sources (now (parent .entry)) (now (staged .entry)) «staged_count» (now (table .entry)) «table_count»)) 0 spills «so_far» ⌝ }
 {
     let mut hints = [0u16; 16384];
     record_hints::note_places(table, buffer_core::RECORD, table_count, &mut hints);
     count_rows(
         parent,
         spills,
-        unspent,
-        spent,
+        so_far,
         staged,
         staged_count,
         table,
@@ -151,23 +153,21 @@ fn count_many<'a>(
 fn count_spills<'a>(
     parent: &[u8; 32],
     spills: usize,
-    unspent: usize,
-    spent: usize,
+    so_far: Tally,
     staged: &'a [u8],
     staged_count: usize,
     table: &'a [u8],
     table_count: usize,
 ) -> Tallied
     requires { ⌜ («staged_count» * 10288 ≤ length (now staged)) × («table_count» * 10288 ≤ length (now table)) × (spills < 2147483648)
-        × (unspent ≤ 512) × (spent ≤ 512) × (distinct (keys 10288 «table_count» (now table)) ≡ true) ⌝ }
-    ensures { λ r. ⌜ r ≡ tally-rows (row-checked edition-1 (sources (now (parent .entry)) (now (staged .entry)) «staged_count» (now (table .entry)) «table_count»)) 0 spills unspent spent ⌝ }
+        × («so_far» .unspent ≤ 512) × («so_far» .spent ≤ 512) × («so_far» .unknown ≤ 512) × (distinct (keys 10288 «table_count» (now table)) ≡ true) ⌝ }
+    ensures { λ r. ⌜ r ≡ tally-rows (row-checked edition-1 (sources (now (parent .entry)) (now (staged .entry)) «staged_count» (now (table .entry)) «table_count»)) 0 spills «so_far» ⌝ }
 {
     if table_count <= 128 {
         return count_few(
             parent,
             spills,
-            unspent,
-            spent,
+            so_far,
             staged,
             staged_count,
             table,
@@ -177,8 +177,7 @@ fn count_spills<'a>(
     count_many(
         parent,
         spills,
-        unspent,
-        spent,
+        so_far,
         staged,
         staged_count,
         table,
@@ -208,12 +207,10 @@ pub fn tally<'a>(
     if signed::is_negative_i32(spills) {
         return Tallied::Refused(refusal::NEGATIVE_SPILL_COUNT);
     }
-    let spent = entries::count_spent(head, len);
     count_spills(
         parent,
         signed::usize_from_i32(spills),
-        len - spent,
-        spent,
+        entries::tally_entries(head, len),
         staged,
         staged_counts.count,
         table,

@@ -107,13 +107,14 @@ pub fn flushed(name: &[u8], answer: Flushed, staged: &[u8], table: &[u8], delete
     }
 }
 
-// How many entries are unspent and spent.
+// How many entries are unspent, spent and unknown.
 pub fn tallied(name: &[u8], answer: Tallied) {
     match answer {
-        Tallied::Counts(unspent, spent) => {
+        Tallied::Counts(tally) => {
             vector_line::accepted(name);
-            vector_line::number(unspent as u64);
-            vector_line::number(spent as u64);
+            vector_line::number(tally.unspent as u64);
+            vector_line::number(tally.spent as u64);
+            vector_line::number(tally.unknown as u64);
             vector_line::end();
         }
         Tallied::Refused(code) => vector_line::code_line(name, code),

@@ -248,9 +248,10 @@ impl History<'_> {
                         .boxes,
                 );
             }
-            let spent = entries.iter().filter(|n| **n < 0).count();
-            if counts != (entries.len() - spent, spent) {
-                return Err(format!("tally {counts:?}, {spent} spent of {}", entries.len()));
+            let many = |test: fn(&i64) -> bool| entries.iter().filter(|n| test(n)).count();
+            let counted = (many(|n| *n > 0), many(|n| *n < 0), many(|n| *n == 0));
+            if counts != counted {
+                return Err(format!("tally {counts:?}, counted {counted:?}"));
             }
         }
         Ok(())

@@ -230,10 +230,10 @@ impl Lists {
         }
     }
 
-    /// Unspent and spent entries.
-    pub fn tally(&self, parent: &Id, head: &Head) -> Result<(usize, usize), u8> {
+    /// Unspent, spent and unknown entries.
+    pub fn tally(&self, parent: &Id, head: &Head) -> Result<(usize, usize, usize), u8> {
         let (h, s, t) = (&head.numbers, &self.staged, &self.table);
-        let (mut unspent, mut spent) = (0, 0);
+        let (mut unspent, mut spent, mut unknown) = (0, 0, 0);
         let code = unsafe {
             ergo_index_tally(
                 parent.as_ptr(),
@@ -251,10 +251,11 @@ impl Lists {
                 t.bytes.len(),
                 &mut unspent,
                 &mut spent,
+                &mut unknown,
             )
         };
         match code {
-            0 => Ok((unspent, spent)),
+            0 => Ok((unspent, spent, unknown)),
             refused => Err(refused),
         }
     }

@@ -20,13 +20,13 @@ returns : tie.Need-returns
 returns c =
     let s = c .before .before .before .before .before .before in
     let a = s .args in
-    tally-done _ _ (rw (back w32 (a .spills) (s .fits .spills)) at (c .before .before .before .tally .ensures)) (now (a .unspent)) (now (a .spent)) _ _ (c .before .tallied .given .1)
+    tally-done _ _ (rw (back w32 (a .spills) (s .fits .spills)) at (c .before .before .before .tally .ensures)) (now (a .unspent)) (now (a .spent)) (now (a .unknown)) _ (c .before .tallied .given .1)
 
 returns-2 : tie.Need-returns-2
 returns-2 c =
     let s = c .before .before .before .before .before .before in
     let a = s .args in
-    tally-refused _ _ (rw (back w32 (a .spills) (s .fits .spills)) at (c .before .before .before .tally .ensures)) (now (a .unspent)) (now (a .spent)) _ (c .before .tallied2 .given .1)
+    tally-refused _ _ (rw (back w32 (a .spills) (s .fits .spills)) at (c .before .before .before .tally .ensures)) (now (a .unspent)) (now (a .spent)) (now (a .unknown)) _ (c .before .tallied2 .given .1)
 
 pub ergo-index-tally-spec : {M : Type 1} → statement M
 ergo-index-tally-spec =

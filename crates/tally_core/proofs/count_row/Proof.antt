@@ -14,18 +14,18 @@ read-checked-requires c κs = search needs
 enum-told : tie.Need-enum-told
 enum-told c = search needs
 
-slice-aggregate-count-spent : tie.Need-slice-aggregate-count-spent
-slice-aggregate-count-spent c = search needs
+slice-aggregate-tally-entries : tie.Need-slice-aggregate-tally-entries
+slice-aggregate-tally-entries c = search needs
 
-count-spent-requires : tie.Need-count-spent-requires
-count-spent-requires c κs = search needs
+tally-entries-requires : tie.Need-tally-entries-requires
+tally-entries-requires c κs = search needs
 
 enum-known-read : tie.Need-enum-known-read
 enum-known-read c = search needs
 
 returns : tie.Need-returns
 returns c =
-    counted-good _ _ _ (c .before .before .before .before .before .read-checked .ensures) (c .before .before .enum-told .given .1) _ (c .count-spent .ensures .0) (take-all 512 _ (search needs))
+    counted-good _ _ _ (c .before .before .before .before .before .read-checked .ensures) (c .before .before .enum-told .given .1) _ (c .tally-entries .ensures) (take-all 512 _ (search needs))
 
 returns-2 : tie.Need-returns-2
 returns-2 c = counted-bad _ _ _ (c .before .before .before .before .read-checked .ensures) _ (c .before .read .given .1)
@@ -37,8 +37,8 @@ count-row-spec =
     slice-aggregate-read-checked
     read-checked-requires
     enum-told
-    slice-aggregate-count-spent
-    count-spent-requires
+    slice-aggregate-tally-entries
+    tally-entries-requires
     enum-known-read
     returns
     returns-2)

@@ -10,9 +10,10 @@ use mir.Syntax.{w32}
 use borrow.Author.Tests.{not-true, not-false}
 use Rattle.signed.specs.Sign.{is-negative}
 use Rattle.signed.proofs.SignedLaws.{back}
+use Rattle.entries.proofs.TallyLaws.{adds-up}
 use Rattle.buffer_core.specs.Spills.{sources}
 use Rattle.buffer_core.proofs.HeadLaws.{spills-below}
-use Rattle.tally_core.proofs.TallyLaws.{tally-10, tally-11, tally-on, both-counts}
+use Rattle.tally_core.proofs.TallyLaws.{tally-10, tally-11, tally-on}
 use Rattle.tally_core.proofs.tally.Statement.{statement}
 use Rattle.tally_core.proofs.tally.Tie as tie
 
@@ -33,14 +34,11 @@ returns-2 c =
     let e = back w32 (a .counts .spills) (search needs) in
     tally-11 (sources (now (a .parent)) (now (a .staged)) (a .staged-counts .count) (now (a .table)) (a .table-counts .count)) (a .counts .spills) (take (a .counts .len) (now (a .head))) (sym (c .before .before .before .order-ok .ensures) ∙ not-false _ (c .before .before .if1 .left)) (ap is-negative (sym e) ∙ sym (c .before .is-negative-i32 .ensures) ∙ c .if2 .taken)
 
-count-spent-requires : tie.Need-count-spent-requires
-count-spent-requires c κs = search needs
-
 usize-from-i32-requires : tie.Need-usize-from-i32-requires
-usize-from-i32-requires c κs = sym (c .before .before .is-negative-i32 .ensures) ∙ c .before .if2 .left
+usize-from-i32-requires c κs = sym (c .before .is-negative-i32 .ensures) ∙ c .if2 .left
 
-sub-count-spills : tie.Need-sub-count-spills
-sub-count-spills c = search needs
+tally-entries-requires : tie.Need-tally-entries-requires
+tally-entries-requires c κs = search needs
 
 count-spills-requires : tie.Need-count-spills-requires
 count-spills-requires c κs =
@@ -48,12 +46,15 @@ count-spills-requires c κs =
     let a = s .args in
     let e = back w32 (a .counts .spills) (search needs) in
     let n = ap is-negative (sym e) ∙ sym (c .before .before .before .is-negative-i32 .ensures) ∙ c .before .before .if2 .left in
-    let k = c .before .count-spent .ensures .1 in (
+    let zs = take (a .counts .len) (now (a .head)) in
+    let t = length-take-le (a .counts .len) (now (a .head)) (omega (arith, s .pre .few, s .pre .long)) in
+    let k = c .tally-entries .ensures in (
       s .pre .bounds .within,
       s .pre .table-bounds .within,
-      spills-below (a .counts .spills) n (search needs) _ (c .usize-from-i32 .ensures ∙ ap natAbs e),
-      omega (arith, s .pre .few),
-      omega (arith, s .pre .few, k),
+      spills-below (a .counts .spills) n (search needs) _ (c .before .usize-from-i32 .ensures ∙ ap natAbs e),
+      rw k (omega (arith, s .pre .few, t, adds-up zs)),
+      rw k (omega (arith, s .pre .few, t, adds-up zs)),
+      rw k (omega (arith, s .pre .few, t, adds-up zs)),
       s .pre .apart,
     )
 
@@ -62,10 +63,10 @@ returns-3 c =
     let s = c .before .before .before .before .before .before .before .before .before .before in
     let a = s .args in
     let e = back w32 (a .counts .spills) (search needs) in
-    let q = c .before .before .count-spent .ensures in
-    let t = length-take-le (a .counts .len) (now (a .head)) (omega (arith, s .pre .few, s .pre .long)) in
-    tally-on (sources (now (a .parent)) (now (a .staged)) (a .staged-counts .count) (now (a .table)) (a .table-counts .count)) (a .counts .spills) (take (a .counts .len) (now (a .head))) (sym (c .before .before .before .before .before .before .order-ok .ensures) ∙ not-false _ (c .before .before .before .before .before .if1 .left)) (ap is-negative (sym e) ∙ sym (c .before .before .before .before .is-negative-i32 .ensures) ∙ c .before .before .before .if2 .left)
-    _ _ _ (c .before .usize-from-i32 .ensures ∙ ap natAbs e) (omega (arith, q .0, q .1, t, both-counts (take (a .counts .len) (now (a .head))))) (q .0) _ (c .count-spills .ensures)
+    tally-on (sources (now (a .parent)) (now (a .staged)) (a .staged-counts .count) (now (a .table)) (a .table-counts .count)) (a .counts .spills) (take (a .counts .len) (now (a .head)))
+    (sym (c .before .before .before .before .before .before .order-ok .ensures) ∙ not-false _ (c .before .before .before .before .before .if1 .left))
+    (ap is-negative (sym e) ∙ sym (c .before .before .before .before .is-negative-i32 .ensures) ∙ c .before .before .before .if2 .left)
+    _ _ (c .before .before .usize-from-i32 .ensures ∙ ap natAbs e) (c .before .tally-entries .ensures) _ (c .count-spills .ensures)
 
 pub tally-spec : {M : Type 1} → statement M
 tally-spec =
@@ -75,8 +76,7 @@ tally-spec =
     returns
     is-negative-i32-requires
     returns-2
-    count-spent-requires
     usize-from-i32-requires
-    sub-count-spills
+    tally-entries-requires
     count-spills-requires
     returns-3)
