@@ -60,6 +60,7 @@ extern "C" {
 #define ERGO_INDEX_UNDO_ENTRY_LEFT_OVER 30       /* bytes are left over behind an undo entry */
 #define ERGO_INDEX_UNKNOWN_CALL 31               /* a call of a batch is unknown; no result, see ERGO_INDEX_END_NO_CALL */
 #define ERGO_INDEX_OUTPUT_TOO_SHORT 32           /* the output is too short */
+#define ERGO_INDEX_NUMBER_PADDED 34              /* a coded number longer than one byte ends in 00; tested directly after 2 */
 
 /* ---- sizes */
 #define ERGO_INDEX_HEAD_LENGTH 512     /* numbers in a full head, and in a spilled row */
@@ -87,7 +88,7 @@ uint8_t ergo_index_append_tx_entry(const uint8_t parent[32], size_t *len, int32_
 
 /* Takes the last box number off the head. On an empty head the newest row becomes the head first: it leaves the staged spills, and its key joins the
  * deleted ones.
- * Refusals, in order: 25 (head, all three lists), 11; on an empty head: 19, 12, 1 to 6, 8, 20, 21.
+ * Refusals, in order: 25 (head, all three lists), 11; on an empty head: 19, 12, 1 to 6 or 34, 8, 20, 21.
  * Changes: *number, *len, *spills, head, *staged_count, staged, *deleted_count, deleted. */
 uint8_t ergo_index_pop_box_entry(const uint8_t parent[32], size_t *len, int32_t *spills, int64_t *head, size_t head_len,
                                  size_t *staged_count, size_t staged_capacity, uint8_t *staged, size_t staged_len,
@@ -101,7 +102,7 @@ uint8_t ergo_index_pop_tx_entry(const uint8_t parent[32], size_t *len, int32_t *
                                 size_t *deleted_count, size_t deleted_capacity, uint8_t *deleted, size_t deleted_len, int64_t *number);
 
 /* Marks one box as spent: an entry of the target's absolute value that is not negative is negated, in the head or else in a row, which is staged.
- * Refusals, in order: 25 (head, staged spills, table), 9, 10, 11; per row read: 12, 1 to 6, 8, 13; 16 at a match in the table; 14, 15.
+ * Refusals, in order: 25 (head, staged spills, table), 9, 10, 11; per row read: 12, 1 to 6 or 34, 8, 13; 16 at a match in the table; 14, 15.
  * Changes: head, *staged_count, staged. */
 uint8_t ergo_index_flip_box_segment_entry(const uint8_t parent[32], size_t len, int32_t spills, int64_t *head, size_t head_len, int64_t target,
                                           size_t *staged_count, size_t staged_capacity, uint8_t *staged, size_t staged_len,
@@ -113,7 +114,7 @@ uint8_t ergo_index_unflip_box_segment_entry(const uint8_t parent[32], size_t len
                                             size_t table_count, size_t table_capacity, const uint8_t *table, size_t table_len);
 
 /* Counts the entries of the boxes that are above 0 (unspent), below 0 (spent) and equal to 0 (unknown: 0 has no sign), over all rows and the head.
- * Refusals, in order: 25 (head, staged spills, table), 10, 11; per row from spill 0 up: 12, 1 to 6, 8, 13.
+ * Refusals, in order: 25 (head, staged spills, table), 10, 11; per row from spill 0 up: 12, 1 to 6 or 34, 8, 13.
  * Changes: *unspent, *spent, *unknown; together they are all entries. */
 uint8_t ergo_index_tally(const uint8_t parent[32], size_t len, int32_t spills, const int64_t *head, size_t head_len,
                          size_t staged_count, size_t staged_capacity, const uint8_t *staged, size_t staged_len,
@@ -187,7 +188,7 @@ void ergo_index_tx_segment_id(const uint8_t parent[32], int32_t number, uint8_t 
 uint8_t ergo_index_put_i64(int64_t n, uint8_t *out, size_t out_len, size_t *at);
 uint8_t ergo_index_put_i32(int32_t n, uint8_t *out, size_t out_len, size_t *at);
 
-/* Reads the number at *at and moves *at behind it. Refusals, byte by byte: 1, 2. Changes: *at, *n. */
+/* Reads the number at *at and moves *at behind it. Refusals, byte by byte: 1, 2, then 34. Changes: *at, *n. */
 uint8_t ergo_index_get_i64(const uint8_t *src, size_t src_len, size_t *at, int64_t *n);
 uint8_t ergo_index_get_i32(const uint8_t *src, size_t src_len, size_t *at, int32_t *n);
 
@@ -200,7 +201,7 @@ uint8_t ergo_index_write_segment(const int64_t *txs, size_t txs_len, size_t n_tx
                                  int32_t box_segment_count, int32_t tx_segment_count, uint8_t *out, size_t out_len, size_t *at);
 
 /* Reads a row that takes up all its bytes into two lists of at least 512 numbers; zeros follow the numbers up to 512.
- * Refusals, in order: 25 (row above 10,254 bytes, a list shorter than 512), 1 to 6, 8.
+ * Refusals, in order: 25 (row above 10,254 bytes, a list shorter than 512), 1 to 6 or 34, 8.
  * Changes: txs, *n_txs, boxes, *n_boxes, *box_segment_count, *tx_segment_count. */
 uint8_t ergo_index_read_persisted_segment(const uint8_t *row, size_t row_len, int64_t *txs, size_t txs_len, size_t *n_txs,
                                           int64_t *boxes, size_t boxes_len, size_t *n_boxes,
@@ -216,7 +217,7 @@ uint8_t ergo_index_write_indexed_address(const uint8_t hash[32], bool has_balanc
                                          int32_t box_segment_count, int32_t tx_segment_count, uint8_t *out, size_t out_len, size_t *at);
 
 /* Reads an address record that takes up all its bytes. Zeros follow the tokens up to 128 and the numbers up to 512.
- * Refusals, in order: 25 (record above 15,675 bytes, a list shorter than 512), then 1 to 8 and 24 as the record is read.
+ * Refusals, in order: 25 (record above 15,675 bytes, a list shorter than 512), then 1 to 8, 24 and 34 as the record is read.
  * Changes: every out and both lists. */
 uint8_t ergo_index_read_indexed_address(const uint8_t *row, size_t row_len, uint8_t hash[32], bool *has_balance, uint8_t ids[4096],
                                         int64_t amounts[128], size_t *count, int64_t *nanos, int64_t *txs, size_t txs_len, size_t *n_txs,

@@ -87,7 +87,7 @@ impl<'a> VlqReader<'a> {
         self.at == self.src.len()
     }
 
-    /// Reads a signed 64-bit number. Refused by 1, 2.
+    /// Reads a signed 64-bit number. Refused by 1, 2, 34.
     pub fn get_i64(&mut self) -> Result<i64, Refusal> {
         let mut n = 0;
         // SAFETY: the pointer and the length are those of the slice; the outs are a field and a local.
@@ -95,7 +95,7 @@ impl<'a> VlqReader<'a> {
         Ok(n)
     }
 
-    /// Reads a signed 32-bit number. Refused by 1, 2.
+    /// Reads a signed 32-bit number. Refused by 1, 2, 34.
     pub fn get_i32(&mut self) -> Result<i32, Refusal> {
         let mut n = 0;
         // SAFETY: as in `get_i64`.

@@ -66,7 +66,7 @@ impl IndexedAddress {
         out
     }
 
-    /// An address from its record. Refused by 25, 1 to 8, 24.
+    /// An address from its record. Refused by 25, 1 to 8, 24, 34.
     pub fn from_bytes(row: &[u8]) -> Result<Self, Refusal> {
         let mut hash = [0; 32];
         let mut has_balance = false;

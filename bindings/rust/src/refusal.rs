@@ -80,9 +80,11 @@ pub enum Refusal {
     UnknownCall = 31,
     /// 32: the output is too short.
     OutputTooShort = 32,
+    /// 34: a coded number longer than one byte ends in 00.
+    NumberPadded = 34,
 }
 
-const ALL: [Refusal; 32] = [
+const ALL: [Refusal; 33] = [
     Refusal::BytesEnd,
     Refusal::NumberTooLarge,
     Refusal::NegativeLength,
@@ -115,6 +117,7 @@ const ALL: [Refusal; 32] = [
     Refusal::UndoEntryLeftOver,
     Refusal::UnknownCall,
     Refusal::OutputTooShort,
+    Refusal::NumberPadded,
 ];
 
 impl Refusal {
@@ -125,7 +128,7 @@ impl Refusal {
 
     /// The refusal of a number, if there is one.
     pub fn from_code(code: u8) -> Option<Refusal> {
-        ALL.get(usize::from(code).checked_sub(1)?).copied()
+        ALL.iter().copied().find(|refusal| refusal.code() == code)
     }
 
     /// What the refusal says, in a few words.
@@ -163,6 +166,7 @@ impl Refusal {
             Refusal::UndoEntryLeftOver => "bytes are left over behind an undo entry",
             Refusal::UnknownCall => "a call of the runner is unknown or cut",
             Refusal::OutputTooShort => "the output is too short",
+            Refusal::NumberPadded => "a coded number longer than one byte ends in 00",
         }
     }
 }
@@ -189,9 +193,9 @@ mod tests {
 
     #[test]
     fn numbers_and_names_agree() {
-        for (i, refusal) in ALL.iter().enumerate() {
-            assert_eq!(usize::from(refusal.code()), i + 1);
-            assert_eq!(Refusal::from_code(refusal.code()), Some(*refusal));
+        assert!(ALL.iter().map(|refusal| refusal.code()).eq((1..=32).chain([34])));
+        for refusal in ALL {
+            assert_eq!(Refusal::from_code(refusal.code()), Some(refusal));
         }
         assert_eq!(Refusal::from_code(0), None);
         assert_eq!(Refusal::from_code(33), None);

@@ -195,7 +195,7 @@ impl Segment {
         Segment { parent, boxes: Head::empty(), txs: Head::empty() }
     }
 
-    /// A parent's segment from its row, as [`Segment::to_row`] writes it. Refused by 25, 1 to 6, 8.
+    /// A parent's segment from its row, as [`Segment::to_row`] writes it. Refused by 25, 1 to 6 or 34, 8.
     pub fn from_row(parent: [u8; 32], row: &[u8]) -> Result<Self, Refusal> {
         let mut segment = Segment::new(parent);
         decode_segment(row, &mut segment)?;
@@ -242,7 +242,7 @@ impl Segment {
         append(ffi::ergo_index_append_tx_entry, &self.parent, &mut self.txs, number.0, staged)
     }
 
-    /// Takes the last box entry off; on an empty head the newest row becomes the head first. Refused by 25, 11; on an empty head 19, 12, 1 to 6, 8,
+    /// Takes the last box entry off; on an empty head the newest row becomes the head first. Refused by 25, 11; on an empty head 19, 12, 1 to 6 or 34, 8,
     /// 20, 21.
     pub fn pop_box_entry(&mut self, staged: &mut StagedSpills, table: &SegmentTable, deleted: &mut DeletedSpills) -> Result<BoxNumber, Refusal> {
         pop(ffi::ergo_index_pop_box_entry, &self.parent, &mut self.boxes, staged, table, deleted).map(BoxNumber)

@@ -1,18 +1,22 @@
--- What write_indexed_address wrote, read_indexed_address reads.
+-- What write_indexed_address wrote, read_indexed_address reads; and what that one accepted is written as it was.
 use Prim.Native.Nat.{ℕ, zero, suc, _*_, _-_, _≤_}
-use mathlib.Core.Path.{_≡_, sym, ap, _∙_}
-use mathlib.Core.Bool.{Bool, false}
+use mathlib.Core.Path.{_≡_, refl, sym, ap, subst, _∙_}
+use mathlib.Core.Bool.{Bool, true, false, cond, _&&_}
 use mathlib.Core.List.{List, [], _∷_}
 use native.Mathlib.Omega.{arith}
+use lib.Dec.{leb}
 use lib.IntN.{ℤ}
 use lib.ListN.{length, take, drop}
 use lib.Seq.{length-take-le}
+use borrow.Author.Tests.{leb-true}
 use mir.Syntax.{w32, w64}
 use mir.Val.{SFits}
 use Rattle.stores.specs.Stores.{write}
 use Rattle.signed.specs.Sign.{is-negative}
 use Rattle.refusal.specs.declared.Answer.the-variants.{Accepted}
 use Rattle.vlq_core.specs.declared.Wrote.the-variants.{Next}
+use Rattle.vlq_core.specs.Writing.{Written, put-bytes}
+use Rattle.vlq_core.proofs.UniqueLaws.{Bytes}
 use Rattle.segment_core.specs.Row.{row-bytes}
 use Rattle.segment_core.specs.Loading.{padded}
 use Rattle.segment_core.proofs.BackLaws.{All64, Writable}
@@ -20,9 +24,10 @@ use Rattle.segment.proofs.CallLaws.{answered}
 use Rattle.balance.specs.declared.Balance.{Balance}
 use Rattle.address_core.specs.Bytes.{address-bytes}
 use Rattle.address_core.specs.Writing.{buffers-ok, write-address}
-use Rattle.address_core.specs.Loading.{loading, address-of, read-address}
+use Rattle.address_core.specs.Loading.{AddressLoading, loading, address-of, refused-with, load-address, read-address}
 use Rattle.address_core.proofs.BytesLaws.{address-taken}
-use Rattle.address_core.proofs.WriteLaws.{write-passed}
+use Rattle.address_core.proofs.WriteLaws.{write-passed, write-on}
+use Rattle.address_core.proofs.UniqueLaws.{content, content-bytes, content-only, Again, again}
 use Rattle.address_core.proofs.BackLaws as record-laws
 
 -- what the types of the arguments say of them: a hash of 32 bytes, a balance of 128 places, numbers of 64 and spill counts of 32 signed bits
@@ -83,3 +88,46 @@ module _ (hash : List ℕ) (has : Bool) (bal : Balance) (ts : List ℤ) (n : ℕ
       ∙ ap (λ (x : ℕ). address-bytes hash has (bal .nanos) (take (x * 32) (bal .ids)) zs row) size in
       ap (λ (x : List ℕ). read-address x xs ys) (a .1)
       ∙ record-laws.round-trip hash (f .hash-size) has (bal .nanos) (take (k * 32) (bal .ids)) zs holds (take n ts) (take m bs) b t w xs ys i j s same
+
+-- ---- what was read
+
+abbrev Accepts : List ℕ → List ℤ → List ℤ → Type 0
+Accepts s l m = read-address s l m .answer .answer ≡ Accepted
+
+-- an accepted call has passed the tests of 25
+passed-on : (s : List ℕ) (l m : List ℤ) → Accepts s l m → (512 ≤ length l) × (512 ≤ length m) × (read-address s l m ≡ load-address s l m)
+unfolding read-address
+passed-on s l m e = by-tests (leb (length s) 15675) (leb 512 (length l)) (leb 512 (length m)) refl refl e
+  where
+    by-tests : (p q r : Bool) → leb 512 (length l) ≡ q → leb 512 (length m) ≡ r → cond (p && (q && r)) (load-address s l m) (loading (refused-with 25) l m) .answer .answer ≡ Accepted
+        → (512 ≤ length l) × (512 ≤ length m) × (cond (p && (q && r)) (load-address s l m) (loading (refused-with 25) l m) ≡ load-address s l m)
+    by-tests true true true a b e = (leb-true 512 (length l) a, leb-true 512 (length m) b, refl)
+    by-tests true true false a b e = let x : _≡_ {A = ℕ} 0 1 = cc in absurd (omega arith)
+    by-tests true false r a b e = let x : _≡_ {A = ℕ} 0 1 = cc in absurd (omega arith)
+    by-tests false q r a b e = let x : _≡_ {A = ℕ} 0 1 = cc in absurd (omega arith)
+
+accepted-again : (s : List ℕ) → Bytes s → (l m : List ℤ) → Accepts s l m → Again s (read-address s l m)
+accepted-again s all l m e =
+    let p = passed-on s l m e in
+    subst (Again s) (sym (p .2)) (again s all l m (p .0) (p .1) (sym (ap (λ (w : AddressLoading). w .answer .answer) (p .2)) ∙ e))
+
+-- the call that writes what was read
+abbrev pub write-again : AddressLoading → List ℕ → ℕ → Written
+write-again w out at =
+    write-address (w .answer .address .hash) (w .answer .address .«has_balance») (w .answer .address .balance .nanos) (w .answer .address .balance .ids) (w .answer .address .balance .amounts)
+    (w .answer .address .balance .count) (w .txs) (w .answer .address .txs) (w .boxes) (w .answer .address .boxes) (w .answer .address .«box_segment_count») (w .answer .address .«tx_segment_count») out at
+
+-- a record that was read and is written again is the same record
+pub rewritten : (s : List ℕ) → Bytes s → (l m : List ℤ) → Accepts s l m → (out : List ℕ) (at : ℕ) → write-again (read-address s l m) out at ≡ put-bytes s out at
+rewritten s all l m e out at =
+    let x = accepted-again s all l m e in
+    sym (write-on _ _ _ _ _ _ _ _ _ _ _ _ out at (x .taken)) ∙ ap (λ (y : List ℕ). put-bytes y out at) (sym (x .same))
+
+-- two accepted records are equal in bytes exactly when their contents are
+module _ (s s′ : List ℕ) (l m l′ m′ : List ℤ) (e : Accepts s l m) (e′ : Accepts s′ l′ m′) where
+  pub same-bytes : Bytes s → Bytes s′ → content (read-address s l m) ≡ content (read-address s′ l′ m′) → s ≡ s′
+  same-bytes all all′ h = accepted-again s all l m e .same ∙ ap content-bytes h ∙ sym (accepted-again s′ all′ l′ m′ e′ .same)
+
+  pub same-content : s ≡ s′ → content (read-address s l m) ≡ content (read-address s′ l′ m′)
+  same-content h =
+      ap content (passed-on s l m e .2) ∙ content-only s l m l′ m′ ∙ ap (λ (x : List ℕ). content (load-address x l′ m′)) h ∙ sym (ap content (passed-on s′ l′ m′ e′ .2))

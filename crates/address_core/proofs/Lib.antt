@@ -5,3 +5,4 @@ pub mod TokenLaws
 pub mod CountLaws
 pub mod LoadLaws
 pub mod BackLaws
+pub mod UniqueLaws

@@ -40,11 +40,11 @@ module _ (s : List ℕ) (at place : ℕ) (ids₀ : List ℕ) (zs₀ : List ℤ) 
     token-done z x n e q ids p = rw (h, long-number (token (take 32 (drop at s))) no-token (read-at 64 s (at + 32)) z n e) (refl, p, ap (set zs₀ place) q)
 
 -- an id has 32 bytes
-abbrev Sized : Token → Type 0
+abbrev pub Sized : Token → Type 0
 Sized (token id z n) = length id ≡ 32
 Sized (no-token r) = Unit
 
-sized : (s : List ℕ) (at : ℕ) → Sized (token-at s at)
+pub sized : (s : List ℕ) (at : ℕ) → Sized (token-at s at)
 unfolding token-at
 sized s at = by-room (leb (at + 32) (length s)) refl
   where

@@ -26,7 +26,7 @@ use Rattle.records.proofs.TurnLaws.{found-in}
 use Rattle.segment_id.specs.Key.{row-key}
 use Rattle.segment_id.specs.declared.Kind.the-variants.{Box}
 use Rattle.segment_core.specs.Reading.{Seg, seg, no-seg, segment-at, ended, row-of}
-use Rattle.segment_core.proofs.CodecLaws.{segment-refusals, row-within}
+use Rattle.segment_core.proofs.CodecLaws.{Few, segment-refusals, row-within}
 use Rattle.buffer_core.specs.declared.HeadCounts.{HeadCounts}
 use Rattle.buffer_core.specs.declared.Direction.{Direction}
 use Rattle.buffer_core.specs.declared.Flipped.the-variants.{Done, Refused}
@@ -44,9 +44,9 @@ use Rattle.buffer_core.specs.Flip.{check-row, first-of, last-in, lead-of, half,
 use Rattle.spill_rows.proofs.SpillLaws.{row-most}
 use Rattle.spill_rows.proofs.CheckedLaws.{nope}
 
--- the refusals of reading a row, 1 to 6 and 8, or those from a to b
+-- the refusals of reading a row, 1 to 6, 34 and 8, or those from a to b
 abbrev pub Code : (a b : ℕ) → ℕ → Type 0
-Code a b r = ((1 ≤ r) × (r ≤ 6)) ⊎ ((r ≡ 8) ⊎ ((a ≤ r) × (r ≤ b)))
+Code a b r = Few 6 r ⊎ ((r ≡ 8) ⊎ ((a ≤ r) × (r ≤ b)))
 
 -- of a row that is read, and of a flip
 abbrev pub RowCode : ℕ → Type 0
@@ -60,11 +60,11 @@ own a b r h k = inr (inr (h, k))
 
 wider : (r : ℕ) → RowCode r → FlipCode r
 wider r c =
-    ⊎-elim (λ (p : (1 ≤ r) × (r ≤ 6)). inl p)
+    ⊎-elim (λ (p : Few 6 r). inl p)
     (λ (q : (r ≡ 8) ⊎ ((12 ≤ r) × (r ≤ 13))). inr (⊎-elim (λ (e : r ≡ 8). inl e) (λ (p : (12 ≤ r) × (r ≤ 13)). inr (omega (arith, p .0), omega (arith, p .1))) q)) c
 
 pub not-15 : RowCode 15 → ⊥
-not-15 c = ⊎-elim (λ (p : (1 ≤ 15) × (15 ≤ 6)). omega (arith, p .1)) (λ (q : (15 ≡ 8) ⊎ ((12 ≤ 15) × (15 ≤ 13))). ⊎-elim (λ (e : 15 ≡ 8). omega arith) (λ (p : (12 ≤ 15) × (15 ≤ 13)). omega (arith, p .1)) q) c
+not-15 c = ⊎-elim (λ (x : Few 6 15). ⊎-elim (λ (p : (1 ≤ 15) × (15 ≤ 6)). omega (arith, p .1)) (λ (e : 15 ≡ 34). omega arith) x) (λ (q : (15 ≡ 8) ⊎ ((12 ≤ 15) × (15 ≤ 13))). ⊎-elim (λ (e : 15 ≡ 8). omega arith) (λ (p : (12 ≤ 15) × (15 ≤ 13)). omega (arith, p .1)) q) c
 
 -- ---- a row
 

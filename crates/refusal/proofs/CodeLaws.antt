@@ -12,5 +12,5 @@ number-at first (suc n) zero h = omega arith
 number-at first (suc n) (suc i) h = number-at (first + 1) n i (omega arith) ∙ omega arith
 
 -- the code of a refusal is not that of an accepted call
-pub no-code-is-0 : (i : ℕ) → i < 32 → 0 < getD (numbers-from 1 32) i 0
-no-code-is-0 i h = omega (arith, number-at 1 32 i h)
+pub no-code-is-0 : (i : ℕ) → i < 41 → 0 < getD (numbers-from 1 41) i 0
+no-code-is-0 i h = omega (arith, number-at 1 41 i h)

@@ -1,4 +1,4 @@
--- The answers' numbers of document 01, and `tolerate_secondary_drift` ("Beside the spend").
+-- The answers' numbers of documents 01 and 02, and `tolerate_secondary_drift` ("Beside the spend").
 use Prim.Native.Nat.{ℕ, zero, suc, _+_}
 use mathlib.Core.Bool.{cond}
 use mathlib.Core.List.{List, [], _∷_}
@@ -13,7 +13,7 @@ abbrev pub code-of : Answer → ℕ
 code-of Accepted = 0
 code-of (Refused code) = code
 
--- n numbers in a row; the refusals are 32 from 1 on
+-- n numbers in a row; the refusals are 41 from 1 on
 unfoldable pub numbers-from : (first n : ℕ) → List ℕ
 numbers-from first zero = []
 numbers-from first (suc n) = first ∷ numbers-from (first + 1) n

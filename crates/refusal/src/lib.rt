@@ -1,4 +1,4 @@
-// The refusal codes of document 01 ("Where a call is turned back"), each by a name, and the answer of a call that returns nothing else.
+// The refusal codes of documents 01 ("Where a call is turned back") and 02, each by a name, and the answer of a call that returns nothing else.
 ghost use mathlib.Core.Path.{_≡_};
 ghost use Rattle.refusal.specs.Refusal.{tolerated, numbers-from};
 
@@ -75,9 +75,34 @@ pub const UNKNOWN_CALL: u8 = 31;
 // Writing.
 pub const OUTPUT_TOO_SHORT: u8 = 32;
 
-// Holds the constants to their numbers, 1 to 32: none is 0, which stands for an accepted call. Nothing calls it.
-fn codes() -> [u8; 32]
-    ensures { λ r. ⌜ r ≡ numbers-from 1 32 ⌝ }
+// Pages.
+pub const PAGE_TOO_LONG: u8 = 33;
+
+// Coded numbers: a number longer than one byte whose last byte is 00; tested directly after 2.
+pub const NUMBER_PADDED: u8 = 34;
+
+// Rows that say whose they are.
+pub const ROW_OF_ANOTHER_SPILL: u8 = 35;
+
+// Summaries.
+pub const SUMMARY_TOO_SHORT: u8 = 36;
+
+// The flat list.
+pub const FLAT_LIST_FULL: u8 = 37;
+
+// The generator and the simulation.
+pub const STATE_IS_ZERO: u8 = 38;
+
+pub const FORK_TOO_DEEP: u8 = 39;
+
+pub const STANDING_CALLS_FULL: u8 = 40;
+
+// The order of addresses.
+pub const TOKEN_TWICE: u8 = 41;
+
+// Holds the constants to their numbers, 1 to 41: none is 0, which stands for an accepted call. Nothing calls it.
+fn codes() -> [u8; 41]
+    ensures { λ r. ⌜ r ≡ numbers-from 1 41 ⌝ }
 {
     [
         BYTES_END,
@@ -112,6 +137,15 @@ fn codes() -> [u8; 32]
         UNDO_ENTRY_LEFT_OVER,
         UNKNOWN_CALL,
         OUTPUT_TOO_SHORT,
+        PAGE_TOO_LONG,
+        NUMBER_PADDED,
+        ROW_OF_ANOTHER_SPILL,
+        SUMMARY_TOO_SHORT,
+        FLAT_LIST_FULL,
+        STATE_IS_ZERO,
+        FORK_TOO_DEEP,
+        STANDING_CALLS_FULL,
+        TOKEN_TWICE,
     ]
 }
 

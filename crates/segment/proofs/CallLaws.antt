@@ -1,4 +1,4 @@
--- Laws of the calls on segment rows: one for each way out, and that what was written is read back.
+-- Laws of the calls on segment rows: one for each way out, that what was written is read back, and that what was read is written as it was.
 use Prim.Native.Nat.{ℕ, _+_, _-_, _≤_, _<_}
 use mathlib.Core.Path.{_≡_, refl, sym, ap, _∙_}
 use mathlib.Core.Bool.{Bool, true, false, _&&_, cond}
@@ -12,12 +12,14 @@ use borrow.Author.Tests.{le-leb, lt-leb, leb-true}
 use Rattle.stores.specs.Stores.{write}
 use Rattle.vlq_core.specs.declared.Wrote.the-variants as wrote
 use Rattle.vlq_core.specs.Writing.{written, put-bytes}
+use Rattle.vlq_core.proofs.UniqueLaws.{Bytes}
 use Rattle.segment_core.specs.declared.Loaded.the-variants as loaded
 use Rattle.segment_core.specs.Row.{row-bytes, row-limit}
 use Rattle.segment_core.specs.Reading.{Seg, seg, no-seg, segment-at, ended, row-of}
-use Rattle.segment_core.specs.Loading.{loading, load}
+use Rattle.segment_core.specs.Loading.{loading, padded, load}
 use Rattle.segment_core.proofs.BackLaws.{Writable}
-use Rattle.segment_core.proofs.CodecLaws.{row-within, row-back}
+use Rattle.segment_core.proofs.CodecLaws.{row-within, row-back, row-writable}
+use Rattle.segment_core.proofs.UniqueLaws.{row-unique, listed, listed-size}
 use Rattle.segment.specs.Calls.{held, write-of, read-of}
 
 -- ---- writing
@@ -110,3 +112,31 @@ round-trip ts n bs m b t l at k e w xs ys f g =
     let a = answered s l at k (held n (length ts) && held m (length bs)) e in
     ap (λ (x : List ℕ). read-of row-limit x xs ys) (a .1) ∙ sym (read-row row-limit s xs ys f g)
     ∙ ap (λ (x : Seg). load x xs ys) (row-back row-limit (omega arith) (take n ts) (take m bs) b t w ∙ ap (seg (take n ts) (take m bs) b t) (sym (a .0)))
+
+-- ---- a row that was read and is written again is the same row
+
+pub held-listed : (zs l : List ℤ) → length zs ≤ 512 → 512 ≤ length l → held (length zs) (length (write 0 (padded zs) l)) ≡ true
+held-listed zs l h k = rw (listed-size zs l h k, le-leb (length zs) 512 h, le-leb (length zs) (length l) (omega arith)) refl
+
+pub rewritten : (limit : ℕ) (s : List ℕ) → Bytes s → (l m : List ℤ) (i j : ℕ) (b t : ℤ) (n : ℕ) → read-of limit s l m .answer ≡ loaded.Read i j b t n
+    → (out : List ℕ) (at : ℕ) → write-of (read-of limit s l m .txs) i (read-of limit s l m .boxes) j b t out at ≡ put-bytes s out at
+unfolding read-of write-of
+rewritten limit s all l m i j b t n e out at = by-lists (leb 512 (length l)) (leb 512 (length m)) refl refl e
+  where
+    by-row : 512 ≤ length l → 512 ≤ length m → (g : Seg) → row-of limit s ≡ g → load g l m .answer ≡ loaded.Read i j b t n
+        → write-of (load g l m .txs) i (load g l m .boxes) j b t out at ≡ put-bytes s out at
+    by-row h k (seg ts bs b′ t′ n′) g e =
+        let w = row-writable limit s ts bs b′ t′ n′ g in
+        let i′ : i ≡ length ts = cc in
+        let j′ : j ≡ length bs = cc in
+        let b″ : b ≡ b′ = cc in
+        let t″ : t ≡ t′ = cc in
+        rw (i′, j′, b″, t″, held-listed ts l (w .txs-few) h, held-listed bs m (w .boxes-few) k, listed ts l, listed bs m)
+        (ap (λ (x : List ℕ). put-bytes x out at) (sym (row-unique s all limit ts bs b′ t′ n′ g)))
+    by-row h k (no-seg r) g e = let x : _≡_ {A = ℕ} 0 1 = cc in absurd (omega arith)
+
+    by-lists : (p q : Bool) → leb 512 (length l) ≡ p → leb 512 (length m) ≡ q → load (cond (p && q) (row-of limit s) (no-seg 25)) l m .answer ≡ loaded.Read i j b t n
+        → write-of (load (cond (p && q) (row-of limit s) (no-seg 25)) l m .txs) i (load (cond (p && q) (row-of limit s) (no-seg 25)) l m .boxes) j b t out at ≡ put-bytes s out at
+    by-lists true true x y e = by-row (leb-true 512 (length l) x) (leb-true 512 (length m) y) (row-of limit s) refl e
+    by-lists true false x y e = let z : _≡_ {A = ℕ} 0 1 = cc in absurd (omega arith)
+    by-lists false q x y e = let z : _≡_ {A = ℕ} 0 1 = cc in absurd (omega arith)

@@ -7,11 +7,7 @@ ghost use Rattle.segment.specs.Calls.{held, write-of, read-of};
 use segment_core::Loaded;
 use segment_core::ROW_LIMIT;
 use segment_core::SEGMENT_THRESHOLD;
-use vlq_core::REFUSED_OUTPUT_SHORT;
 use vlq_core::Wrote;
-
-// A buffer's stated size is above its limit, or above what was borrowed.
-pub const REFUSED_BUFFER: u8 = 25;
 
 // Whether n numbers are within 512 and within a borrowed list of len.
 fn is_held(n: usize, len: usize) -> bool
@@ -39,10 +35,10 @@ pub fn write_segment(
         ≡ write-of (now (txs .entry)) «n_txs» (now (boxes .entry)) «n_boxes» «box_segment_count» «tx_segment_count» (now (out .entry)) at ⌝ }
 {
     if !is_held(n_txs, txs.len()) {
-        return Wrote::Refused(REFUSED_BUFFER);
+        return Wrote::Refused(refusal::BUFFERS);
     }
     if !is_held(n_boxes, boxes.len()) {
-        return Wrote::Refused(REFUSED_BUFFER);
+        return Wrote::Refused(refusal::BUFFERS);
     }
     if vlq_core::has_room(out.len(), at, ROW_LIMIT) {
         return Wrote::Next(segment_core::emit_segment(
@@ -65,7 +61,7 @@ pub fn write_segment(
         tx_segment_count,
     );
     if !vlq_core::has_room(out.len(), at, n) {
-        return Wrote::Refused(REFUSED_OUTPUT_SHORT);
+        return Wrote::Refused(refusal::OUTPUT_TOO_SHORT);
     }
     Wrote::Next(segment_core::emit_segment(
         txs,
@@ -84,13 +80,13 @@ pub fn read_persisted_segment(row: &[u8], txs: &mut [i64], boxes: &mut [i64]) ->
     ensures { λ r. ⌜ loading r (now (txs .exit)) (now (boxes .exit)) ≡ read-of row-limit (now (row .entry)) (now (txs .entry)) (now (boxes .entry)) ⌝ }
 {
     if ROW_LIMIT < row.len() {
-        return Loaded::Refused(REFUSED_BUFFER);
+        return Loaded::Refused(refusal::BUFFERS);
     }
     if txs.len() < SEGMENT_THRESHOLD {
-        return Loaded::Refused(REFUSED_BUFFER);
+        return Loaded::Refused(refusal::BUFFERS);
     }
     if boxes.len() < SEGMENT_THRESHOLD {
-        return Loaded::Refused(REFUSED_BUFFER);
+        return Loaded::Refused(refusal::BUFFERS);
     }
     segment_core::read_last_segment(row, 0, txs, boxes)
 }

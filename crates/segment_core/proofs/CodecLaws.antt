@@ -52,12 +52,15 @@ row-size ts bs b t w =
 
 -- ---- what reading gives: accepted, it is writable and lies within the bytes; refused, the number is one of a few
 
--- a refusal from 1 to m
-abbrev Few : ℕ → ℕ → Type 0
-Few m r = (1 ≤ r) × (r ≤ m)
+-- a refusal from 1 to m, or 34
+abbrev pub Few : ℕ → ℕ → Type 0
+Few m r = ((1 ≤ r) × (r ≤ m)) ⊎ (r ≡ 34)
 
-one-or-two : (m r : ℕ) → 2 ≤ m → (r ≡ 1) ⊎ (r ≡ 2) → Few m r
-one-or-two m r h e = ⊎-elim (λ (q : r ≡ 1). (omega arith, omega arith)) (λ (q : r ≡ 2). (omega arith, omega arith)) e
+few : (m r : ℕ) → 1 ≤ r → r ≤ m → Few m r
+few m r h k = inl (h, k)
+
+one-or-two : (m r : ℕ) → 2 ≤ m → (r ≡ 1) ⊎ ((r ≡ 2) ⊎ (r ≡ 34)) → Few m r
+one-or-two m r h e = ⊎-elim (λ (q : r ≡ 1). few m r (omega arith) (omega arith)) (λ x. ⊎-elim (λ (q : r ≡ 2). few m r (omega arith) (omega arith)) (λ (q : r ≡ 34). inr q) x) e
 
 module _ (s : List ℕ) where
   abbrev GoodNums : ℕ → Nums → Type 0
@@ -88,13 +91,13 @@ module _ (s : List ℕ) where
   length-good at = by-answer (read-at 32 s at) refl
     where
       by-tests : (p q : Bool) (k n : ℕ) → at < n → n ≤ length s → GoodLength at (cond p (got.Refused 4) (cond q (got.Refused 5) (got.Value k n)))
-      by-tests true q k n f g = (omega arith, omega arith)
-      by-tests false true k n f g = (omega arith, omega arith)
+      by-tests true q k n f g = few 5 4 (omega arith) (omega arith)
+      by-tests false true k n f g = few 5 5 (omega arith) (omega arith)
       by-tests false false k n f g = (f, g)
 
       by-sign : (z : ℤ) (n : ℕ) → at < n → n ≤ length s → GoodLength at (length-of s z n)
       by-sign (pos k) n f g = by-tests (ltb 512 k) (ltb (length s - n) k) k n f g
-      by-sign (negsuc k) n f g = (omega arith, omega arith)
+      by-sign (negsuc k) n f g = few 5 3 (omega arith) (omega arith)
 
       by-answer : (g : Got) → read-at 32 s at ≡ g → GoodLength at (signed-of (length-of s) got.Refused g)
       by-answer (got.Value v n) e = let q = read-next 32 s at v n (sym e) in by-sign (zag v) n (q .0) (q .1)
@@ -126,8 +129,8 @@ module _ (s : List ℕ) where
     where
       by-signs : (b t : ℤ) (n : ℕ) (p q : Bool) → is-negative b ≡ p → is-negative t ≡ q → SFits w32 b → SFits w32 t → at < n → n ≤ length s
           → GoodCounts at (cond (p || q) (counts.Refused 6) (counts.Both b t n))
-      by-signs b t n true q e f g h i j = (omega arith, omega arith)
-      by-signs b t n false true e f g h i j = (omega arith, omega arith)
+      by-signs b t n true q e f g h i j = few 6 6 (omega arith) (omega arith)
+      by-signs b t n false true e f g h i j = few 6 6 (omega arith) (omega arith)
       by-signs b t n false false e f g h i j = ((e, g), (f, h), i, j)
 
       by-second : (b : ℤ) (m : ℕ) → SFits w32 b → at < m → (g : Got) → read-at 32 s m ≡ g → GoodCounts at (signed-of (both-counts b) counts.Refused g)
@@ -152,7 +155,7 @@ module _ (s : List ℕ) (at : ℕ) where
   GoodSeg (no-seg r) = Few 6 r
 
   six : (r : ℕ) → Few 5 r → Few 6 r
-  six r h = (h .0, omega arith)
+  six r h = ⊎-elim (λ (x : (1 ≤ r) × (r ≤ 5)). few 6 r (x .0) (omega (arith, x .1))) (λ (q : r ≡ 34). inr q) h
 
   segment-good : GoodSeg (segment-at s at)
   unfolding segment-at
@@ -178,7 +181,7 @@ module _ (s : List ℕ) (at : ℕ) where
   pub segment-accepted : (ts bs : List ℤ) (b t : ℤ) (n : ℕ) → segment-at s at ≡ seg ts bs b t n → Accepted s at ts bs b t n
   segment-accepted ts bs b t n e = subst GoodSeg e segment-good
 
-  pub segment-refusals : (r : ℕ) → segment-at s at ≡ no-seg r → (1 ≤ r) × (r ≤ 6)
+  pub segment-refusals : (r : ℕ) → segment-at s at ≡ no-seg r → Few 6 r
   segment-refusals r e = subst GoodSeg e segment-good
 
 -- ---- the row call
@@ -216,7 +219,7 @@ module _ (limit : ℕ) (s : List ℕ) where
   pub row-writable : (ts bs : List ℤ) (b t : ℤ) (n : ℕ) → row-of limit s ≡ seg ts bs b t n → Writable ts bs b t
   row-writable ts bs b t n e = segment-accepted s 0 ts bs b t n (row-accepted ts bs b t n e .is) .content
 
-  pub row-refusals : (r : ℕ) → row-of limit s ≡ no-seg r → ((1 ≤ r) × (r ≤ 6)) ⊎ ((r ≡ 8) ⊎ (r ≡ 25))
+  pub row-refusals : (r : ℕ) → row-of limit s ≡ no-seg r → Few 6 r ⊎ ((r ≡ 8) ⊎ (r ≡ 25))
   row-refusals r e = subst GoodRow e row-good
 
 -- a row within the limit is what its segment is, with nothing left over

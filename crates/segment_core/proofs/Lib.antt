@@ -5,4 +5,5 @@ pub mod CountLaws
 pub mod SegmentLaws
 pub mod BackLaws
 pub mod CodecLaws
+pub mod UniqueLaws
 pub mod Vectors

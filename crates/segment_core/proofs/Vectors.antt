@@ -3,7 +3,7 @@ use mathlib.Core.Path.{_≡_, refl}
 use mathlib.Core.List.{[], _∷_}
 use lib.IntN.{pos, negsuc}
 use Rattle.vlq_core.specs.Groups.{groups, enc}
-use Rattle.vlq_core.specs.Reading.{dec, read-at}
+use Rattle.vlq_core.specs.Reading.{dec, read-any, read-at}
 use Rattle.segment_core.specs.Row.{numbers-bytes, row-bytes, row-limit}
 use Rattle.segment_core.specs.Reading.{length-at, numbers-at, list-at, counts-at, segment-at, row-of, seg, no-seg}
 
@@ -13,5 +13,5 @@ pub vectors :
     × (row-bytes [] [] (pos 0) (pos 0) ≡ 0 ∷ 0 ∷ 0 ∷ 0 ∷ [])
     × (row-of row-limit (2 ∷ 2 ∷ 2 ∷ 1 ∷ 0 ∷ 2 ∷ []) ≡ seg (pos 1 ∷ []) (negsuc 0 ∷ []) (pos 0) (pos 1) 6)
     × (row-of row-limit (0 ∷ 0 ∷ 0 ∷ 0 ∷ 0 ∷ []) ≡ no-seg 8)
-unfolding row-bytes numbers-bytes enc groups row-of segment-at list-at length-at numbers-at counts-at read-at dec
+unfolding row-bytes numbers-bytes enc groups row-of segment-at list-at length-at numbers-at counts-at read-at read-any dec
 vectors = (refl, refl, refl, refl)

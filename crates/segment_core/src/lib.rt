@@ -19,16 +19,6 @@ pub const SEGMENT_THRESHOLD: usize = 512;
 // The most bytes of a row.
 pub const ROW_LIMIT: usize = 10254;
 
-pub const REFUSED_NEGATIVE_LENGTH: u8 = 3;
-
-pub const REFUSED_LIST_TOO_LONG: u8 = 4;
-
-pub const REFUSED_LENGTH_PAST_END: u8 = 5;
-
-pub const REFUSED_NEGATIVE_COUNT: u8 = 6;
-
-pub const REFUSED_LEFT_OVER: u8 = 8;
-
 // How many numbers were read and the position after them, or the refusal code.
 pub enum Part {
     Listed(usize, usize),
@@ -157,14 +147,14 @@ pub fn read_length(row: &[u8], at: usize) -> Got
     match vlq_core::get_i32(row, at) {
         Int::Number(n, next) => {
             if signed::is_negative_i32(n) {
-                return Got::Refused(REFUSED_NEGATIVE_LENGTH);
+                return Got::Refused(refusal::NEGATIVE_LENGTH);
             }
             let k = signed::usize_from_i32(n);
             if SEGMENT_THRESHOLD < k {
-                return Got::Refused(REFUSED_LIST_TOO_LONG);
+                return Got::Refused(refusal::LIST_TOO_LONG);
             }
             if row.len() - next < k {
-                return Got::Refused(REFUSED_LENGTH_PAST_END);
+                return Got::Refused(refusal::LENGTH_ABOVE_BYTES_LEFT);
             }
             Got::Value(k as u64, next)
         }
@@ -219,10 +209,10 @@ pub fn read_counts(row: &[u8], at: usize) -> Counts
         Int::Number(b, n) => match vlq_core::get_i32(row, n) {
             Int::Number(t, next) => {
                 if signed::is_negative_i32(b) {
-                    return Counts::Refused(REFUSED_NEGATIVE_COUNT);
+                    return Counts::Refused(refusal::NEGATIVE_SPILL_COUNT_READ);
                 }
                 if signed::is_negative_i32(t) {
-                    return Counts::Refused(REFUSED_NEGATIVE_COUNT);
+                    return Counts::Refused(refusal::NEGATIVE_SPILL_COUNT_READ);
                 }
                 Counts::Both(b, t, next)
             }
@@ -270,7 +260,7 @@ fn load_segment(row: &[u8], at: usize, must_end: bool, txs: &mut [i64], boxes: &
                 Counts::Refused(code) => Loaded::Refused(code),
                 Counts::Both(x, y, next) => {
                     if !may_end(must_end, next, row.len()) {
-                        return Loaded::Refused(REFUSED_LEFT_OVER);
+                        return Loaded::Refused(refusal::BYTES_LEFT_OVER);
                     }
                     copy_out(&t, txs);
                     copy_out(&b, boxes);

@@ -6,7 +6,6 @@ ghost use Rattle.vlq_core.specs.Reading.{read-at, long-of, int-of};
 ghost use Rattle.vlq_core.specs.Writing.{written, put-bytes};
 use vlq_core::Int;
 use vlq_core::Long;
-use vlq_core::REFUSED_OUTPUT_SHORT;
 use vlq_core::Wrote;
 
 // Writes a signed 64-bit number from a position on; where it does not fit, nothing changes.
@@ -14,7 +13,7 @@ pub fn put_i64(n: i64, out: &mut [u8], at: usize) -> Wrote
     ensures { λ r. ⌜ written r (now (out .exit)) ≡ put-bytes (enc (zig n)) (now (out .entry)) at ⌝ }
 {
     if !vlq_core::has_room(out.len(), at, vlq_core::number_len(n)) {
-        return Wrote::Refused(REFUSED_OUTPUT_SHORT);
+        return Wrote::Refused(refusal::OUTPUT_TOO_SHORT);
     }
     Wrote::Next(vlq_core::emit_i64(n, out, at))
 }
@@ -24,7 +23,7 @@ pub fn put_i32(n: i32, out: &mut [u8], at: usize) -> Wrote
     ensures { λ r. ⌜ written r (now (out .exit)) ≡ put-bytes (enc (zig n)) (now (out .entry)) at ⌝ }
 {
     if !vlq_core::has_room(out.len(), at, vlq_core::number_len_i32(n)) {
-        return Wrote::Refused(REFUSED_OUTPUT_SHORT);
+        return Wrote::Refused(refusal::OUTPUT_TOO_SHORT);
     }
     Wrote::Next(vlq_core::emit_i32(n, out, at))
 }

@@ -7,4 +7,5 @@ pub mod ReadLaws
 pub mod LoopLaws
 pub mod ShortLaws
 pub mod BackLaws
+pub mod UniqueLaws
 pub mod Vectors

@@ -1,12 +1,13 @@
 -- Reading a coded number (document 01, "Coded numbers" and the table's row "Reader"):
--- "Reading takes at most ten bytes; padding with zero groups is accepted. A 32-bit number is coded alike and must be below 2^32 before decoding."
+-- "Reading takes at most ten bytes. A 32-bit number is coded alike and must be below 2^32 before decoding."
 -- Refusal 1: bytes end inside a field. Refusal 2: tenth byte above 1, or 32-bit value not below 2^32.
-use Prim.Native.Nat.{ℕ, zero, suc, _+_, _*_, _%_, _^_}
-use mathlib.Core.Bool.{cond}
+-- Document 02, U5: "34 when the last byte of a number longer than one byte is 00, tested directly after 2".
+use Prim.Native.Nat.{ℕ, zero, suc, _+_, _-_, _*_, _%_, _^_}
+use mathlib.Core.Bool.{Bool, cond, _&&_}
 use mathlib.Core.List.{List, [], _∷_}
 use lib.Dec.{eqb, ltb}
 use lib.IntN.{ℤ}
-use lib.ListN.{drop}
+use lib.ListN.{drop, getD}
 use Rattle.vlq_core.specs.Zigzag.{zag}
 use Rattle.vlq_core.specs.declared.Got.{Got}
 use Rattle.vlq_core.specs.declared.Got.the-variants.{Value, Refused}
@@ -32,10 +33,22 @@ abbrev pub narrow : ℕ → Got → Got
 narrow k (Value v n) = cond (ltb v (2 ^ k)) (Value v n) (Refused 2)
 narrow k (Refused r) = Refused r
 
--- the coded number of k bits at position `at` of s; k is 32 or 64.
--- Padding is accepted here; a test of it, directly after 2, would stand before `narrow` and nowhere else.
+-- the coded number of k bits at position `at` of s, padded or not; k is 32 or 64
+unfoldable pub read-any : ℕ → List ℕ → ℕ → Got
+read-any k s at = narrow k (dec 9 (drop at s) at)
+
+-- the number from `at` to n is longer than one byte, and its last byte is 00
+abbrev pub padded : List ℕ → (at n : ℕ) → Bool
+padded s at n = ltb (at + 1) n && eqb (getD s (n - 1) 0) 0
+
+-- the shortest form only: 34, once 1 and 2 have passed
+abbrev pub shortest : List ℕ → ℕ → Got → Got
+shortest s at (Value v n) = cond (padded s at n) (Refused 34) (Value v n)
+shortest s at (Refused r) = Refused r
+
+-- the coded number of k bits at position `at` of s
 unfoldable pub read-at : ℕ → List ℕ → ℕ → Got
-read-at k s at = narrow k (dec 9 (drop at s) at)
+read-at k s at = shortest s at (read-any k s at)
 
 -- what a short number at position `at` says of the answer g: all of it, or nothing
 abbrev pub short-of : Short → ℕ → Got → Got

@@ -7,7 +7,8 @@ ghost use lib.ListN.{length, drop};
 ghost use Rattle.stores.specs.Stores.{Put};
 ghost use Rattle.vlq_core.specs.Zigzag.{zig, zag};
 ghost use Rattle.vlq_core.specs.Groups.{enc};
-ghost use Rattle.vlq_core.specs.Reading.{dec, read-at, short-of, long-of, int-of};
+ghost use Rattle.vlq_core.specs.Reading.{dec, shortest, read-at, short-of, long-of, int-of};
+ghost use Rattle.vlq_core.specs.declared.Got.{Got};
 
 // A coded number that was read and the position after it, or the refusal code.
 pub enum Got {
@@ -38,13 +39,6 @@ pub enum Wrote {
     Next(usize),
     Refused(u8),
 }
-
-// A number does not end before the bytes do.
-pub const REFUSED_CUT: u8 = 1;
-// A number does not fit its width.
-pub const REFUSED_TOO_LARGE: u8 = 2;
-// The output is too short.
-pub const REFUSED_OUTPUT_SHORT: u8 = 32;
 
 // The coded number of a signed one.
 pub fn zigzag(n: i64) -> u64
@@ -163,7 +157,7 @@ fn get_groups(src: &[u8], at: usize) -> Got
     let mut more: usize = 9;
     while 0 < more {
         if src.len() <= i {
-            return Got::Refused(REFUSED_CUT);
+            return Got::Refused(refusal::BYTES_END);
         }
         let b = wide(src[i]);
         if b < 128 {
@@ -175,16 +169,31 @@ fn get_groups(src: &[u8], at: usize) -> Got
         more = more - 1;
     }
     if src.len() <= i {
-        return Got::Refused(REFUSED_CUT);
+        return Got::Refused(refusal::BYTES_END);
     }
     let b = wide(src[i]);
     if b < 2 {
         return Got::Value(sum + scale * b, i + 1);
     }
-    Got::Refused(REFUSED_TOO_LARGE)
+    Got::Refused(refusal::NUMBER_TOO_LARGE)
 }
 
-// The coded number at a position if it has at most four groups and four bytes are there.
+// A number that was read, unless it is padded with zero groups.
+fn take_shortest(src: &[u8], at: usize, coded: u64, next: usize) -> Got
+    requires { ⌜ (at < next) × (next ≤ length (now src)) ⌝ }
+    ensures { λ r. ⌜ r ≡ shortest (now (src .entry)) at (Got.Value coded next) ⌝ }
+{
+    if next - at == 1 {
+        return Got::Value(coded, next);
+    }
+    let last = next - 1;
+    if src[last] == 0 {
+        return Got::Refused(refusal::NUMBER_PADDED);
+    }
+    Got::Value(coded, next)
+}
+
+// The coded number at a position if it has at most four groups, the last not 0, and four bytes are there.
 pub fn get_short(src: &[u8], at: usize) -> Short
     ensures { λ r. ⌜ short-of r at (read-at 64 (now (src .entry)) at) ≡ read-at 64 (now (src .entry)) at ⌝ }
 {
@@ -200,6 +209,9 @@ pub fn get_short(src: &[u8], at: usize) -> Short
     }
     let second = at + 1;
     let b = wide(src[second]);
+    if b == 0 {
+        return Short { coded: 0, size: 0 };
+    }
     if b < 128 {
         return Short {
             coded: a % 128 + 128 * b,
@@ -208,6 +220,9 @@ pub fn get_short(src: &[u8], at: usize) -> Short
     }
     let third = at + 2;
     let c = wide(src[third]);
+    if c == 0 {
+        return Short { coded: 0, size: 0 };
+    }
     if c < 128 {
         return Short {
             coded: a % 128 + 128 * (b % 128) + 16384 * c,
@@ -216,6 +231,9 @@ pub fn get_short(src: &[u8], at: usize) -> Short
     }
     let fourth = at + 3;
     let d = wide(src[fourth]);
+    if d == 0 {
+        return Short { coded: 0, size: 0 };
+    }
     if d < 128 {
         return Short {
             coded: a % 128 + 128 * (b % 128) + 16384 * (c % 128) + 2097152 * d,
@@ -229,7 +247,10 @@ pub fn get_short(src: &[u8], at: usize) -> Short
 pub fn get_coded(src: &[u8], at: usize) -> Got
     ensures { λ r. ⌜ r ≡ read-at 64 (now (src .entry)) at ⌝ }
 {
-    get_groups(src, at)
+    match get_groups(src, at) {
+        Got::Value(coded, next) => take_shortest(src, at, coded, next),
+        Got::Refused(code) => Got::Refused(code),
+    }
 }
 
 // The coded 32-bit number at a position.
@@ -239,9 +260,9 @@ pub fn get_coded_32(src: &[u8], at: usize) -> Got
     match get_groups(src, at) {
         Got::Value(coded, next) => {
             if coded < 0x1_0000_0000 {
-                Got::Value(coded, next)
+                take_shortest(src, at, coded, next)
             } else {
-                Got::Refused(REFUSED_TOO_LARGE)
+                Got::Refused(refusal::NUMBER_TOO_LARGE)
             }
         }
         Got::Refused(code) => Got::Refused(code),

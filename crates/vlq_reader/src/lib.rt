@@ -5,7 +5,6 @@ ghost use Rattle.vlq_core.specs.Reading.{read-at, long-of, int-of};
 ghost use Rattle.vlq_reader.specs.Reader.{after-long, after-int, span-at, after-span, started, moved-to};
 use vlq_core::Int;
 use vlq_core::Long;
-use vlq_core::REFUSED_CUT;
 
 pub struct VlqReader<'a> {
     pub src: &'a [u8],
@@ -43,7 +42,7 @@ pub fn get_bytes(src: &[u8], at: usize, n: usize) -> Span
     ensures { λ r. ⌜ r ≡ span-at (now (src .entry)) at n ⌝ }
 {
     if !vlq_core::has_room(src.len(), at, n) {
-        return Span::Refused(REFUSED_CUT);
+        return Span::Refused(refusal::BYTES_END);
     }
     Span::Within(at, at + n)
 }

@@ -3,7 +3,7 @@
 use reference::address::{BalanceInfo, IndexedAddress};
 use reference::{calls, Digest32, VlqReader};
 
-use super::{damage, rows, strings, Size};
+use super::{damage, padded, rows, strings, Size};
 use crate::codes::of_read;
 use crate::ffi::*;
 use crate::index::{Balance, ReadLists, ADDRESS_LIMIT, TOKENS};
@@ -75,6 +75,8 @@ fn compare(row: &[u8], read: &mut ReadAddress) -> Result<u8, Result<&'static str
     let theirs = calls::read_indexed_address(row).map_err(|e| of_read(&e));
     match (ours, theirs) {
         (25, _) if row.len() > ADDRESS_LIMIT => Err(Ok("address record: 25, above 15,675 bytes")),
+        (34, _) if padded::record(row) => Err(Ok(padded::NAME)),
+        (_, _) if padded::record(row) => Err(Err(format!("{ours}, though a number is padded"))),
         (24, _) if states_too_many_tokens(row) => Err(Ok("address record: 24, more than 128 tokens")),
         (8, Ok((_, taken))) if taken < row.len() => Err(Ok("address record: 8, bytes are left over")),
         (0, Ok((address, taken))) if taken == row.len() && read.holds(&address) => Ok(0),
@@ -174,18 +176,18 @@ fn address(random: &mut Random) -> IndexedAddress {
     }
 }
 
-/// A record of 128 tokens with all its numbers padded, so that it stands around the limit of 15,675 bytes.
-fn padded(random: &mut Random) -> Vec<u8> {
+/// A record of 128 tokens with numbers of ten bytes, so that it stands around the limit of 15,675 bytes.
+fn long(random: &mut Random) -> Vec<u8> {
     let mut record = vec![0x5a; 32];
     record.push(1);
     record.extend([0x80; 9]);
-    record.extend([0, 0x80, 0x02]);
+    record.extend([1, 0x80, 0x02]);
     for _ in 0..TOKENS {
         record.extend(random.bytes::<32>());
         record.extend([0x80; 9]);
         record.push(1);
     }
-    record.extend(rows::padded(random));
+    record.extend(rows::long(random));
     record
 }
 
@@ -222,7 +224,7 @@ pub fn run(size: Size, report: &mut Report) {
             read(&row, &mut to, report);
         }
         if i % 32 == 0 {
-            read(&padded(&mut random), &mut to, report);
+            read(&long(&mut random), &mut to, report);
         }
         report.progress(i, size.some);
     }

@@ -6,6 +6,7 @@ pub mod buffers;
 pub mod histories;
 pub mod keys;
 pub mod numbers;
+pub mod padded;
 pub mod rows;
 pub mod undo;
 

@@ -2,6 +2,7 @@
 
 use reference::{VlqReader, VlqWriter};
 
+use super::padded::{self, NAME as PADDED};
 use super::{strings, Size};
 use crate::codes::of_read;
 use crate::ffi::*;
@@ -10,6 +11,9 @@ use crate::report::{hex, shrink, Report};
 
 /// How each side reads at a position: the number and the next position, or the code.
 type Read = Result<(i64, usize), u8>;
+
+/// What reads at a position on both sides, and what tells that the number there is padded.
+type Width = (&'static str, fn(&[u8], usize) -> (Read, Read), fn(&[u8], usize) -> bool);
 
 fn long(bytes: &[u8], from: usize) -> (Read, Read) {
     let (mut at, mut n) = (from, 0);
@@ -34,16 +38,30 @@ fn int(bytes: &[u8], from: usize) -> (Read, Read) {
     (ours, theirs)
 }
 
+const WIDTHS: [Width; 2] = [("get_i64", long, padded::long), ("get_i32", int, padded::int)];
+
+/// Whether both sides agree, padded numbers apart, which are 34.
+fn agree((ours, theirs): (Read, Read), padded: bool) -> bool {
+    if padded {
+        ours == Err(34)
+    } else {
+        ours == theirs
+    }
+}
+
 fn read(bytes: &[u8], from: usize, report: &mut Report) {
-    for (name, both) in [("get_i64", long as fn(&[u8], usize) -> (Read, Read)), ("get_i32", int)] {
+    for (name, both, padded) in WIDTHS {
         report.call(name);
         let (ours, theirs) = both(bytes, from);
-        if let Err(code) = ours {
+        if !agree((ours, theirs), padded(bytes, from)) {
+            if report.wants(name) {
+                let small = shrink(&bytes[from..], |b| !agree(both(b, 0), padded(b, 0)));
+                report.difference(name, format!("{}: {:?}", hex(&small), both(&small, 0)));
+            }
+        } else if padded(bytes, from) {
+            report.named(PADDED);
+        } else if let Err(code) = ours {
             report.refused(name, code);
-        }
-        if ours != theirs && report.wants(name) {
-            let small = shrink(&bytes[from..], |b| both(b, 0).0 != both(b, 0).1);
-            report.difference(name, format!("{}: {:?}", hex(&small), both(&small, 0)));
         }
     }
 }

@@ -3,7 +3,7 @@
 use reference::calls;
 use reference::segment::Segment;
 
-use super::{damage, strings, Size};
+use super::{damage, padded, strings, Size};
 use crate::codes::of_read;
 use crate::index::{write_segment, ReadLists, ROW_LIMIT};
 use crate::random::Random;
@@ -23,6 +23,11 @@ fn compare(row: &[u8], lists: &mut ReadLists) -> Result<u8, Result<&'static str,
     let ours = lists.read_segment(row);
     if ours == 25 && row.len() > ROW_LIMIT {
         return Err(Ok("segment row: 25, above 10,254 bytes"));
+    }
+    match (ours == 34, padded::row(row)) {
+        (true, true) => return Err(Ok(padded::NAME)),
+        (false, false) => {}
+        (_, padded) => return Err(Err(format!("{ours}, padded: {padded}"))),
     }
     match of_reference(row) {
         Ok(segment) if ours == 0 && lists.holds(&segment) => Ok(0),
@@ -99,29 +104,19 @@ pub fn segment(random: &mut Random) -> Segment {
     }
 }
 
-/// A row with its numbers padded, so that it stands around the limit of 10,254 bytes.
-pub fn padded(random: &mut Random) -> Vec<u8> {
-    let mut row = Vec::new();
-    let pad = |row: &mut Vec<u8>, value: u8, length: usize| {
-        row.push(value | 0x80);
-        row.extend(vec![0x80; length - 2]);
-        row.push(0);
+/// A row of ten-byte numbers, so that it stands around the limit of 10,254 bytes; bytes left over put it above.
+pub fn long(random: &mut Random) -> Vec<u8> {
+    let numbers = |random: &mut Random| {
+        let ten = |random: &mut Random| (1 << 62) | (random.word() >> 2) as i64;
+        (0..512).map(|_| if random.once_in(2) { !ten(random) } else { ten(random) }).collect()
     };
-    for _ in 0..2 {
-        // 512, padded or not
-        row.extend(if random.once_in(4) {
-            &[0x80, 0x88, 0x00][..]
-        } else {
-            &[0x80, 0x08]
-        });
-        for _ in 0..512 {
-            pad(&mut row, random.word() as u8 & 0x7f, 10);
-        }
-    }
-    for _ in 0..2 {
-        let length = 2 + random.index(5);
-        pad(&mut row, random.word() as u8 & 0x7e, length);
-    }
+    let mut row = calls::write_segment(&Segment {
+        txs: numbers(random),
+        boxes: numbers(random),
+        box_segment_count: random.int() & i32::MAX,
+        tx_segment_count: random.int() & i32::MAX,
+    });
+    row.extend(vec![0; random.index(3)]);
     row
 }
 
@@ -156,7 +151,7 @@ pub fn run(size: Size, report: &mut Report) {
             read(&row, &mut lists, report);
         }
         if i % 16 == 0 {
-            read(&padded(&mut random), &mut lists, report);
+            read(&long(&mut random), &mut lists, report);
         }
         report.progress(i, size.some);
     }
