@@ -25,7 +25,7 @@ run:
 ifeq ($(RT),)
 	@echo "$(NO_RT)" >&2; exit 2
 else
-	@echo "proving the call runner and what it builds on: some eight minutes the first time, seconds afterwards"
+	@echo "proving the call runner and what it builds on: minutes the first time, seconds afterwards"
 	@mkdir -p target; rt check call_runner 2>&1 | tee target/run.log | grep --line-buffered '^rt: ' || { tail -n 20 target/run.log >&2; exit 1; }
 	@echo "the last lines of the sample history, which has 545 calls:"
 	@target/bin/call_runner < sample/fork.calls | tail -n 32
