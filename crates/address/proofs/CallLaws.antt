@@ -14,7 +14,7 @@ use mir.Val.{SFits}
 use Rattle.stores.specs.Stores.{write}
 use Rattle.signed.specs.Sign.{is-negative}
 use Rattle.refusal.specs.declared.Answer.the-variants.{Accepted}
-use Rattle.vlq_core.specs.declared.Wrote.the-variants.{Next}
+use Rattle.index_types.specs.declared.Wrote.the-variants.{Next}
 use Rattle.vlq_core.specs.Writing.{Written, put-bytes}
 use Rattle.vlq_core.proofs.UniqueLaws.{Bytes}
 use Rattle.segment_core.specs.Row.{row-bytes}

@@ -5,11 +5,9 @@ ghost use Rattle.address_core.specs.Writing.{write-address};
 ghost use Rattle.address_core.specs.Loading.{loading, read-address};
 use address_core::AddressRead;
 use balance::Balance;
-use segment_core::SEGMENT_THRESHOLD;
-use vlq_core::Wrote;
-
-// The most bytes of a record.
-pub const ADDRESS_LIMIT: usize = 15675;
+use index_types::ADDRESS_LIMIT;
+use index_types::SEGMENT_THRESHOLD;
+use index_types::Wrote;
 
 // Writes a hash, a flag, the balance where the flag is set, and the first n_txs transactions and n_boxes boxes with their spill counts
 // as a record from a position on; a refused call changes nothing.

@@ -23,7 +23,8 @@ use Rattle.segment_core.proofs.RowLaws.{length-size}
 use Rattle.segment_core.proofs.BackLaws.{All64, Writable, numbers-some, first, second, second-at, segment-back}
 use Rattle.segment_core.proofs.CodecLaws.{numbers-size, row-size}
 use Rattle.balance.specs.declared.Balance.{Balance}
-use Rattle.address_core.specs.Bytes.{token-bytes, tokens-bytes, balance-bytes, flagged-bytes, address-bytes, address-limit}
+use Rattle.address_core.specs.Bytes.{token-bytes, tokens-bytes, balance-bytes, flagged-bytes, address-bytes}
+use Rattle.index_types.specs.Limits.{address-limit}
 use Rattle.address_core.specs.Reading.{token, no-token, token-at, Tokens, tokens, cons-token, token-then, tokens-at, count-of, count-at, tokens-from, Balanced, balanced, no-balance, with-nanos, balance-at, flagged-at}
 use Rattle.address_core.specs.Loading.{balance-of, load-segment, load-balance, load-address, read-address}
 use Rattle.address_core.proofs.BytesLaws.{tokens-length, balance-length, clear-length, set-length, address-length}

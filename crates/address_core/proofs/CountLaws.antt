@@ -11,7 +11,7 @@ use borrow.Author.Tests.{lt-ltb, le-ltb, ltb-false}
 use Rattle.signed.specs.Sign.{is-negative}
 use Rattle.vlq_core.specs.declared.Got.{Got}
 use Rattle.vlq_core.specs.declared.Got.the-variants as got
-use Rattle.vlq_core.specs.declared.Int.the-variants as int
+use Rattle.index_types.specs.declared.Int.the-variants as int
 use Rattle.vlq_core.specs.Zigzag.{zag}
 use Rattle.vlq_core.specs.Reading.{read-at, signed-of, int-of}
 use Rattle.vlq_core.proofs.ReadLaws.{int-number, int-refused}

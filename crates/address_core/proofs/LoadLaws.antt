@@ -12,13 +12,13 @@ use borrow.Author.Tests.{lt-ltb, le-ltb, le-leb, lt-leb, ne-eqb}
 use Rattle.stores.proofs.PutLaws.{sets-front}
 use Rattle.vlq_core.specs.declared.Got.{Got}
 use Rattle.vlq_core.specs.declared.Got.the-variants as got
-use Rattle.vlq_core.specs.declared.Long.the-variants as long
+use Rattle.index_types.specs.declared.Long.the-variants as long
 use Rattle.vlq_core.specs.Reading.{read-at, signed-of, long-of}
 use Rattle.vlq_core.proofs.ReadLaws.{long-number, long-refused}
 use Rattle.segment_core.specs.declared.Part.{Part}
 use Rattle.segment_core.specs.declared.Part.the-variants as part
-use Rattle.segment_core.specs.declared.Loaded.{Loaded}
-use Rattle.segment_core.specs.declared.Loaded.the-variants as loaded
+use Rattle.index_types.specs.declared.Loaded.{Loaded}
+use Rattle.index_types.specs.declared.Loaded.the-variants as loaded
 use Rattle.segment_core.specs.Reading.{Seg, seg, no-seg, segment-at, ended}
 use Rattle.segment_core.specs.Loading as segment-loading
 use Rattle.segment_core.proofs.ListLaws.{drop-replicate}

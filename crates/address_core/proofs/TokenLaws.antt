@@ -13,7 +13,7 @@ use borrow.Author.Tests.{leb-true}
 use Rattle.stores.proofs.PutLaws.{sets-append}
 use Rattle.vlq_core.specs.declared.Got.{Got}
 use Rattle.vlq_core.specs.declared.Got.the-variants as got
-use Rattle.vlq_core.specs.declared.Long.the-variants as long
+use Rattle.index_types.specs.declared.Long.the-variants as long
 use Rattle.vlq_core.specs.Reading.{read-at, signed-of, long-of}
 use Rattle.vlq_core.proofs.ReadLaws.{long-number, long-refused}
 use Rattle.segment_core.specs.declared.Part.{Part}

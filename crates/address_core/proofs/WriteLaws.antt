@@ -8,7 +8,7 @@ use lib.Dec.{leb}
 use lib.IntN.{ℤ}
 use lib.ListN.{length, take}
 use borrow.Author.Tests.{leb-true}
-use Rattle.vlq_core.specs.declared.Wrote.the-variants.{Next, Refused}
+use Rattle.index_types.specs.declared.Wrote.the-variants.{Next, Refused}
 use Rattle.vlq_core.specs.Writing.{written, put-bytes}
 use Rattle.segment_core.specs.Row.{row-bytes}
 use Rattle.segment.specs.Calls.{held}

@@ -5,6 +5,7 @@ use mathlib.Core.Bool.{Bool, cond}
 use mathlib.Core.List.{List, [], _∷_, _++_}
 use lib.IntN.{ℤ, pos}
 use lib.ListN.{length, take, drop}
+use Rattle.index_types.specs.Limits.{token-limit}
 use Rattle.vlq_core.specs.Zigzag.{zig}
 use Rattle.vlq_core.specs.Groups.{enc}
 
@@ -29,10 +30,6 @@ flagged-bytes has nanos ids zs = cond has (1 ∷ balance-bytes nanos ids zs) (0 
 unfoldable pub address-bytes : List ℕ → Bool → ℤ → List ℕ → List ℤ → List ℕ → List ℕ
 address-bytes hash has nanos ids zs row = hash ++ (flagged-bytes has nanos ids zs ++ row)
 
--- the most bytes of a record
-abbrev pub address-limit : ℕ
-address-limit = 15675
-
 -- n tokens within 128, whose ids and amounts are there
 abbrev pub HeldTokens : ℕ → List ℕ → List ℤ → Type 0
-HeldTokens n ids amounts = (n ≤ 128) × (n ≤ length amounts) × (n * 32 ≤ length ids)
+HeldTokens n ids amounts = (n ≤ token-limit) × (n ≤ length amounts) × (n * 32 ≤ length ids)

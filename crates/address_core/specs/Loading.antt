@@ -7,6 +7,7 @@ use mathlib.Core.List.{List, [], _++_}
 use lib.Dec.{leb}
 use lib.IntN.{ℤ, pos}
 use lib.ListN.{length, take, replicate}
+use Rattle.index_types.specs.Limits.{segment-threshold, token-limit, token-id-bytes}
 use Rattle.stores.specs.Stores.{write}
 use Rattle.segment_core.specs.Reading.{Seg, seg, no-seg, segment-at, ended}
 use Rattle.segment_core.specs.Loading.{padded}
@@ -14,7 +15,7 @@ use Rattle.refusal.specs.declared.Answer.the-variants.{Accepted, Refused}
 use Rattle.balance.specs.declared.Balance.{Balance}
 use Rattle.address_core.specs.declared.IndexedAddress.{IndexedAddress}
 use Rattle.address_core.specs.declared.AddressRead.{AddressRead}
-use Rattle.address_core.specs.Bytes.{address-limit}
+use Rattle.index_types.specs.Limits.{address-limit}
 use Rattle.address_core.specs.Reading.{Balanced, balanced, no-balance, flagged-at}
 
 -- the answer, and both lists at exit
@@ -29,7 +30,7 @@ loading r l m = record { answer = r; txs = l; boxes = m }
 -- nanoErgs and tokens as a balance, "zeroes follow"
 abbrev pub balance-of : ℤ → List ℕ → List ℤ → Balance
 balance-of nanos ids zs =
-    record { ids = ids ++ replicate (4096 - length ids) 0; amounts = zs ++ replicate (128 - length zs) (pos 0); count = length zs; nanos = nanos }
+    record { ids = ids ++ replicate (token-id-bytes - length ids) 0; amounts = zs ++ replicate (token-limit - length zs) (pos 0); count = length zs; nanos = nanos }
 
 -- an address of the hash h, a flag, a balance, transactions ts, boxes bs and the spill counts b and t
 abbrev pub address-of : List ℕ → Bool → Balance → List ℤ → List ℤ → ℤ → ℤ → IndexedAddress
@@ -57,4 +58,4 @@ load-address s l m = cond (leb 32 (length s)) (load-balance s l m (flagged-at s 
 -- the call
 unfoldable pub read-address : List ℕ → List ℤ → List ℤ → AddressLoading
 read-address s l m =
-    cond (leb (length s) address-limit && (leb 512 (length l) && leb 512 (length m))) (load-address s l m) (loading (refused-with 25) l m)
+    cond (leb (length s) address-limit && (leb segment-threshold (length l) && leb segment-threshold (length m))) (load-address s l m) (loading (refused-with 25) l m)

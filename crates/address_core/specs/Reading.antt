@@ -8,6 +8,7 @@ use mathlib.Core.List.{List, [], _∷_, _++_}
 use lib.Dec.{leb, ltb, eqb}
 use lib.IntN.{ℤ, pos, negsuc}
 use lib.ListN.{length, take, drop, getD}
+use Rattle.index_types.specs.Limits.{token-limit}
 use Rattle.vlq_core.specs.declared.Got.{Got}
 use Rattle.vlq_core.specs.declared.Got.the-variants.{Value, Refused}
 use Rattle.vlq_core.specs.Reading.{read-at, signed-of}
@@ -44,7 +45,7 @@ tokens-at (suc k) s at = token-then (λ id z n. cons-token id z (tokens-at k s n
 -- ---- the token count: 3, then 5, which counts the bytes of s behind the count, then 24
 
 abbrev pub count-of : List ℕ → ℤ → ℕ → Got
-count-of s (pos k) n = cond (ltb ((length s - n) / 33) k) (Refused 5) (cond (ltb 128 k) (Refused 24) (Value k n))
+count-of s (pos k) n = cond (ltb ((length s - n) / 33) k) (Refused 5) (cond (ltb token-limit k) (Refused 24) (Value k n))
 count-of s (negsuc k) n = Refused 3
 
 unfoldable pub count-at : List ℕ → ℕ → Got

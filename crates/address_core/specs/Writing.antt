@@ -6,7 +6,8 @@ use mathlib.Core.List.{List}
 use lib.Dec.{leb}
 use lib.IntN.{ℤ}
 use lib.ListN.{length, take}
-use Rattle.vlq_core.specs.declared.Wrote.the-variants.{Refused}
+use Rattle.index_types.specs.Limits.{token-limit}
+use Rattle.index_types.specs.declared.Wrote.the-variants.{Refused}
 use Rattle.vlq_core.specs.Writing.{Written, written, put-bytes}
 use Rattle.segment_core.specs.Row.{row-bytes}
 use Rattle.segment.specs.Calls.{held}
@@ -14,7 +15,7 @@ use Rattle.address_core.specs.Bytes.{address-bytes}
 
 -- 25 unless: both lists are held, and the balance has at most 128 tokens
 unfoldable pub buffers-ok : (n len m len′ count : ℕ) → Bool
-buffers-ok n len m len′ count = (held n len && held m len′) && leb count 128
+buffers-ok n len m len′ count = (held n len && held m len′) && leb count token-limit
 
 -- the first n of ts and the first m of bs, with box spill count b and tx spill count t, behind the hash and the first k tokens of a balance
 unfoldable pub write-address : (hash : List ℕ) (has : Bool) (nanos : ℤ) (ids : List ℕ) (amounts : List ℤ) (k : ℕ)

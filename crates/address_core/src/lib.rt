@@ -6,9 +6,6 @@ use refusal::Answer;
 pub mod reader;
 pub mod writer;
 
-// The most tokens of a balance.
-pub const TOKEN_LIMIT: usize = 128;
-
 // An address: its hash, whether it has a balance, the balance (all zero where it has none), how many transactions and boxes, and the spill counts.
 pub struct IndexedAddress {
     pub hash: [u8; 32],

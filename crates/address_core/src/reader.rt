@@ -2,20 +2,22 @@
 ghost use mathlib.Core.Path.{_≡_};
 ghost use Prim.Native.Nat.{_+_, _*_, _<_, _≤_};
 ghost use lib.ListN.{length, take};
+ghost use Rattle.index_types.specs.Limits.{segment-threshold, token-limit, token-id-bytes};
 ghost use Rattle.address_core.specs.Reading.{token-at, tokens-at, count-at, balance-at, flagged-at};
 ghost use Rattle.address_core.specs.Loading.{loading, refused-with, load-address};
 ghost use Rattle.address_core.specs.Steps.{TokenInto, TokensInto, BalanceInto};
 use super::AddressRead;
 use super::Flagged;
 use super::IndexedAddress;
-use super::TOKEN_LIMIT;
 use balance::Balance;
+use index_types::Int;
+use index_types::Loaded;
+use index_types::Long;
+use index_types::TOKEN_ID_BYTES;
+use index_types::TOKEN_LIMIT;
 use refusal::Answer;
-use segment_core::Loaded;
 use segment_core::Part;
 use vlq_core::Got;
-use vlq_core::Int;
-use vlq_core::Long;
 
 // A token, put at a place: 32 id bytes and an amount.
 fn read_token(row: &[u8], at: usize, place: usize, ids: &mut [u8], amounts: &mut [i64]) -> Part
@@ -81,7 +83,7 @@ fn read_count(row: &[u8], at: usize) -> Got
 
 // A balance: nanoErgs, the token count, the tokens.
 fn read_balance(row: &[u8], at: usize, ids: &mut [u8], amounts: &mut [i64]) -> Flagged
-    requires { ⌜ (4096 ≤ length (now ids)) × (128 ≤ length (now amounts)) ⌝ }
+    requires { ⌜ (token-id-bytes ≤ length (now ids)) × (token-limit ≤ length (now amounts)) ⌝ }
     ensures { λ r. ⌜ BalanceInto (balance-at (now (row .entry)) at) (now (ids .entry)) (now (amounts .entry)) r (now (ids .exit)) (now (amounts .exit)) ⌝ }
 {
     match vlq_core::get_i64(row, at) {
@@ -98,7 +100,7 @@ fn read_balance(row: &[u8], at: usize, ids: &mut [u8], amounts: &mut [i64]) -> F
 
 // The flag at a position, and the balance behind it if it is set.
 fn read_flagged(row: &[u8], at: usize, ids: &mut [u8], amounts: &mut [i64]) -> Flagged
-    requires { ⌜ (4096 ≤ length (now ids)) × (128 ≤ length (now amounts)) ⌝ }
+    requires { ⌜ (token-id-bytes ≤ length (now ids)) × (token-limit ≤ length (now amounts)) ⌝ }
     ensures { λ r. ⌜ BalanceInto (flagged-at (now (row .entry)) at) (now (ids .entry)) (now (amounts .entry)) r (now (ids .exit)) (now (amounts .exit)) ⌝ }
 {
     if row.len() <= at {
@@ -134,8 +136,8 @@ pub fn refused(code: u8) -> AddressRead
             hash: [0u8; 32],
             has_balance: false,
             balance: Balance {
-                ids: [0u8; 4096],
-                amounts: [0i64; 128],
+                ids: [0u8; TOKEN_ID_BYTES],
+                amounts: [0i64; TOKEN_LIMIT],
                 count: 0,
                 nanos: 0,
             },
@@ -149,15 +151,15 @@ pub fn refused(code: u8) -> AddressRead
 
 // Reads the record that takes up all the bytes into borrowed lists.
 pub fn read_address(row: &[u8], txs: &mut [i64], boxes: &mut [i64]) -> AddressRead
-    requires { ⌜ (512 ≤ length (now txs)) × (512 ≤ length (now boxes)) ⌝ }
+    requires { ⌜ (segment-threshold ≤ length (now txs)) × (segment-threshold ≤ length (now boxes)) ⌝ }
     ensures { λ r. ⌜ loading r (now (txs .exit)) (now (boxes .exit)) ≡ load-address (now (row .entry)) (now (txs .entry)) (now (boxes .entry)) ⌝ }
 {
     if row.len() < 32 {
         return refused(refusal::BYTES_END);
     }
     let hash = hash_of(row);
-    let mut ids = [0u8; 4096];
-    let mut amounts = [0i64; 128];
+    let mut ids = [0u8; TOKEN_ID_BYTES];
+    let mut amounts = [0i64; TOKEN_LIMIT];
     match read_flagged(row, 32, &mut ids, &mut amounts) {
         Flagged::Refused(code) => refused(code),
         Flagged::Held(has_balance, nanos, count, next) => {

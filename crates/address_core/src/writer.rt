@@ -3,15 +3,15 @@ ghost use mathlib.Core.Path.{_≡_};
 ghost use mathlib.Core.List.{List};
 ghost use Prim.Native.Nat.{ℕ, _+_, _*_, _≤_};
 ghost use lib.ListN.{length, take, drop};
+ghost use Rattle.index_types.specs.Limits.{token-limit, token-id-bytes};
 ghost use Rattle.stores.specs.Stores.{Put};
 ghost use Rattle.vlq_core.specs.Writing.{written};
 ghost use Rattle.segment_core.specs.Row.{row-bytes, Held};
 ghost use Rattle.segment.specs.Calls.{held};
 ghost use Rattle.address_core.specs.Bytes.{token-bytes, tokens-bytes, balance-bytes, flagged-bytes, address-bytes, HeldTokens};
 ghost use Rattle.address_core.specs.Writing.{buffers-ok, write-address};
-use super::TOKEN_LIMIT;
-use segment_core::SEGMENT_THRESHOLD;
-use vlq_core::Wrote;
+use index_types::TOKEN_LIMIT;
+use index_types::Wrote;
 
 // Writes the token at a place: its id, then its amount.
 fn emit_token(ids: &[u8], place: usize, amount: i64, out: &mut [u8], at: usize) -> usize
@@ -77,7 +77,7 @@ fn emit_flagged(
 
 // The number of bytes of the flag and the balance, whatever the ids.
 fn flagged_len(has: bool, nanos: i64, amounts: &[i64], n: usize) -> usize
-    requires { ⌜ (n ≤ 128) × (n ≤ length (now amounts)) ⌝ }
+    requires { ⌜ (n ≤ token-limit) × (n ≤ length (now amounts)) ⌝ }
     ensures { λ r. ⌜ ((ids : List ℕ) → n * 32 ≤ length ids → r ≡ length (flagged-bytes has nanos ids (take n (now (amounts .entry))))) × (r ≤ 9300) ⌝ }
 {
     if !has {
@@ -113,24 +113,14 @@ fn emit_address(
     segment_core::emit_segment(txs, n_txs, boxes, n_boxes, box_count, tx_count, out, p)
 }
 
-// Whether n numbers are within 512 and within a borrowed list of len.
-fn is_held(n: usize, len: usize) -> bool
-    ensures { λ r. ⌜ r ≡ held n len ⌝ }
-{
-    if SEGMENT_THRESHOLD < n {
-        return false;
-    }
-    n <= len
-}
-
 // Whether both lists are within 512 and within what is borrowed, and the balance within 128 tokens.
 fn buffers_ok(n_txs: usize, len_txs: usize, n_boxes: usize, len_boxes: usize, count: usize) -> bool
     ensures { λ r. ⌜ r ≡ buffers-ok «n_txs» «len_txs» «n_boxes» «len_boxes» count ⌝ }
 {
-    if !is_held(n_txs, len_txs) {
+    if !segment::is_held(n_txs, len_txs) {
         return false;
     }
-    if !is_held(n_boxes, len_boxes) {
+    if !segment::is_held(n_boxes, len_boxes) {
         return false;
     }
     count <= TOKEN_LIMIT
@@ -153,7 +143,7 @@ pub fn write_address(
     out: &mut [u8],
     at: usize,
 ) -> Wrote
-    requires { ⌜ (length (now hash) ≡ 32) × (length (now ids) ≡ 4096) × (length (now amounts) ≡ 128) ⌝ }
+    requires { ⌜ (length (now hash) ≡ 32) × (length (now ids) ≡ token-id-bytes) × (length (now amounts) ≡ token-limit) ⌝ }
     ensures { λ r. ⌜ written r (now (out .exit))
         ≡ write-address (now (hash .entry)) has nanos (now (ids .entry)) (now (amounts .entry)) count (now (txs .entry)) «n_txs» (now (boxes .entry)) «n_boxes» «box_count» «tx_count» (now (out .entry)) at ⌝ }
 {

@@ -3,11 +3,11 @@ ghost use mathlib.Core.Path.{_≡_};
 ghost use Rattle.segment_id.specs.declared.Kind.the-variants.{Box, Tx};
 ghost use Rattle.buffer_core.specs.Edition.{edition-1};
 ghost use Rattle.buffer_core.specs.Append.{appending, append-of};
-use buffer_checks::BoxNumber;
-use buffer_checks::TxNumber;
-use buffer_core::Appended;
-use buffer_core::HeadCounts;
-use records::ListCounts;
+use index_types::Appended;
+use index_types::BoxNumber;
+use index_types::HeadCounts;
+use index_types::ListCounts;
+use index_types::TxNumber;
 use segment_id::Kind;
 
 // An append of either kind.

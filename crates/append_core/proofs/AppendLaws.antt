@@ -15,7 +15,7 @@ use Rattle.stores.proofs.StoreLaws.{write-one, write-write}
 use Rattle.signed.specs.Sign.{is-negative}
 use Rattle.vlq_core.specs.Zigzag.{zig}
 use Rattle.vlq_core.specs.Groups.{groups, enc}
-use Rattle.records.specs.declared.ListCounts.{ListCounts}
+use Rattle.index_types.specs.declared.ListCounts.{ListCounts}
 use Rattle.records.specs.Records.{keys, record-of}
 use Rattle.records.specs.Find.{find-key}
 use Rattle.records.specs.Changes.{count-after, with-count, put-record, full-for}
@@ -24,8 +24,8 @@ use Rattle.segment_id.specs.declared.Kind.{Kind}
 use Rattle.segment_id.specs.declared.Kind.the-variants.{Box, Tx}
 use Rattle.segment_core.specs.Row.{numbers-bytes, list-bytes, counts-bytes, row-bytes}
 use Rattle.segment_core.proofs.RowLaws.{length-size, row-length}
-use Rattle.buffer_core.specs.declared.HeadCounts.{HeadCounts}
-use Rattle.buffer_core.specs.declared.Appended.the-variants.{Done, Refused}
+use Rattle.index_types.specs.declared.HeadCounts.{HeadCounts}
+use Rattle.index_types.specs.declared.Appended.the-variants.{Done, Refused}
 use Rattle.buffer_core.specs.Edition.{edition-1, spill-bytes}
 use Rattle.buffer_core.specs.Append.{Appending, appending, counts-of, one-number, spilled, spill-of, append-core}
 

@@ -11,15 +11,15 @@ use lib.Seq.{length-take-le}
 use borrow.Author.Tests.{ltb-true}
 use Rattle.stores.proofs.StoreLaws.{length-write}
 use Rattle.signed.specs.Sign.{is-negative}
-use Rattle.records.specs.declared.ListCounts.{ListCounts}
+use Rattle.index_types.specs.declared.ListCounts.{ListCounts}
 use Rattle.records.specs.Changes.{full-for}
 use Rattle.records.specs.Checks.{records-ok, RecordsOk}
 use Rattle.records.proofs.CheckLaws.{and-left, and-right, and-true, records-ok-facts, records-ok-test, records-ok-after-put}
 use Rattle.segment_id.specs.Key.{row-key}
 use Rattle.segment_id.specs.declared.Kind.{Kind}
 use Rattle.segment_id.proofs.KeyLaws.{row-key-length}
-use Rattle.buffer_core.specs.declared.HeadCounts.{HeadCounts}
-use Rattle.buffer_core.specs.declared.Appended.the-variants.{Done, Refused}
+use Rattle.index_types.specs.declared.HeadCounts.{HeadCounts}
+use Rattle.index_types.specs.declared.Appended.the-variants.{Done, Refused}
 use Rattle.buffer_core.specs.Edition.{edition-1, spill-bytes}
 use Rattle.buffer_core.specs.Spills.{head-ok}
 use Rattle.buffer_core.specs.Append.{Appending, appending, counts-of, one-number, counts-with, bytes-with, spilled, spill-of, append-core, append-ok}

@@ -3,17 +3,18 @@ use Prim.Native.Nat.{ℕ, _≤_, _<_}
 use mathlib.Core.List.{List}
 use lib.IntN.{ℤ}
 use lib.ListN.{length}
-use Rattle.records.specs.declared.ListCounts.{ListCounts}
+use Rattle.index_types.specs.Limits.{segment-threshold}
+use Rattle.index_types.specs.declared.ListCounts.{ListCounts}
 use Rattle.records.specs.Checks.{InBounds}
-use Rattle.buffer_core.specs.declared.HeadCounts.{HeadCounts}
+use Rattle.index_types.specs.declared.HeadCounts.{HeadCounts}
 
 pub record AppendReady (h : HeadCounts) (c : ListCounts) (head : List ℤ) (staged : List ℕ) : Type 0 where
-  pub few : h .len ≤ 512
-  pub long : 512 ≤ length head
+  pub few : h .len ≤ segment-threshold
+  pub long : segment-threshold ≤ length head
   pub bounds : InBounds 10288 c staged
 
 -- the same for the step at a head of 512, with its spill count
 pub record SpillReady (spills : ℕ) (c : ListCounts) (head : List ℤ) (staged : List ℕ) : Type 0 where
   pub below : spills < 2147483648
-  pub long : 512 ≤ length head
+  pub long : segment-threshold ≤ length head
   pub bounds : InBounds 10288 c staged

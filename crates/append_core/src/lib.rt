@@ -2,15 +2,18 @@
 ghost use mathlib.Core.Path.{_≡_};
 ghost use Prim.Native.Nat.{_+_, _*_, _≤_, _<_};
 ghost use lib.ListN.{length, take, set};
+ghost use Rattle.index_types.specs.Limits.{segment-threshold};
 ghost use Rattle.records.specs.Records.{keys, record-of};
 ghost use Rattle.records.specs.Find.{find-key};
 ghost use Rattle.records.specs.Changes.{slot, count-after, put-record};
 ghost use Rattle.buffer_core.specs.Edition.{edition-1, spill-bytes};
 ghost use Rattle.buffer_core.specs.Append.{appending, one-number, spill-of, append-core};
 ghost use Rattle.append_core.specs.Ready.{AppendReady, SpillReady};
-use buffer_core::Appended;
-use buffer_core::HeadCounts;
-use records::ListCounts;
+use index_types::Appended;
+use index_types::HeadCounts;
+use index_types::ListCounts;
+use index_types::SEGMENT_THRESHOLD;
+use index_types::SPILL_LIMIT;
 use segment_id::Kind;
 
 // Stores a number at a place of the head.
@@ -23,7 +26,7 @@ fn put_number(head: &mut [i64], at: usize, number: i64)
 
 // The number becomes the whole head.
 fn put_first(head: &mut [i64], number: i64)
-    requires { ⌜ 512 ≤ length (now head) ⌝ }
+    requires { ⌜ segment-threshold ≤ length (now head) ⌝ }
     ensures { λ _. ⌜ now (head .exit) ≡ one-number number (now (head .entry)) ⌝ }
 {
     put_number(head, 0, number);
@@ -32,21 +35,21 @@ fn put_first(head: &mut [i64], number: i64)
 
 // Writes the row of the head's first 512 numbers, and gives its length.
 fn emit_row(kind: Kind, head: &[i64], row: &mut [u8]) -> usize
-    requires { ⌜ (512 ≤ length (now head)) × (length (now row) ≡ 10254) ⌝ }
-    ensures { λ r. ⌜ (r ≤ 10254) × (take r (now (row .exit)) ≡ spill-bytes kind (take 512 (now (head .entry)))) ⌝ }
+    requires { ⌜ (segment-threshold ≤ length (now head)) × (length (now row) ≡ 10254) ⌝ }
+    ensures { λ r. ⌜ (r ≤ 10254) × (take r (now (row .exit)) ≡ spill-bytes kind (take segment-threshold (now (head .entry)))) ⌝ }
 {
     match kind {
-        Kind::Box => segment_core::emit_segment(head, 0, head, 512, 0, 0, row, 0),
-        Kind::Tx => segment_core::emit_segment(head, 512, head, 0, 0, 0, row, 0),
+        Kind::Box => segment_core::emit_segment(head, 0, head, SEGMENT_THRESHOLD, 0, 0, row, 0),
+        Kind::Tx => segment_core::emit_segment(head, SEGMENT_THRESHOLD, head, 0, 0, 0, row, 0),
     }
 }
 
 // Puts the row of the head's first 512 numbers among the staged spills, and gives their number.
 fn stage_row(kind: Kind, head: &[i64], staged: &mut [u8], count: usize, key: &[u8]) -> usize
-    requires { ⌜ (512 ≤ length (now head)) × (length (now key) ≡ 32) × (count * 10288 ≤ length (now staged))
+    requires { ⌜ (segment-threshold ≤ length (now head)) × (length (now key) ≡ 32) × (count * 10288 ≤ length (now staged))
         × (slot (find-key (now key) (keys 10288 count (now staged))) count * 10288 + 10288 ≤ length (now staged)) ⌝ }
     ensures { λ r. ⌜ (r ≡ count-after (find-key (now (key .entry)) (keys 10288 count (now (staged .entry)))) count)
-        × (now (staged .exit) ≡ put-record 10288 count (now (key .entry)) (record-of 10288 (now (key .entry)) (spill-bytes kind (take 512 (now (head .entry))))) (now (staged .entry))) ⌝ }
+        × (now (staged .exit) ≡ put-record 10288 count (now (key .entry)) (record-of 10288 (now (key .entry)) (spill-bytes kind (take segment-threshold (now (head .entry))))) (now (staged .entry))) ⌝ }
 {
     let mut row = [0u8; 10254];
     let n = emit_row(kind, head, &mut row);
@@ -67,7 +70,7 @@ fn spill(
     ensures { λ r. ⌜ appending r (now (head .exit)) (now (staged .exit))
         ≡ spill-of edition-1 kind (now (parent .entry)) spills number «staged_counts» (now (head .entry)) (now (staged .entry)) ⌝ }
 {
-    if 2147483647 <= spills {
+    if SPILL_LIMIT <= spills {
         return Appended::Refused(refusal::SPILL_COUNT_AT_LIMIT);
     }
     let key = spill_rows::spill_key(kind, parent, spills);
@@ -111,7 +114,7 @@ pub fn append(
     if signed::is_negative(number) {
         return Appended::Refused(refusal::NEGATIVE_NUMBER);
     }
-    if len < 512 {
+    if len < SEGMENT_THRESHOLD {
         put_number(head, len, number);
         return Appended::Done(
             HeadCounts {

@@ -6,6 +6,7 @@ use lib.ListN.{length}
 use lib.Dec.{leb}
 use lib.IntN.{ℤ, pos, _+ℤ_, _-ℤ_}
 use lib.Signed.{ltZ}
+use Rattle.index_types.specs.Limits.{token-limit}
 use Rattle.signed.specs.declared.Checked.{Checked}
 use Rattle.signed.specs.declared.Checked.the-variants.{Is, Out}
 use Rattle.signed.specs.Checked.{checked}
@@ -16,7 +17,7 @@ use Rattle.balance_tokens.specs.Tokens.{Held, Changed, held, turned, change-tok
 
 -- 25 unless the balance's count is at most 128, and the box's ids and amounts are there for its n tokens
 unfoldable pub buffers-ok : ℕ → List ℕ → List ℤ → ℕ → Bool
-buffers-ok count ids amounts n = leb count 128 && (leb n (length amounts) && leb (n * 32) (length ids))
+buffers-ok count ids amounts n = leb count token-limit && (leb n (length amounts) && leb (n * 32) (length ids))
 
 -- "Subtraction stops nanoErgs at 0"
 abbrev pub stopped : Checked → Checked

@@ -2,13 +2,15 @@
 ghost use mathlib.Core.Path.{_≡_};
 ghost use Rattle.balance.specs.Boxes.{buffers-ok, nanos-after, change-box, add-box, subtract-box};
 use balance_tokens::Counted;
+use index_types::TOKEN_ID_BYTES;
+use index_types::TOKEN_LIMIT;
 use refusal::Answer;
 use signed::Checked;
 
 // The id at place i is `ids[32 * i..32 * i + 32]`, its amount `amounts[i]`; the first `count` places are in use.
 pub struct Balance {
-    pub ids: [u8; 4096],
-    pub amounts: [i64; 128],
+    pub ids: [u8; TOKEN_ID_BYTES],
+    pub amounts: [i64; TOKEN_LIMIT],
     pub count: usize,
     pub nanos: i64,
 }
@@ -23,7 +25,7 @@ pub struct Outcome {
 pub fn buffers_ok(count: usize, ids: &[u8], amounts: &[i64], n: usize) -> bool
     ensures { λ r. ⌜ r ≡ buffers-ok count (now (ids .entry)) (now (amounts .entry)) n ⌝ }
 {
-    if 128 < count {
+    if TOKEN_LIMIT < count {
         return false;
     }
     if amounts.len() < n {

@@ -23,10 +23,10 @@ use Rattle.ledger.specs.Run.{Res, done, refused, Leaves}
 use Rattle.fork_model.proofs.Balances as Ba
 use Rattle.fork_model.proofs.BalanceLaws as Bw
 use Rattle.fork_model.proofs.CodeLaws as Co
-use Rattle.fork_model.proofs.Results.{mapRes, map-done, result-of}
+use Rattle.fork_model.proofs.Results.{map-res, map-done, result-of}
 use Rattle.fork_model.proofs.Search.{done≢refused}
 use Rattle.fork_model.proofs.Store as St
-use Rattle.fork_model.proofs.Store.{andThen}
+use Rattle.fork_model.proofs.Store.{then-do}
 use Rattle.fork_model.proofs.Whole as Wh
 use Rattle.balance_laws.specs.Calls.{ids-of, amounts-of, outcome-of, credited, debited, tokens-from, tokens-in}
 use Rattle.balance_laws.proofs.Turns.{limit, tokens-of, Fits, Does, ite-lt, add-does, subtract-does, run-does}
@@ -39,18 +39,18 @@ abbrev pub bal-of : Balance → Ba.Bal
 bal-of b = bal (b .nanos) (tokens-in b)
 
 pub record DoesB (X : Res Balance) (Y : Res Ba.Bal) : Type 0 where
-  pub same : mapRes bal-of X ≡ Y
+  pub same : map-res bal-of X ≡ Y
   pub keeps : (c : Balance) → X ≡ done c → Fits (held-by c)
 
-settle : (b : Balance) (v : ℤ) (x : Changed) (Y : Res Tokens) → Does x Y → DoesB (result-of (outcome-of (settled b v x))) (andThen Y (λ l. done (bal v l)))
+settle : (b : Balance) (v : ℤ) (x : Changed) (Y : Res Tokens) → Does x Y → DoesB (result-of (outcome-of (settled b v x))) (then-do Y (λ l. done (bal v l)))
 settle b v (held h) Y d = record {
-  same = ap (λ (y : Res Tokens). andThen y (λ l. done (bal v l))) (d .0);
+  same = ap (λ (y : Res Tokens). then-do y (λ l. done (bal v l))) (d .0);
   keeps = λ c e.
       let f : Fits h = d .1 in
       let z : record { ids = h .ids; amounts = h .amounts; count = h .count; nanos = v } ≡ c = cc in
       subst (λ (c : Balance). Fits (held-by c)) z (record { few = f .few; ids-in = f .ids-in; amounts-in = f .amounts-in });
 }
-settle b v (turned code) Y d = record { same = ap (λ (y : Res Tokens). andThen y (λ l. done (bal v l))) d; keeps = λ c e. absurd (done≢refused (sym e)) }
+settle b v (turned code) Y d = record { same = ap (λ (y : Res Tokens). then-do y (λ l. done (bal v l))) d; keeps = λ c e. absurd (done≢refused (sym e)) }
 
 no-bal : (k : ℕ) → DoesB (refused k) (refused k)
 no-bal k = record { same = refl; keeps = λ c e. absurd (done≢refused (sym e)) }
@@ -66,20 +66,20 @@ length-amounts : (ts : Tokens) → length (amounts-of ts) ≡ length ts
 length-amounts [] = refl
 length-amounts (x ∷ ts) = ap suc (length-amounts ts)
 
-adds-none : (l : Tokens) → Ba.addToks limit 128 l [] ≡ done l
-unfolding Ba.addToks
+adds-none : (l : Tokens) → Ba.add-tokens limit 128 l [] ≡ done l
+unfolding Ba.add-tokens
 adds-none l = refl
 
-adds-more : (l : Tokens) (x : TokenId × ℤ) (ts : Tokens) → Ba.addToks limit 128 l (x ∷ ts) ≡ andThen (Ba.addTok limit 128 l (x .0) (x .1)) (λ k. Ba.addToks limit 128 k ts)
-unfolding Ba.addToks
+adds-more : (l : Tokens) (x : TokenId × ℤ) (ts : Tokens) → Ba.add-tokens limit 128 l (x ∷ ts) ≡ then-do (Ba.token-added limit 128 l (x .0) (x .1)) (λ k. Ba.add-tokens limit 128 k ts)
+unfolding Ba.add-tokens
 adds-more l x ts = refl
 
-subs-none : (l : Tokens) → Ba.subToks limit 128 l [] ≡ done l
-unfolding Ba.subToks
+subs-none : (l : Tokens) → Ba.subtract-tokens limit 128 l [] ≡ done l
+unfolding Ba.subtract-tokens
 subs-none l = refl
 
-subs-more : (l : Tokens) (x : TokenId × ℤ) (ts : Tokens) → Ba.subToks limit 128 l (x ∷ ts) ≡ andThen (Ba.subTok limit 128 l (x .0) (x .1)) (λ k. Ba.subToks limit 128 k ts)
-unfolding Ba.subToks
+subs-more : (l : Tokens) (x : TokenId × ℤ) (ts : Tokens) → Ba.subtract-tokens limit 128 l (x ∷ ts) ≡ then-do (Ba.token-taken limit 128 l (x .0) (x .1)) (λ k. Ba.subtract-tokens limit 128 k ts)
+unfolding Ba.subtract-tokens
 subs-more l x ts = refl
 
 module _ (b : Balance) (I : Fits (held-by b)) (n : ℤ) (ts : Tokens) (t : Typed ts) where
@@ -92,10 +92,10 @@ module _ (b : Balance) (I : Fits (held-by b)) (n : ℤ) (ts : Tokens) (t : Typed
   on adds = rw passes
 
   by-add : (x : ℤ) (u : Bool) → DoesB (result-of (outcome-of (box-by true b (ids-of ts) (amounts-of ts) (length ts) (cond u (Is x) Out))))
-      (cond u (andThen (Ba.addToks limit 128 (tokens-in b) ts) (λ l. done (bal x l))) (refused 23))
+      (cond u (then-do (Ba.add-tokens limit 128 (tokens-in b) ts) (λ l. done (bal x l))) (refused 23))
   by-add x true =
-      settle b x (change-tokens true (ids-of ts) (amounts-of ts) 0 (length ts) (held-by b)) (Ba.addToks limit 128 (tokens-in b) ts)
-      (run-does true (Ba.addToks limit 128) (Ba.addTok limit 128) adds-none adds-more (λ h k v J g f. add-does h J k g v f) ts [] [] 0 refl refl t (held-by b) I)
+      settle b x (change-tokens true (ids-of ts) (amounts-of ts) 0 (length ts) (held-by b)) (Ba.add-tokens limit 128 (tokens-in b) ts)
+      (run-does true (Ba.add-tokens limit 128) (Ba.token-added limit 128) adds-none adds-more (λ h k v J g f. add-does h J k g v f) ts [] [] 0 refl refl t (held-by b) I)
   by-add x false = no-bal 23
 
   pub add-same : DoesB (result-of (credited b n ts)) (Ba.add limit 128 (bal-of b) n ts)
@@ -110,12 +110,12 @@ module _ (b : Balance) (I : Fits (held-by b)) (n : ℤ) (ts : Tokens) (t : Typed
   stop-same (negsuc m) = refl
 
   by-sub : (x : ℤ) (u : Bool) → DoesB (result-of (outcome-of (box-by false b (ids-of ts) (amounts-of ts) (length ts) (stopped (cond u (Is x) Out)))))
-      (cond u (andThen (Ba.subToks limit 128 (tokens-in b) ts) (λ l. done (bal (Ba.stop0 x) l))) (refused 23))
+      (cond u (then-do (Ba.subtract-tokens limit 128 (tokens-in b) ts) (λ l. done (bal (Ba.stop0 x) l))) (refused 23))
   by-sub x true =
       to-bal
-      (settle b (cond (ltZ x (pos 0)) (pos 0) x) (change-tokens false (ids-of ts) (amounts-of ts) 0 (length ts) (held-by b)) (Ba.subToks limit 128 (tokens-in b) ts)
-      (run-does false (Ba.subToks limit 128) (Ba.subTok limit 128) subs-none subs-more (λ h k v J g f. subtract-does h J k g v) ts [] [] 0 refl refl t (held-by b) I))
-      (ap (λ (z : ℤ). andThen (Ba.subToks limit 128 (tokens-in b) ts) (λ l. done (bal z l))) (stop-same x))
+      (settle b (cond (ltZ x (pos 0)) (pos 0) x) (change-tokens false (ids-of ts) (amounts-of ts) 0 (length ts) (held-by b)) (Ba.subtract-tokens limit 128 (tokens-in b) ts)
+      (run-does false (Ba.subtract-tokens limit 128) (Ba.token-taken limit 128) subs-none subs-more (λ h k v J g f. subtract-does h J k g v) ts [] [] 0 refl refl t (held-by b) I))
+      (ap (λ (z : ℤ). then-do (Ba.subtract-tokens limit 128 (tokens-in b) ts) (λ l. done (bal z l))) (stop-same x))
   by-sub x false = no-bal 23
 
   pub sub-same : DoesB (result-of (debited b n ts)) (Ba.sub limit 128 (bal-of b) n ts)
@@ -144,8 +144,8 @@ change-leaves adds b n ids amounts m = by-buffers (buffers-ok (b .count) ids amo
 
 -- ---- the laws
 
-done-same : (X : Res Balance) (c : Balance) (Y : Res Ba.Bal) → mapRes bal-of X ≡ Y → X ≡ done c → Y ≡ done (bal-of c)
-done-same X c Y e f = sym e ∙ ap (mapRes bal-of) f
+done-same : (X : Res Balance) (c : Balance) (Y : Res Ba.Bal) → map-res bal-of X ≡ Y → X ≡ done c → Y ≡ done (bal-of c)
+done-same X c Y e f = sym e ∙ ap (map-res bal-of) f
 
 module _ (ids : Parent → List ℕ) (amounts : Parent → List ℤ) (ids-in : (p : Parent) → length (ids p) ≡ 4096) (amounts-in : (p : Parent) → length (amounts p) ≡ 128) where
   -- an empty balance, whatever its places hold
@@ -153,7 +153,7 @@ module _ (ids : Parent → List ℕ) (amounts : Parent → List ℤ) (ids-in : (
   none p = record { ids = ids p; amounts = amounts p; count = 0; nanos = pos 0 }
 
   abbrev pub balances : Wh.Balances
-  balances = record { Bal = Balance; noBal = none; add = credited; sub = debited; nanoOf = λ b. b .nanos; amountOf = λ b t. amount-in (tokens-in b) t }
+  balances = record { Bal = Balance; no-balance = none; add = credited; sub = debited; nano-of = λ b. b .nanos; amount-of = λ b t. amount-in (tokens-in b) t }
 
   abbrev G : Ba.Bal → Type 0
   G b = Bw.GoodB limit 128 b
@@ -165,8 +165,8 @@ module _ (ids : Parent → List ℕ) (amounts : Parent → List ℤ) (ids-in : (
   laws E = record {
     credits = λ b n ts. change-leaves true b n (ids-of ts) (amounts-of ts) (length ts);
     debits = λ b n ts. change-leaves false b n (ids-of ts) (amounts-of ts) (length ts);
-    add-25 = λ b n ts g v e. Co.never (Ba.add limit 128 (bal-of b) n ts) (Co.add-not limit 128 (bal-of b) n ts) (sym (add-same b (g .0) n ts v .same) ∙ ap (mapRes bal-of) e);
-    sub-25 = λ b n ts g v e. Co.never (Ba.sub limit 128 (bal-of b) n ts) (Co.sub-not limit 128 (bal-of b) n ts) (sym (sub-same b (g .0) n ts v .same) ∙ ap (mapRes bal-of) e);
+    add-25 = λ b n ts g v e. Co.never (Ba.add limit 128 (bal-of b) n ts) (Co.add-not limit 128 (bal-of b) n ts) (sym (add-same b (g .0) n ts v .same) ∙ ap (map-res bal-of) e);
+    sub-25 = λ b n ts g v e. Co.never (Ba.sub limit 128 (bal-of b) n ts) (Co.sub-not limit 128 (bal-of b) n ts) (sym (sub-same b (g .0) n ts v .same) ∙ ap (map-res bal-of) e);
     no-good = λ p. (record { few = omega arith; ids-in = ids-in p; amounts-in = amounts-in p }, Bw.no-good limit 128 (omega arith));
     no-nano = λ p. refl;
     no-amount = λ p t. refl;
@@ -185,7 +185,7 @@ module _ (ids : Parent → List ℕ) (amounts : Parent → List ℤ) (ids-in : (
           m .0,
           m .1,
           (D .keeps (m .0) (m .1), subst G (sym (m .2)) (a .2)),
-          record { nanoErgs = ap Ba.nanoOf (m .2) ∙ a .3 .nanoErgs; amounts = λ t. ap (λ (y : Ba.Bal). Ba.amountOf y t) (m .2) ∙ a .3 .amounts t },
+          record { nanoErgs = ap Ba.nano-of (m .2) ∙ a .3 .nanoErgs; amounts = λ t. ap (λ (y : Ba.Bal). Ba.amount-of y t) (m .2) ∙ a .3 .amounts t },
         );
     sub-back = λ x n ts b g h R s.
         let D = sub-same b (h .0) n ts (R .typed) in
@@ -194,6 +194,6 @@ module _ (ids : Parent → List ℕ) (amounts : Parent → List ℤ) (ids-in : (
           m .0,
           m .1,
           (D .keeps (m .0) (m .1), subst G (sym (m .2)) (a .2)),
-          record { nanoErgs = ap Ba.nanoOf (m .2) ∙ a .3 .nanoErgs; amounts = λ t. ap (λ (y : Ba.Bal). Ba.amountOf y t) (m .2) ∙ a .3 .amounts t },
+          record { nanoErgs = ap Ba.nano-of (m .2) ∙ a .3 .nanoErgs; amounts = λ t. ap (λ (y : Ba.Bal). Ba.amount-of y t) (m .2) ∙ a .3 .amounts t },
         );
   }

@@ -24,7 +24,7 @@ use Rattle.balance.specs.Tokens.{Held, Changed, held, turned, id-at, place-of, 
 use Rattle.ledger.specs.Ledger.{TokenId, Tokens, Typed, ite, id-dec}
 use Rattle.ledger.specs.Run.{Res, done, refused}
 use Rattle.fork_model.proofs.Balances as Ba
-use Rattle.fork_model.proofs.Store.{andThen}
+use Rattle.fork_model.proofs.Store.{then-do}
 use Rattle.fork_model.proofs.Search.{done≢refused}
 use Rattle.balance_laws.specs.Calls.{tokens-from, ids-of, amounts-of}
 use Rattle.balance_laws.proofs.View.{has-place, not-place, place-most, amt-place, length-tokens, set-place, last-token, gone-token, ids-length, amounts-length}
@@ -77,13 +77,13 @@ module _ (h : Held) (I : Fits h) (key : List ℕ) (kl : length key ≡ 32) (v : 
   amt-at g = amt-place key (h .ids) (h .amounts) (h .count) 0 (omega arith)
 
   -- the amount at the id's place is set
-  set-does : at < h .count → (x : ℤ) → Does (held (with-amount h at x)) (done (Ba.setTok l key x))
+  set-does : at < h .count → (x : ℤ) → Does (held (with-amount h at x)) (done (Ba.set-token l key x))
   set-does g x = (
     ap done (set-place key (h .ids) (h .amounts) x (h .count) 0 (omega (arith, I .amounts-in, I .few)) (omega arith)),
     record { few = I .few; ids-in = I .ids-in; amounts-in = length-set (h .amounts) at x ∙ I .amounts-in },
   )
 
-  by-sum : at < h .count → (x : ℤ) (t : Bool) → Does (sum-at h at (cond t (Is x) Out)) (cond t (done (Ba.setTok l key x)) (refused 23))
+  by-sum : at < h .count → (x : ℤ) (t : Bool) → Does (sum-at h at (cond t (Is x) Out)) (cond t (done (Ba.set-token l key x)) (refused 23))
   by-sum g x true = set-does g x
   by-sum g x false = refl
 
@@ -101,16 +101,16 @@ module _ (h : Held) (I : Fits h) (key : List ℕ) (kl : length key ≡ 32) (v : 
   by-new g false e = refl
 
   abbrev adding : Res Tokens
-  adding = ite (Ba.has-dec l key) (done (Ba.setTok l key (amount-in l key +ℤ v))) (ite (decLt (length l) 128) (done (l ++ ((key, v) ∷ []))) (refused 24))
+  adding = ite (Ba.has-dec l key) (done (Ba.set-token l key (amount-in l key +ℤ v))) (ite (decLt (length l) 128) (done (l ++ ((key, v) ∷ []))) (refused 24))
 
   by-place : mag v < limit → (t : Bool) → ltb at (h .count) ≡ t
-      → Does (cond t (sum-at h at (checked (getD (h .amounts) at (pos 0) +ℤ v))) (cond (ltb (h .count) 128) (held (with-token h key v)) (turned 24))) (Ba.addTok limit 128 l key v)
+      → Does (cond t (sum-at h at (checked (getD (h .amounts) at (pos 0) +ℤ v))) (cond (ltb (h .count) 128) (held (with-token h key v)) (turned 24))) (Ba.token-added limit 128 l key v)
   unfolding checked
   by-place f true e =
       let g = ltb-true at (h .count) e in
       let x : ℤ = getD (h .amounts) at (pos 0) +ℤ v in
       to (sum-at h at (cond (ltb (mag x) limit) (Is x) Out)) (by-sum g x (ltb (mag x) limit))
-      (ap (λ (a : ℤ). cond (ltb (mag (a +ℤ v)) limit) (done (Ba.setTok l key (a +ℤ v))) (refused 23)) (sym (amt-at g))
+      (ap (λ (a : ℤ). cond (ltb (mag (a +ℤ v)) limit) (done (Ba.set-token l key (a +ℤ v))) (refused 23)) (sym (amt-at g))
       ∙ sym (ite-lt (mag (amount-in l key +ℤ v)) limit (decLt (mag (amount-in l key +ℤ v)) limit) adding (refused 23)
       ∙ ap (λ (x : Res Tokens). cond (ltb (mag (amount-in l key +ℤ v)) limit) x (refused 23)) (ite-yes (Ba.has-dec l key) _ _ (has g))))
   by-place f false e =
@@ -122,12 +122,12 @@ module _ (h : Held) (I : Fits h) (key : List ℕ) (kl : length key ≡ 32) (v : 
       ∙ ite-no (Ba.has-dec l key) _ _ (hasn't g)
       ∙ ite-lt (length l) 128 (decLt (length l) 128) (done (l ++ ((key, v) ∷ []))) (refused 24)))
 
-  pub add-does : mag v < limit → Does (add-token h key v) (Ba.addTok limit 128 l key v)
+  pub add-does : mag v < limit → Does (add-token h key v) (Ba.token-added limit 128 l key v)
   unfolding add-token
   add-does f = by-place f (ltb at (h .count)) refl
 
   -- a token at 0 or below leaves
-  gone : at < h .count → Does (held (without-token h at)) (done (Ba.dropTok l key))
+  gone : at < h .count → Does (held (without-token h at)) (done (Ba.drop-token l key))
   gone g = (
     ap done (gone-token (h .ids) (h .amounts) at (h .count) (I .ids-in) (I .amounts-in) (I .few) g key refl),
     record {
@@ -147,7 +147,7 @@ module _ (h : Held) (I : Fits h) (key : List ℕ) (kl : length key ≡ 32) (v : 
   by-difference g x false = refl
 
   by-place-sub : (t : Bool) → ltb at (h .count) ≡ t
-      → Does (cond t (difference-at h at (checked (getD (h .amounts) at (pos 0) -ℤ v))) (held h)) (Ba.subTok limit 128 l key v)
+      → Does (cond t (difference-at h at (checked (getD (h .amounts) at (pos 0) -ℤ v))) (held h)) (Ba.token-taken limit 128 l key v)
   unfolding checked
   by-place-sub true e =
       let g = ltb-true at (h .count) e in
@@ -160,23 +160,23 @@ module _ (h : Held) (I : Fits h) (key : List ℕ) (kl : length key ≡ 32) (v : 
       let g = ltb-false at (h .count) e in
       (sym (ite-no (Ba.has-dec l key) _ _ (hasn't g)), I)
 
-  pub subtract-does : Does (subtract-token h key v) (Ba.subTok limit 128 l key v)
+  pub subtract-does : Does (subtract-token h key v) (Ba.token-taken limit 128 l key v)
   unfolding subtract-token
   subtract-does = by-place-sub (ltb at (h .count)) refl
 
 -- ---- a run of tokens
 
 then-does : (x : Changed) (Y : Res Tokens) (more : Held → Changed) (run : Tokens → Res Tokens) → Does x Y → ((g : Held) → Fits g → Does (more g) (run (tokens-of g)))
-    → Does (and-then x more) (andThen Y run)
-then-does (held g) Y more run d f = to (more g) (f g (d .1)) (ap (λ (y : Res Tokens). andThen y run) (d .0))
-then-does (turned code) Y more run d f = ap (λ (y : Res Tokens). andThen y run) d
+    → Does (and-then x more) (then-do Y run)
+then-does (held g) Y more run d f = to (more g) (f g (d .1)) (ap (λ (y : Res Tokens). then-do y run) (d .0))
+then-does (turned code) Y more run d f = ap (λ (y : Res Tokens). then-do y run) d
 
 id-of : (pre name rest : List ℕ) (j : ℕ) → length pre ≡ j * 32 → length name ≡ 32 → id-at (pre ++ (name ++ rest)) j ≡ name
 id-of pre name rest j e f = ap (take 32) (drop-at pre (name ++ rest) (j * 32) e) ∙ take-at name rest 32 f
 
 module _ (adds : Bool) (run : Tokens → Tokens → Res Tokens) (one : Tokens → TokenId → ℤ → Res Tokens)
     (run-none : (l : Tokens) → run l [] ≡ done l)
-    (run-more : (l : Tokens) (x : TokenId × ℤ) (ts : Tokens) → run l (x ∷ ts) ≡ andThen (one l (x .0) (x .1)) (λ k. run k ts))
+    (run-more : (l : Tokens) (x : TokenId × ℤ) (ts : Tokens) → run l (x ∷ ts) ≡ then-do (one l (x .0) (x .1)) (λ k. run k ts))
     (steps : (h : Held) (key : List ℕ) (v : ℤ) → Fits h → length key ≡ 32 → mag v < limit → Does (change-token adds h key v) (one (tokens-of h) key v)) where
   pub run-does : (ts : Tokens) (pre : List ℕ) (front : List ℤ) (j : ℕ) → length pre ≡ j * 32 → length front ≡ j → Typed ts → (h : Held) → Fits h
       → Does (change-tokens adds (pre ++ ids-of ts) (front ++ amounts-of ts) j (length ts) h) (run (tokens-of h) ts)

@@ -104,20 +104,20 @@ tokens-below ids ams p w i (suc n) h =
 
 module _ (key ids : List ℕ) (ams : List ℤ) (w : ℤ) where
   set-by : (i n q : ℕ) (s : Bool) → same-bytes (id-at ids i) key ≡ s → i < length ams → cond s i q < i + suc n → suc i ≤ q
-      → (q < suc i + n → tokens-from ids (set ams q w) (suc i) n ≡ Ba.setTok (tokens-from ids ams (suc i) n) key w)
+      → (q < suc i + n → tokens-from ids (set ams q w) (suc i) n ≡ Ba.set-token (tokens-from ids ams (suc i) n) key w)
       → tokens-from ids (set ams (cond s i q) w) i (suc n)
-      ≡ cond s ((key, w) ∷ tokens-from ids ams (suc i) n) ((id-at ids i, getD ams i (pos 0)) ∷ Ba.setTok (tokens-from ids ams (suc i) n) key w)
+      ≡ cond s ((key, w) ∷ tokens-from ids ams (suc i) n) ((id-at ids i, getD ams i (pos 0)) ∷ Ba.set-token (tokens-from ids ams (suc i) n) key w)
   set-by i n q true e h g k ih =
       rw (getD-set-same ams i w (pos 0) h, tokens-below ids ams i w (suc i) n (omega arith)) (ap (λ (x : TokenId). (x, w) ∷ tokens-from ids ams (suc i) n) (same-true (id-at ids i) key e))
   set-by i n q false e h g k ih = rw (getD-set-other ams q i w (pos 0) (λ r. lt-irrefl q (subst (λ (x : ℕ). x < q) r k)), ih (omega arith))
 
   pub set-place : (n i : ℕ) → i + n ≤ length ams → place-from key ids i n < i + n
-      → tokens-from ids (set ams (place-from key ids i n) w) i n ≡ Ba.setTok (tokens-from ids ams i n) key w
+      → tokens-from ids (set ams (place-from key ids i n) w) i n ≡ Ba.set-token (tokens-from ids ams i n) key w
   unfolding place-from
   set-place zero i h g = absurd (omega arith)
   set-place (suc n) i h g =
       set-by i n (place-from key ids (suc i) n) (same-bytes (id-at ids i) key) refl (omega arith) g (place-ge key ids ams (suc i) n) (set-place n (suc i) (omega arith))
-      ∙ sym (ite-same (id-at ids i) key (id-dec (id-at ids i) key) ((key, w) ∷ tokens-from ids ams (suc i) n) ((id-at ids i, getD ams i (pos 0)) ∷ Ba.setTok (tokens-from ids ams (suc i) n) key w))
+      ∙ sym (ite-same (id-at ids i) key (id-dec (id-at ids i) key) ((key, w) ∷ tokens-from ids ams (suc i) n) ((id-at ids i, getD ams i (pos 0)) ∷ Ba.set-token (tokens-from ids ams (suc i) n) key w))
 
 -- ---- ids of a list that was written to
 
@@ -168,22 +168,22 @@ module _ (ids R : List ℕ) (ams S : List ℤ) (p n : ℕ)
   moved-up (suc m) i h e = rw (id-hi i h (omega arith), am-hi i h (omega arith), moved-up m (suc i) (omega arith) (omega arith))
 
   drop-by : (key : List ℕ) (m i q : ℕ) (s : Bool) → cond s i q ≡ p → p < n → i + suc m ≡ n → suc i ≤ q
-      → ((k : ℕ) → m ≡ suc k → q ≡ p → tokens-from R S (suc i) k ≡ Ba.dropTok (tokens-from ids ams (suc i) (suc k)) key)
-      → tokens-from R S i m ≡ cond s (tokens-from ids ams (suc i) m) ((id-at ids i, getD ams i (pos 0)) ∷ Ba.dropTok (tokens-from ids ams (suc i) m) key)
+      → ((k : ℕ) → m ≡ suc k → q ≡ p → tokens-from R S (suc i) k ≡ Ba.drop-token (tokens-from ids ams (suc i) (suc k)) key)
+      → tokens-from R S i m ≡ cond s (tokens-from ids ams (suc i) m) ((id-at ids i, getD ams i (pos 0)) ∷ Ba.drop-token (tokens-from ids ams (suc i) m) key)
   drop-by key m i q true e h f g ih = moved-up m i (omega arith) f
   drop-by key zero i q false e h f g ih = absurd (lt-irrefl p (omega arith))
   drop-by key (suc m) i q false e h f g ih = rw (id-lo i (omega arith), am-lo i (omega arith), ih m refl e)
 
   pub drop-place : (key : List ℕ) (m i : ℕ) → place-from key ids i (suc m) ≡ p → p < n → i + suc m ≡ n
-      → tokens-from R S i m ≡ Ba.dropTok (tokens-from ids ams i (suc m)) key
+      → tokens-from R S i m ≡ Ba.drop-token (tokens-from ids ams i (suc m)) key
   unfolding place-from
   drop-place key zero i e h f =
       drop-by key zero i (place-from key ids (suc i) zero) (same-bytes (id-at ids i) key) e h f (place-ge key ids ams (suc i) zero) (λ k z. absurd (omega arith))
-      ∙ sym (ite-same (id-at ids i) key (id-dec (id-at ids i) key) (tokens-from ids ams (suc i) zero) ((id-at ids i, getD ams i (pos 0)) ∷ Ba.dropTok (tokens-from ids ams (suc i) zero) key))
+      ∙ sym (ite-same (id-at ids i) key (id-dec (id-at ids i) key) (tokens-from ids ams (suc i) zero) ((id-at ids i, getD ams i (pos 0)) ∷ Ba.drop-token (tokens-from ids ams (suc i) zero) key))
   drop-place key (suc m) i e h f =
       drop-by key (suc m) i (place-from key ids (suc i) (suc m)) (same-bytes (id-at ids i) key) e h f (place-ge key ids ams (suc i) (suc m))
       (λ k z w. let y : k ≡ m = omega arith in rw y (drop-place key m (suc i) w h (omega arith)))
-      ∙ sym (ite-same (id-at ids i) key (id-dec (id-at ids i) key) (tokens-from ids ams (suc i) (suc m)) ((id-at ids i, getD ams i (pos 0)) ∷ Ba.dropTok (tokens-from ids ams (suc i) (suc m)) key))
+      ∙ sym (ite-same (id-at ids i) key (id-dec (id-at ids i) key) (tokens-from ids ams (suc i) (suc m)) ((id-at ids i, getD ams i (pos 0)) ∷ Ba.drop-token (tokens-from ids ams (suc i) (suc m)) key))
 
 -- ---- the lists of `closed-up` are such
 
@@ -226,8 +226,8 @@ module _ (ids : List ℕ) (ams : List ℤ) (p n : ℕ) (li : length ids ≡ 4096
       ∙ closed-hi 1 p n (pos 0) ams p (p + 1) (n - (p + 1)) (omega arith) (omega arith) (omega arith) (omega arith) (omega arith) (i - p) (omega arith)
       ∙ ap (λ (y : ℕ). getD ams y (pos 0)) b
 
-  pub gone-token : (key : List ℕ) → place-of key ids n ≡ p → tokens-from R S 0 (n - 1) ≡ Ba.dropTok (tokens-from ids ams 0 n) key
+  pub gone-token : (key : List ℕ) → place-of key ids n ≡ p → tokens-from R S 0 (n - 1) ≡ Ba.drop-token (tokens-from ids ams 0 n) key
   gone-token key e =
       let q : n ≡ suc (n - 1) = omega arith in
       drop-place ids R ams S p n ids-lo ids-hi amounts-lo amounts-hi key (n - 1) 0 (ap (place-from key ids 0) (sym q) ∙ e) h (omega arith)
-      ∙ ap (λ (m : ℕ). Ba.dropTok (tokens-from ids ams 0 m) key) (sym q)
+      ∙ ap (λ (m : ℕ). Ba.drop-token (tokens-from ids ams 0 m) key) (sym q)

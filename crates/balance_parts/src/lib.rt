@@ -4,10 +4,13 @@ ghost use mathlib.Core.Bool.{true};
 ghost use mathlib.Core.List.{List};
 ghost use Prim.Native.Nat.{ℕ, _*_, _≤_};
 ghost use lib.ListN.{length};
+ghost use Rattle.index_types.specs.Limits.{token-limit, token-id-bytes};
 ghost use Rattle.balance_tokens.specs.Tokens.{change-tokens};
 ghost use Rattle.balance.specs.Boxes.{change-box, add-box, subtract-box};
 ghost use Rattle.balance.specs.Parts.{Small, Passed, Kept, flat, outcome};
 use balance_tokens::Counted;
+use index_types::TOKEN_ID_BYTES;
+use index_types::TOKEN_LIMIT;
 use refusal::Answer;
 use signed::Checked;
 
@@ -30,10 +33,14 @@ fn all_small(numbers: &[i64], n: usize, bound: u64) -> bool
 // A test that rules out every refusal of a box's n tokens: there is room for n new ones, and with n ≤ 128 no sum of an amount held, below 2^62, and n amounts
 // below 2^55 leaves 64 signed bits. Where it is false a token may be refused or not.
 fn none_refused(adding: bool, sums: &[i64], count: usize, amounts: &[i64], n: usize) -> bool
-    requires { ⌜ (length (now sums) ≡ 128) × (count ≤ 128) × (n ≤ length (now amounts)) ⌝ }
+    requires { ⌜ (length (now sums) ≡ token-limit) × (count ≤ token-limit) × (n ≤ length (now amounts)) ⌝ }
     ensures { λ r. ⌜ (r ≡ true → (table ids : List ℕ) → Passed (change-tokens adding ids (now (amounts .entry)) 0 n (record { ids = table; amounts = now (sums .entry); count = count }))) ⌝ }
 {
-    let room = if adding { 128 - count } else { 128 };
+    let room = if adding {
+        TOKEN_LIMIT - count
+    } else {
+        TOKEN_LIMIT
+    };
     if room < n {
         return false;
     }
@@ -53,12 +60,12 @@ fn change_copies(
     amounts: &[i64],
     n: usize,
 ) -> Counted
-    requires { ⌜ (length (now table) ≡ 4096) × (length (now sums) ≡ 128) × (count ≤ 128) × (n * 32 ≤ length (now ids)) × (n ≤ length (now amounts)) ⌝ }
+    requires { ⌜ (length (now table) ≡ token-id-bytes) × (length (now sums) ≡ token-limit) × (count ≤ token-limit) × (n * 32 ≤ length (now ids)) × (n ≤ length (now amounts)) ⌝ }
     ensures { λ r. ⌜ Kept r (now (table .entry)) (now (sums .entry)) (now (table .exit)) (now (sums .exit))
         (change-tokens adding (now (ids .entry)) (now (amounts .entry)) 0 n (record { ids = now (table .entry); amounts = now (sums .entry); count = count })) ⌝ }
 {
-    let mut new_table = [0u8; 4096];
-    let mut new_sums = [0i64; 128];
+    let mut new_table = [0u8; TOKEN_ID_BYTES];
+    let mut new_sums = [0i64; TOKEN_LIMIT];
     stores::copy_bytes(&mut new_table, 0, table);
     stores::copy_numbers(&mut new_sums, 0, sums);
     match balance_tokens::change_tokens(
@@ -82,14 +89,14 @@ fn change_copies(
 // The same, in the arrays themselves where no token can be refused.
 fn change_held(
     adding: bool,
-    table: &mut [u8; 4096],
-    sums: &mut [i64; 128],
+    table: &mut [u8; TOKEN_ID_BYTES],
+    sums: &mut [i64; TOKEN_LIMIT],
     count: usize,
     ids: &[u8],
     amounts: &[i64],
     n: usize,
 ) -> Counted
-    requires { ⌜ (count ≤ 128) × (n * 32 ≤ length (now ids)) × (n ≤ length (now amounts)) ⌝ }
+    requires { ⌜ (count ≤ token-limit) × (n * 32 ≤ length (now ids)) × (n ≤ length (now amounts)) ⌝ }
     ensures { λ r. ⌜ Kept r (now (table .entry)) (now (sums .entry)) (now (table .exit)) (now (sums .exit))
         (change-tokens adding (now (ids .entry)) (now (amounts .entry)) 0 n (record { ids = now (table .entry); amounts = now (sums .entry); count = count })) ⌝ }
 {
@@ -103,8 +110,8 @@ fn change_held(
 // Adds or subtracts a box: nanoErgs first, then the tokens.
 fn change_parts(
     adding: bool,
-    held_ids: &mut [u8; 4096],
-    held_amounts: &mut [i64; 128],
+    held_ids: &mut [u8; TOKEN_ID_BYTES],
+    held_amounts: &mut [i64; TOKEN_LIMIT],
     held_count: &mut usize,
     held_nanos: &mut i64,
     nanos: i64,
@@ -137,8 +144,8 @@ fn change_parts(
 
 // Adds a box: its nanoErgs, then its tokens in list order; new ids go last.
 pub fn add_box(
-    held_ids: &mut [u8; 4096],
-    held_amounts: &mut [i64; 128],
+    held_ids: &mut [u8; TOKEN_ID_BYTES],
+    held_amounts: &mut [i64; TOKEN_LIMIT],
     held_count: &mut usize,
     held_nanos: &mut i64,
     nanos: i64,
@@ -164,8 +171,8 @@ pub fn add_box(
 
 // Subtracts a box: its nanoErgs, which stop at 0, then its tokens in list order; a token at 0 or below is dropped, an unknown id ignored.
 pub fn subtract_box(
-    held_ids: &mut [u8; 4096],
-    held_amounts: &mut [i64; 128],
+    held_ids: &mut [u8; TOKEN_ID_BYTES],
+    held_amounts: &mut [i64; TOKEN_LIMIT],
     held_count: &mut usize,
     held_nanos: &mut i64,
     nanos: i64,

@@ -7,6 +7,7 @@ use lib.ListN.{take, drop, getD, set, replicate}
 use lib.Dec.{ltb}
 use lib.IntN.{ℤ, pos, _+ℤ_, _-ℤ_}
 use lib.Signed.{leZ}
+use Rattle.index_types.specs.Limits.{token-limit}
 use Rattle.signed.specs.declared.Checked.{Checked}
 use Rattle.signed.specs.declared.Checked.the-variants.{Is, Out}
 use Rattle.signed.specs.Checked.{checked}
@@ -62,7 +63,7 @@ sum-at h i Out = turned 23
 -- a token added: to the place that holds its id, or as a new one; 24 for a 129th token
 abbrev pub add-at : Held → List ℕ → ℤ → ℕ → Changed
 add-at h key v i =
-    cond (ltb i (h .count)) (sum-at h i (checked (getD (h .amounts) i (pos 0) +ℤ v))) (cond (ltb (h .count) 128) (held (with-token h key v)) (turned 24))
+    cond (ltb i (h .count)) (sum-at h i (checked (getD (h .amounts) i (pos 0) +ℤ v))) (cond (ltb (h .count) token-limit) (held (with-token h key v)) (turned 24))
 
 unfoldable pub add-token : Held → List ℕ → ℤ → Changed
 add-token h key v = add-at h key v (place-of key (h .ids) (h .count))

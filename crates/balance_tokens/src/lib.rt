@@ -3,9 +3,11 @@ ghost use mathlib.Core.Path.{_≡_};
 ghost use Prim.Native.Nat.{_+_, _*_, _<_, _≤_};
 ghost use lib.ListN.{length};
 ghost use lib.IntN.{pos};
+ghost use Rattle.index_types.specs.Limits.{token-limit, token-id-bytes};
 ghost use Rattle.stores.specs.Stores.{write};
 ghost use Rattle.stores.specs.Equal.{same-bytes};
 ghost use Rattle.balance_tokens.specs.Tokens.{id-at, place-of, closed-up, add-token, subtract-token, change-token, change-tokens, left-in};
+use index_types::TOKEN_LIMIT;
 use signed::Checked;
 
 // How many tokens are held after a change, or its refusal code.
@@ -68,7 +70,7 @@ fn add_token(
     amount: i64,
     at: usize,
 ) -> Counted
-    requires { ⌜ (length (now table) ≡ 4096) × (length (now sums) ≡ 128) × (count ≤ 128) × (j * 32 + 32 ≤ length (now ids)) × (at ≡ place-of (id-at (now ids) j) (now table) count) ⌝ }
+    requires { ⌜ (length (now table) ≡ token-id-bytes) × (length (now sums) ≡ token-limit) × (count ≤ token-limit) × (j * 32 + 32 ≤ length (now ids)) × (at ≡ place-of (id-at (now ids) j) (now table) count) ⌝ }
     ensures { λ r. ⌜ left-in r (now (table .exit)) (now (sums .exit)) ≡ add-token (record { ids = now (table .entry); amounts = now (sums .entry); count = count }) (id-at (now (ids .entry)) j) amount ⌝ }
 {
     if at < count {
@@ -81,7 +83,7 @@ fn add_token(
             Checked::Out => return Counted::Refused(refusal::AMOUNT_OUT_OF_RANGE),
         }
     }
-    if count < 128 {
+    if count < TOKEN_LIMIT {
         put_id(table, count, ids, j);
         sums[count] = amount;
         return Counted::Count(count + 1);
@@ -119,7 +121,7 @@ fn subtract_token(
     amount: i64,
     at: usize,
 ) -> Counted
-    requires { ⌜ (length (now table) ≡ 4096) × (length (now sums) ≡ 128) × (count ≤ 128) × (j * 32 + 32 ≤ length (now ids)) × (at ≡ place-of (id-at (now ids) j) (now table) count) ⌝ }
+    requires { ⌜ (length (now table) ≡ token-id-bytes) × (length (now sums) ≡ token-limit) × (count ≤ token-limit) × (j * 32 + 32 ≤ length (now ids)) × (at ≡ place-of (id-at (now ids) j) (now table) count) ⌝ }
     ensures { λ r. ⌜ left-in r (now (table .exit)) (now (sums .exit)) ≡ subtract-token (record { ids = now (table .entry); amounts = now (sums .entry); count = count }) (id-at (now (ids .entry)) j) amount ⌝ }
 {
     if at < count {
@@ -150,7 +152,7 @@ fn change_token(
     j: usize,
     amount: i64,
 ) -> Counted
-    requires { ⌜ (length (now table) ≡ 4096) × (length (now sums) ≡ 128) × (count ≤ 128) × (j * 32 + 32 ≤ length (now ids)) ⌝ }
+    requires { ⌜ (length (now table) ≡ token-id-bytes) × (length (now sums) ≡ token-limit) × (count ≤ token-limit) × (j * 32 + 32 ≤ length (now ids)) ⌝ }
     ensures { λ r. ⌜ left-in r (now (table .exit)) (now (sums .exit)) ≡ change-token adding (record { ids = now (table .entry); amounts = now (sums .entry); count = count }) (id-at (now (ids .entry)) j) amount ⌝ }
 {
     let at = find(table, count, ids, j);
@@ -171,7 +173,7 @@ pub fn change_tokens(
     amounts: &[i64],
     n: usize,
 ) -> Counted
-    requires { ⌜ (length (now table) ≡ 4096) × (length (now sums) ≡ 128) × (count ≤ 128) × (n * 32 ≤ length (now ids)) × (n ≤ length (now amounts)) ⌝ }
+    requires { ⌜ (length (now table) ≡ token-id-bytes) × (length (now sums) ≡ token-limit) × (count ≤ token-limit) × (n * 32 ≤ length (now ids)) × (n ≤ length (now amounts)) ⌝ }
     ensures { λ r. ⌜ left-in r (now (table .exit)) (now (sums .exit)) ≡ change-tokens adding (now (ids .entry)) (now (amounts .entry)) 0 n (record { ids = now (table .entry); amounts = now (sums .entry); count = count }) ⌝ }
 {
     let mut held = count;

@@ -1,10 +1,10 @@
 -- The answer of a pop of boxes or of transactions, as that of a pop of either kind.
-use Rattle.buffer_core.specs.declared.Popped.{Popped}
-use Rattle.buffer_core.specs.declared.Popped.the-variants.{Number, Refused}
-use Rattle.buffer_checks.specs.declared.PoppedBox.{PoppedBox}
-use Rattle.buffer_checks.specs.declared.PoppedBox.the-variants as box
-use Rattle.buffer_checks.specs.declared.PoppedTx.{PoppedTx}
-use Rattle.buffer_checks.specs.declared.PoppedTx.the-variants as tx
+use Rattle.index_types.specs.declared.Popped.{Popped}
+use Rattle.index_types.specs.declared.Popped.the-variants.{Number, Refused}
+use Rattle.index_types.specs.declared.PoppedBox.{PoppedBox}
+use Rattle.index_types.specs.declared.PoppedBox.the-variants as box
+use Rattle.index_types.specs.declared.PoppedTx.{PoppedTx}
+use Rattle.index_types.specs.declared.PoppedTx.the-variants as tx
 
 abbrev pub as-popped-box : PoppedBox → Popped
 as-popped-box (box.Number n h c d) = Number (n .0) h c d

@@ -5,24 +5,8 @@ ghost use Rattle.buffer_core.specs.Edition.{edition-1};
 ghost use Rattle.buffer_core.specs.Append.{append-ok};
 ghost use Rattle.buffer_core.specs.Pop.{lists, lists-ok, pop-ok};
 ghost use Rattle.buffer_core.specs.Flip.{flip-ok};
-use buffer_core::HeadCounts;
-use records::ListCounts;
-
-// The number of a box and the number of a transaction; neither takes the other's place.
-pub struct BoxNumber(pub i64);
-
-pub struct TxNumber(pub i64);
-
-// The number that was popped, and the counts of the head, of the staged and of the deleted spills after it.
-pub enum PoppedBox {
-    Number(BoxNumber, HeadCounts, ListCounts, ListCounts),
-    Refused(u8),
-}
-
-pub enum PoppedTx {
-    Number(TxNumber, HeadCounts, ListCounts, ListCounts),
-    Refused(u8),
-}
+use index_types::HeadCounts;
+use index_types::ListCounts;
 
 // Whether a record list passes refusal 25.
 fn spills_ok(list: &[u8], counts: ListCounts) -> bool

@@ -14,7 +14,7 @@ use borrow.Author.Tests.{leb-true, le-leb}
 use Rattle.signed.specs.Sign.{is-negative}
 use Rattle.signed.proofs.SignedLaws.{natAbs-above}
 use Rattle.records.proofs.CheckLaws.{and-left, and-right, and-true}
-use Rattle.buffer_core.specs.declared.HeadCounts.{HeadCounts}
+use Rattle.index_types.specs.declared.HeadCounts.{HeadCounts}
 use Rattle.buffer_core.specs.Spills.{head-ok}
 
 pub record HeadOk (h : HeadCounts) (head : List ℤ) : Type 0 where

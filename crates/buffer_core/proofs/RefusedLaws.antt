@@ -8,16 +8,16 @@ use lib.Dec.{eqb, leb, ltb}
 use lib.IntN.{ℤ, pos, natAbs}
 use lib.ListN.{length, take}
 use Rattle.signed.specs.Sign.{is-negative}
-use Rattle.records.specs.declared.ListCounts.{ListCounts}
+use Rattle.index_types.specs.declared.ListCounts.{ListCounts}
 use Rattle.records.specs.Changes.{full-for}
 use Rattle.segment_id.specs.declared.Kind.{Kind}
-use Rattle.buffer_core.specs.declared.HeadCounts.{HeadCounts}
+use Rattle.index_types.specs.declared.HeadCounts.{HeadCounts}
 use Rattle.buffer_core.specs.declared.Direction.{Direction}
-use Rattle.buffer_core.specs.declared.Appended.the-variants as appended
-use Rattle.buffer_core.specs.declared.Popped.the-variants as popped
-use Rattle.buffer_core.specs.declared.Flipped.{Flipped}
-use Rattle.buffer_core.specs.declared.Flipped.the-variants as flipped
-use Rattle.buffer_core.specs.declared.Flushed.the-variants as flushed
+use Rattle.index_types.specs.declared.Appended.the-variants as appended
+use Rattle.index_types.specs.declared.Popped.the-variants as popped
+use Rattle.index_types.specs.declared.Flipped.{Flipped}
+use Rattle.index_types.specs.declared.Flipped.the-variants as flipped
+use Rattle.index_types.specs.declared.Flushed.the-variants as flushed
 use Rattle.buffer_core.specs.Edition.{Edition, RowRead, bad, good}
 use Rattle.buffer_core.specs.Spills.{sources, spill-read}
 use Rattle.buffer_core.specs.Append.{Appending, appending, spilled, spill-of, append-core, append-ok, append-of}

@@ -9,15 +9,15 @@ use lib.IntN.{ℤ, natAbs}
 use lib.ListN.{length, take, length-append}
 use borrow.Author.Tests.{eqb-true}
 use Rattle.signed.specs.Sign.{is-negative}
-use Rattle.records.specs.declared.ListCounts.{ListCounts}
+use Rattle.index_types.specs.declared.ListCounts.{ListCounts}
 use Rattle.records.proofs.CheckLaws.{and-left}
-use Rattle.entries.specs.declared.Tally.{Tally}
+use Rattle.index_types.specs.declared.Tally.{Tally}
 use Rattle.entries.specs.Order.{order-ok}
 use Rattle.entries.specs.Tally.{figures}
 use Rattle.entries.proofs.TallyLaws.{adds-up}
-use Rattle.buffer_core.specs.declared.HeadCounts.{HeadCounts}
-use Rattle.buffer_core.specs.declared.Tallied.{Tallied}
-use Rattle.buffer_core.specs.declared.Tallied.the-variants.{Counts, Refused}
+use Rattle.index_types.specs.declared.HeadCounts.{HeadCounts}
+use Rattle.index_types.specs.declared.Tallied.{Tallied}
+use Rattle.index_types.specs.declared.Tallied.the-variants.{Counts, Refused}
 use Rattle.buffer_core.specs.Edition.{Edition, RowRead, bad, good}
 use Rattle.buffer_core.specs.Spills.{Sources, sources, spill-read}
 use Rattle.buffer_core.specs.Rows.{then-more, then-rows, rows-up}

@@ -6,13 +6,13 @@ use lib.IntN.{ℤ, pos, negsuc}
 use lib.ListN.{getD, replicate}
 use Rattle.stores.specs.Stores.{write}
 use Rattle.stores.specs.Equal.{same-bytes}
-use Rattle.records.specs.declared.ListCounts.{ListCounts}
+use Rattle.index_types.specs.declared.ListCounts.{ListCounts}
 use Rattle.records.specs.Records.{records, stored-row, record-of}
 use Rattle.records.specs.Find.{find-from, distinct}
 use Rattle.records.specs.Checks.{lengths-ok, records-ok, keys-ok}
 use Rattle.buffer_core.specs.declared.Direction.{Direction}
 use Rattle.buffer_core.specs.declared.Direction.the-variants.{Spend, Unspend}
-use Rattle.buffer_core.specs.declared.Flushed.the-variants.{Done}
+use Rattle.index_types.specs.declared.Flushed.the-variants.{Done}
 use Rattle.buffer_core.specs.Edition.{Edition, good, edition-1}
 use Rattle.buffer_core.specs.Spills.{place-at, spill-read}
 use Rattle.buffer_core.specs.Append.{counts-of}

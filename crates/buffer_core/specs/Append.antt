@@ -7,17 +7,18 @@ use mathlib.Core.List.{List, _∷_}
 use lib.Dec.{leb, ltb}
 use lib.IntN.{ℤ, pos, natAbs}
 use lib.ListN.{take, set, replicate}
+use Rattle.index_types.specs.Limits.{segment-threshold, spill-limit}
 use Rattle.stores.specs.Stores.{write}
 use Rattle.signed.specs.Sign.{is-negative}
-use Rattle.records.specs.declared.ListCounts.{ListCounts}
+use Rattle.index_types.specs.declared.ListCounts.{ListCounts}
 use Rattle.records.specs.Records.{keys, record-of}
 use Rattle.records.specs.Find.{find-key}
 use Rattle.records.specs.Changes.{count-after, with-count, put-record, full-for}
 use Rattle.records.specs.Checks.{records-ok}
 use Rattle.segment_id.specs.declared.Kind.{Kind}
-use Rattle.buffer_core.specs.declared.HeadCounts.{HeadCounts}
-use Rattle.buffer_core.specs.declared.Appended.{Appended}
-use Rattle.buffer_core.specs.declared.Appended.the-variants.{Done, Refused}
+use Rattle.index_types.specs.declared.HeadCounts.{HeadCounts}
+use Rattle.index_types.specs.declared.Appended.{Appended}
+use Rattle.index_types.specs.declared.Appended.the-variants.{Done, Refused}
 use Rattle.buffer_core.specs.Edition.{Edition}
 use Rattle.buffer_core.specs.Spills.{head-ok}
 
@@ -49,12 +50,12 @@ module _ (E : Edition) where
   unfoldable pub spilled : Kind → (key : List ℕ) (spills : ℕ) (number : ℤ) → ListCounts → List ℤ → List ℕ → Appending
   spilled kind key spills number c head staged =
       appending (Done (counts-of 1 (pos (spills + 1))) (counts-with key c staged)) (one-number number head)
-      (bytes-with key (E .encode kind (take 512 head)) c staged)
+      (bytes-with key (E .encode kind (take segment-threshold head)) c staged)
 
   -- at a head of 512: 18, then 16
   unfoldable pub spill-of : Kind → (parent : List ℕ) (spills : ℕ) (number : ℤ) → ListCounts → List ℤ → List ℕ → Appending
   spill-of kind parent spills number c head staged =
-      cond (leb 2147483647 spills) (appending (Refused 18) head staged)
+      cond (leb spill-limit spills) (appending (Refused 18) head staged)
       (cond (full-for (E .size) c (E .key kind parent (pos spills)) staged) (appending (Refused 16) head staged)
       (spilled kind (E .key kind parent (pos spills)) spills number c head staged))
 
@@ -63,7 +64,7 @@ module _ (E : Edition) where
   append-core kind parent h number c head staged =
       cond (is-negative (h .spills)) (appending (Refused 11) head staged)
       (cond (is-negative number) (appending (Refused 17) head staged)
-      (cond (ltb (h .len) 512) (appending (Done (counts-of (h .len + 1) (h .spills)) c) (set head (h .len) number) staged)
+      (cond (ltb (h .len) segment-threshold) (appending (Done (counts-of (h .len + 1) (h .spills)) c) (set head (h .len) number) staged)
       (spill-of kind parent (natAbs (h .spills)) number c head staged)))
 
   -- 25 of an append: the head and the staged spills

@@ -11,13 +11,14 @@ use Prim.Native.Nat.{ℕ, zero, suc, _+_, _*_, _-_, _/_}
 use lib.Dec.{eqb, ltb, leb}
 use lib.IntN.{ℤ, pos, natAbs}
 use lib.ListN.{length, take, getD}
+use Rattle.index_types.specs.Limits.{segment-threshold}
 use Rattle.stores.specs.Stores.{write}
 use Rattle.signed.specs.Sign.{is-negative}
 use Rattle.entries.specs.Order.{order-ok}
 use Rattle.entries.specs.Flip.{position, flipped-at}
 use Rattle.entries.specs.declared.Position.{Position}
 use Rattle.entries.specs.declared.Position.the-variants.{At, Seen, Absent}
-use Rattle.records.specs.declared.ListCounts.{ListCounts}
+use Rattle.index_types.specs.declared.ListCounts.{ListCounts}
 use Rattle.records.specs.declared.Place.{Place}
 use Rattle.records.specs.declared.Place.the-variants.{Staged, Table, Missing}
 use Rattle.records.specs.Records.{record-of}
@@ -25,11 +26,11 @@ use Rattle.records.specs.Find.{row-at}
 use Rattle.records.specs.Changes.{with-count}
 use Rattle.records.specs.Checks.{records-ok}
 use Rattle.segment_id.specs.declared.Kind.the-variants.{Box}
-use Rattle.buffer_core.specs.declared.HeadCounts.{HeadCounts}
+use Rattle.index_types.specs.declared.HeadCounts.{HeadCounts}
 use Rattle.buffer_core.specs.declared.Direction.{Direction}
 use Rattle.buffer_core.specs.declared.Direction.the-variants.{Spend, Unspend}
-use Rattle.buffer_core.specs.declared.Flipped.{Flipped}
-use Rattle.buffer_core.specs.declared.Flipped.the-variants.{Done, Refused}
+use Rattle.index_types.specs.declared.Flipped.{Flipped}
+use Rattle.index_types.specs.declared.Flipped.the-variants.{Done, Refused}
 use Rattle.buffer_core.specs.declared.Lead.{Lead}
 use Rattle.buffer_core.specs.declared.Lead.the-variants.{Leads, NoLead}
 use Rattle.buffer_core.specs.declared.Low.{Low}
@@ -46,7 +47,7 @@ use Rattle.buffer_core.specs.Spills.{Sources, sources, key-at, place-at,
 -- "13 not 512 numbers or as in 10"
 abbrev pub check-row : RowRead → RowRead
 check-row (bad code) = bad code
-check-row (good zs) = cond (eqb (length zs) 512 && order-ok zs) (good zs) (bad 13)
+check-row (good zs) = cond (eqb (length zs) segment-threshold && order-ok zs) (good zs) (bad 13)
 
 abbrev pub first-of : List ℤ → ℕ
 first-of zs = natAbs (getD zs 0 (pos 0))

@@ -2,16 +2,17 @@
 -- empty, all zero. A row spilled again after its key was deleted is thus lost."
 -- Refusal: "22 staged undeleted keys not on the shelf outnumber its free records, those of deleted keys not counted free".
 use Prim.Native.Nat.{ℕ, _+_, _-_}
-use mathlib.Core.Bool.{Bool, true, false, not, _&&_, cond}
+use mathlib.Core.Bool.{not, _&&_, cond}
 use mathlib.Core.List.{List, [], _∷_}
 use lib.Dec.{leb}
+use Rattle.entries.specs.Tally.{one-if}
 use Rattle.records.specs.declared.Found.{Found}
-use Rattle.records.specs.declared.ListCounts.{ListCounts}
+use Rattle.index_types.specs.declared.ListCounts.{ListCounts}
 use Rattle.records.specs.Records.{records, key-of, keys, stored-row, record-of}
 use Rattle.records.specs.Find.{find-key, is-found}
 use Rattle.records.specs.Changes.{count-after, with-count, put-record, clear-records}
-use Rattle.buffer_core.specs.declared.Flushed.{Flushed}
-use Rattle.buffer_core.specs.declared.Flushed.the-variants.{Done, Refused}
+use Rattle.index_types.specs.declared.Flushed.{Flushed}
+use Rattle.index_types.specs.declared.Flushed.the-variants.{Done, Refused}
 use Rattle.buffer_core.specs.Edition.{Edition}
 use Rattle.buffer_core.specs.Pop.{Lists, count-without, bytes-without, lists-ok}
 
@@ -24,10 +25,6 @@ pub record Flushing : Type 0 where
 
 abbrev pub flushing : Flushed → (table staged deleted : List ℕ) → Flushing
 flushing a table staged deleted = record { answer = a; table = table; staged = staged; deleted = deleted }
-
-abbrev pub one-if : Bool → ℕ
-one-if true = 1
-one-if false = 0
 
 -- how many keys of ks stand neither among the deleted ones nor in the table
 unfoldable pub new-count : (table deleted ks : List (List ℕ)) → ℕ

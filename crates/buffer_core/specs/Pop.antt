@@ -10,16 +10,16 @@ use Rattle.stores.specs.Stores.{write}
 use Rattle.signed.specs.Sign.{is-negative}
 use Rattle.records.specs.declared.Found.{Found}
 use Rattle.records.specs.declared.Found.the-variants.{At, Nothing}
-use Rattle.records.specs.declared.ListCounts.{ListCounts}
+use Rattle.index_types.specs.declared.ListCounts.{ListCounts}
 use Rattle.records.specs.Records.{keys}
 use Rattle.records.specs.Find.{find-key}
 use Rattle.records.specs.Changes.{count-after, with-count, put-record, remove-record, full-for}
 use Rattle.records.specs.Checks.{records-ok, keys-ok}
 use Rattle.segment_id.specs.declared.Kind.{Kind}
 use Rattle.segment_core.specs.Loading.{padded}
-use Rattle.buffer_core.specs.declared.HeadCounts.{HeadCounts}
-use Rattle.buffer_core.specs.declared.Popped.{Popped}
-use Rattle.buffer_core.specs.declared.Popped.the-variants.{Number, Refused}
+use Rattle.index_types.specs.declared.HeadCounts.{HeadCounts}
+use Rattle.index_types.specs.declared.Popped.{Popped}
+use Rattle.index_types.specs.declared.Popped.the-variants.{Number, Refused}
 use Rattle.buffer_core.specs.Edition.{Edition, RowRead, bad, good}
 use Rattle.buffer_core.specs.Spills.{sources, spill-read, head-ok}
 use Rattle.buffer_core.specs.Append.{counts-of}

@@ -6,11 +6,12 @@ use mathlib.Core.List.{List}
 use lib.Dec.{leb}
 use lib.IntN.{ℤ, pos}
 use lib.ListN.{length}
+use Rattle.index_types.specs.Limits.{segment-threshold}
 use Rattle.records.specs.declared.Place.{Place}
 use Rattle.records.specs.declared.Place.the-variants.{Staged, Table, Missing}
 use Rattle.records.specs.Find.{row-at, locate-key}
 use Rattle.segment_id.specs.declared.Kind.{Kind}
-use Rattle.buffer_core.specs.declared.HeadCounts.{HeadCounts}
+use Rattle.index_types.specs.declared.HeadCounts.{HeadCounts}
 use Rattle.buffer_core.specs.Edition.{Edition, RowRead, bad}
 
 -- what a call reads rows from: a parent, the staged spills and the segments table with the number of records in each
@@ -47,4 +48,4 @@ module _ (E : Edition) where
 
 -- "25 head above 512, .. or a lent buffer too short for its stated capacity": a head has 512 places
 abbrev pub head-ok : HeadCounts → List ℤ → Bool
-head-ok h l = leb (h .len) 512 && leb 512 (length l)
+head-ok h l = leb (h .len) segment-threshold && leb segment-threshold (length l)

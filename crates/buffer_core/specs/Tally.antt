@@ -8,10 +8,10 @@ use lib.ListN.{take}
 use Rattle.signed.specs.Sign.{is-negative}
 use Rattle.entries.specs.Order.{order-ok}
 use Rattle.entries.specs.Tally.{figures}
-use Rattle.records.specs.declared.ListCounts.{ListCounts}
-use Rattle.buffer_core.specs.declared.HeadCounts.{HeadCounts}
-use Rattle.buffer_core.specs.declared.Tallied.{Tallied}
-use Rattle.buffer_core.specs.declared.Tallied.the-variants.{Counts, Refused}
+use Rattle.index_types.specs.declared.ListCounts.{ListCounts}
+use Rattle.index_types.specs.declared.HeadCounts.{HeadCounts}
+use Rattle.index_types.specs.declared.Tallied.{Tallied}
+use Rattle.index_types.specs.declared.Tallied.the-variants.{Counts, Refused}
 use Rattle.buffer_core.specs.Edition.{Edition, RowRead, bad, good}
 use Rattle.buffer_core.specs.Spills.{Sources, sources}
 use Rattle.buffer_core.specs.Rows.{rows-up}

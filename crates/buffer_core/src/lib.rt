@@ -2,47 +2,17 @@
 // numbers beside its counts. Staged spills and the segments table are record lists, deleted spills a key list.
 ghost use mathlib.Core.Path.{_≡_};
 ghost use Rattle.buffer_core.specs.Spills.{head-ok};
-use entries::Tally;
-use records::ListCounts;
+use index_types::HeadCounts;
+use index_types::SEGMENT_THRESHOLD;
 
 // The bytes of a record and of the longest row, in edition 1.
 pub const RECORD: usize = 10288;
 
 pub const ROW_LIMIT: usize = 10254;
 
-// How many numbers stand in a head, and how many rows it has spilled.
-pub struct HeadCounts {
-    pub len: usize,
-    pub spills: i32,
-}
-
 pub enum Direction {
     Spend,
     Unspend,
-}
-
-// The counts of the head and of the staged spills after an append.
-pub enum Appended {
-    Done(HeadCounts, ListCounts),
-    Refused(u8),
-}
-
-// The number that was popped, and the counts of the head, of the staged and of the deleted spills after it.
-pub enum Popped {
-    Number(i64, HeadCounts, ListCounts, ListCounts),
-    Refused(u8),
-}
-
-// The counts of the staged spills after a spend or an unspend.
-pub enum Flipped {
-    Done(ListCounts),
-    Refused(u8),
-}
-
-// The figures of a tally.
-pub enum Tallied {
-    Counts(Tally),
-    Refused(u8),
 }
 
 // ---- the steps of a spend
@@ -74,18 +44,12 @@ pub enum Walk {
     Failed(u8),
 }
 
-// The counts of the table, the staged and the deleted spills after a flush.
-pub enum Flushed {
-    Done(ListCounts, ListCounts, ListCounts),
-    Refused(u8),
-}
-
 // Whether a head passes refusal 25.
 pub fn head_ok(head: &[i64], counts: HeadCounts) -> bool
     ensures { λ r. ⌜ r ≡ head-ok counts (now (head .entry)) ⌝ }
 {
-    if counts.len <= 512 {
-        return 512 <= head.len();
+    if counts.len <= SEGMENT_THRESHOLD {
+        return SEGMENT_THRESHOLD <= head.len();
     }
     false
 }

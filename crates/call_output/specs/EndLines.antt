@@ -6,6 +6,7 @@ use mathlib.Core.List.{List, [], _++_}
 use lib.Dec.{eqb}
 use lib.IntN.{ℤ, pos}
 use lib.ListN.{getD}
+use Rattle.call_steps.specs.State.{parent-numbers, nanos-at}
 use Rattle.call_lines.specs.Lines.{line, parent-line}
 
 -- "the ordinal and 31", where the input ends with no call; nothing where the code is 0
@@ -16,7 +17,7 @@ refusal-part ordinal code = cond (eqb code 0) [] (line ordinal code false (pos 0
 unfoldable pub parent-part : (p : ℕ) → (numbers : List ℤ) → (lengths : List ℕ) → (spills : List ℤ) → List ℕ
 parent-part p numbers lengths spills =
     parent-line p (getD lengths (p * 3) 0) (getD spills (p * 2) (pos 0)) (getD lengths (p * 3 + 1) 0) (getD spills (p * 2 + 1) (pos 0))
-    (getD numbers (p * 1153 + 1152) (pos 0)) (getD lengths (p * 3 + 2) 0)
+    (getD numbers (p * parent-numbers + nanos-at) (pos 0)) (getD lengths (p * 3 + 2) 0)
 
 unfoldable pub end-lines : (ordinal code : ℕ) → (numbers : List ℤ) → (lengths : List ℕ) → (spills : List ℤ) → List ℕ
 end-lines ordinal code numbers lengths spills =

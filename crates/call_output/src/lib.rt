@@ -9,6 +9,8 @@ ghost use Rattle.call_lines.specs.Lines.{lines-from};
 ghost use Rattle.call_output.specs.EndLines.{refusal-part, parent-part, end-lines};
 ghost use Rattle.call_output.specs.Told.{Tells};
 use call_input::Place;
+use call_steps::NANOS_AT;
+use call_steps::PARENT_NUMBERS;
 use libc::STDOUT_FILENO;
 
 // ---- the lines of calls
@@ -77,7 +79,7 @@ fn put_parent(
     let tokens = p * 3 + 2;
     let box_spills = p * 2;
     let tx_spills = p * 2 + 1;
-    let nanos = p * 1153 + 1152;
+    let nanos = p * PARENT_NUMBERS + NANOS_AT;
     call_lines::put_parent_line(
         p,
         lengths[boxes],

@@ -20,17 +20,17 @@ use Rattle.records.specs.Checks.{records-ok, keys-ok}
 use Rattle.records.proofs.CheckLaws.{and-left, and-right, and-true}
 use Rattle.buffer_core.specs.Edition.{edition-1}
 use Rattle.buffer_core.specs.Spills.{head-ok}
-use Rattle.buffer_core.specs.declared.Appended.{Appended}
-use Rattle.buffer_core.specs.declared.Appended.the-variants as appended
+use Rattle.index_types.specs.declared.Appended.{Appended}
+use Rattle.index_types.specs.declared.Appended.the-variants as appended
 use Rattle.buffer_core.specs.Append.{Appending, appending, append-ok, append-core, append-of}
 use Rattle.append_core.proofs.KeepLaws.{AppendKept, append-keeps}
 use Rattle.buffer_core.specs.declared.Direction.{Direction}
-use Rattle.buffer_core.specs.declared.Popped.{Popped}
-use Rattle.buffer_core.specs.declared.Popped.the-variants as popped
-use Rattle.buffer_core.specs.declared.Flipped.{Flipped}
-use Rattle.buffer_core.specs.declared.Flipped.the-variants as flipped
-use Rattle.buffer_core.specs.declared.Flushed.{Flushed}
-use Rattle.buffer_core.specs.declared.Flushed.the-variants as flushed
+use Rattle.index_types.specs.declared.Popped.{Popped}
+use Rattle.index_types.specs.declared.Popped.the-variants as popped
+use Rattle.index_types.specs.declared.Flipped.{Flipped}
+use Rattle.index_types.specs.declared.Flipped.the-variants as flipped
+use Rattle.index_types.specs.declared.Flushed.{Flushed}
+use Rattle.index_types.specs.declared.Flushed.the-variants as flushed
 use Rattle.buffer_core.specs.Pop.{Popping, popping, Lists, lists, lists-ok, pop-ok, pop-core, pop-of}
 use Rattle.buffer_core.specs.Flush.{Flushing, flushing, flush-core, flush-of}
 use Rattle.pop_core.proofs.KeepLaws.{PopKept, pop-keeps}

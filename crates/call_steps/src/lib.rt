@@ -3,25 +3,38 @@ ghost use mathlib.Core.Path.{_≡_};
 ghost use mathlib.Core.Bool.{true};
 ghost use Prim.Native.Nat.{_+_, _*_, _≤_, _<_};
 ghost use lib.ListN.{length};
+ghost use Rattle.index_types.specs.Limits.{segment-threshold};
 ghost use Rattle.segment_id.specs.declared.Kind.the-variants.{Box};
 ghost use Rattle.balance.specs.Boxes.{change-box};
 ghost use Rattle.buffer_core.specs.Edition.{edition-1};
 ghost use Rattle.buffer_core.specs.Append.{append-ok};
 ghost use Rattle.buffer_core.specs.Pop.{pop-ok, lists-ok};
 ghost use Rattle.buffer_core.specs.Flip.{flip-ok};
-ghost use Rattle.call_steps.specs.State.{Within, kind-number, parent-id, head-at, head-counts, head-of, balance-of, ids-with, numbers-with, lengths-with};
+ghost use Rattle.call_steps.specs.State.{Within, kind-number, parent-id, head-at, head-counts, head-of, balance-of, ids-with, numbers-with, lengths-with, parent-numbers, parent-ids};
 ghost use Rattle.call_steps.specs.Steps.{refused, lists-with, lengths-by, spills-by, count-step, after-append, after-pop, after-flip, after-flush, head-step, append-by, flip-step, flip-by, pop-step, pop-by, flush-step, flush-by, said-by, change-step, change-of};
 use balance::Balance;
 use balance::Outcome;
-use buffer_core::Appended;
 use buffer_core::Direction;
-use buffer_core::Flipped;
-use buffer_core::Flushed;
-use buffer_core::HeadCounts;
-use buffer_core::Popped;
-use records::ListCounts;
+use index_types::Appended;
+use index_types::Flipped;
+use index_types::Flushed;
+use index_types::HeadCounts;
+use index_types::ListCounts;
+use index_types::Popped;
+use index_types::SEGMENT_THRESHOLD;
+use index_types::TOKEN_ID_BYTES;
+use index_types::TOKEN_LIMIT;
 use refusal::Answer;
 use segment_id::Kind;
+
+// The places of a parent in the lists of the state: bytes of ids, numbers; where the amounts of its tokens and its nanoErgs stand among its numbers.
+pub const PARENT_IDS: usize = 4128;
+
+pub const PARENT_NUMBERS: usize = 1153;
+
+pub const AMOUNTS_AT: usize = 1024;
+
+pub const NANOS_AT: usize = 1152;
 
 // The counts of the three lists of spills.
 pub struct SpillCounts {
@@ -65,11 +78,11 @@ fn kind_number(kind: Kind) -> usize
 }
 
 fn parent_id(ids: &[u8], p: usize) -> [u8; 32]
-    requires { ⌜ p * 4128 + 4128 ≤ length (now ids) ⌝ }
+    requires { ⌜ p * parent-ids + parent-ids ≤ length (now ids) ⌝ }
     ensures { λ r. ⌜ r ≡ parent-id p (now (ids .entry)) ⌝ }
 {
     let mut id = [0u8; 32];
-    let a = p * 4128;
+    let a = p * PARENT_IDS;
     let e = a + 32;
     stores::copy_bytes(&mut id, 0, &ids[a..e]);
     id
@@ -100,10 +113,10 @@ fn write_counts(kind: Kind, p: usize, counts: HeadCounts, lengths: &mut [usize],
 
 // Where a head's places begin.
 fn head_at(kind: Kind, p: usize) -> usize
-    requires { ⌜ p * 1153 + 1153 < 9223372036854775808 ⌝ }
-    ensures { λ r. ⌜ (r ≡ head-at kind p) × (r + 512 ≤ p * 1153 + 1153) ⌝ }
+    requires { ⌜ p * parent-numbers + parent-numbers < 9223372036854775808 ⌝ }
+    ensures { λ r. ⌜ (r ≡ head-at kind p) × (r + segment-threshold ≤ p * parent-numbers + parent-numbers) ⌝ }
 {
-    p * 1153 + kind_number(kind) * 512
+    p * PARENT_NUMBERS + kind_number(kind) * SEGMENT_THRESHOLD
 }
 
 // ---- append
@@ -161,7 +174,7 @@ pub fn append_step(
     let id = parent_id(ids, p);
     let h = read_counts(kind, p, lengths, spills);
     let a = head_at(kind, p);
-    let e = a + 512;
+    let e = a + SEGMENT_THRESHOLD;
     let r = append_core::append(
         kind,
         &id,
@@ -223,7 +236,7 @@ pub fn flip_step(
     let id = parent_id(ids, p);
     let h = read_counts(Kind::Box, p, lengths, spills);
     let a = head_at(Kind::Box, p);
-    let e = a + 512;
+    let e = a + SEGMENT_THRESHOLD;
     let r = flip_core::flip(
         direction,
         &id,
@@ -300,7 +313,7 @@ pub fn pop_step(
     let id = parent_id(ids, p);
     let h = read_counts(kind, p, lengths, spills);
     let a = head_at(kind, p);
-    let e = a + 512;
+    let e = a + SEGMENT_THRESHOLD;
     let r = pop_core::pop(
         kind,
         &id,
@@ -365,19 +378,19 @@ pub fn flush_step(
 
 // The balance of a parent, from its places.
 fn read_balance(p: usize, ids: &[u8], numbers: &[i64], lengths: &[usize]) -> Balance
-    requires { ⌜ (p * 4128 + 4128 ≤ length (now ids)) × (p * 1153 + 1153 ≤ length (now numbers)) × (p * 3 + 3 ≤ length (now lengths)) ⌝ }
+    requires { ⌜ (p * parent-ids + parent-ids ≤ length (now ids)) × (p * parent-numbers + parent-numbers ≤ length (now numbers)) × (p * 3 + 3 ≤ length (now lengths)) ⌝ }
     ensures { λ r. ⌜ r ≡ balance-of p (now (ids .entry)) (now (numbers .entry)) (now (lengths .entry)) ⌝ }
 {
-    let mut token_ids = [0u8; 4096];
-    let mut amounts = [0i64; 128];
-    let i = p * 4128 + 32;
-    let j = i + 4096;
+    let mut token_ids = [0u8; TOKEN_ID_BYTES];
+    let mut amounts = [0i64; TOKEN_LIMIT];
+    let i = p * PARENT_IDS + 32;
+    let j = i + TOKEN_ID_BYTES;
     stores::copy_bytes(&mut token_ids, 0, &ids[i..j]);
-    let a = p * 1153 + 1024;
-    let e = a + 128;
+    let a = p * PARENT_NUMBERS + AMOUNTS_AT;
+    let e = a + TOKEN_LIMIT;
     stores::copy_numbers(&mut amounts, 0, &numbers[a..e]);
     let count = lengths[p * 3 + 2];
-    let nanos = numbers[p * 1153 + 1152];
+    let nanos = numbers[p * PARENT_NUMBERS + NANOS_AT];
     Balance {
         ids: token_ids,
         amounts,
@@ -394,7 +407,7 @@ fn write_balance(
     numbers: &mut [i64],
     lengths: &mut [usize],
 )
-    requires { ⌜ (p * 4128 + 4128 ≤ length (now ids)) × (p * 1153 + 1153 ≤ length (now numbers)) × (p * 3 + 3 ≤ length (now lengths)) ⌝ }
+    requires { ⌜ (p * parent-ids + parent-ids ≤ length (now ids)) × (p * parent-numbers + parent-numbers ≤ length (now numbers)) × (p * 3 + 3 ≤ length (now lengths)) ⌝ }
     ensures { λ _. ⌜ (now (ids .exit) ≡ ids-with p balance (now (ids .entry))) × (now (numbers .exit) ≡ numbers-with p balance (now (numbers .entry)))
         × (now (lengths .exit) ≡ lengths-with p balance (now (lengths .entry))) ⌝ }
 {
@@ -402,9 +415,9 @@ fn write_balance(
     let amounts = balance.amounts;
     let count = balance.count;
     let nanos = balance.nanos;
-    stores::copy_bytes(ids, p * 4128 + 32, &token_ids);
-    stores::copy_numbers(numbers, p * 1153 + 1024, &amounts);
-    let at = p * 1153 + 1152;
+    stores::copy_bytes(ids, p * PARENT_IDS + 32, &token_ids);
+    stores::copy_numbers(numbers, p * PARENT_NUMBERS + AMOUNTS_AT, &amounts);
+    let at = p * PARENT_NUMBERS + NANOS_AT;
     numbers[at] = nanos;
     let last = p * 3 + 2;
     lengths[last] = count;
@@ -441,7 +454,7 @@ pub fn change_step(
     numbers: &mut [i64],
     lengths: &mut [usize],
 ) -> Said
-    requires { ⌜ (p * 4128 + 4128 ≤ length (now ids)) × (p * 1153 + 1153 ≤ length (now numbers)) × (p * 3 + 3 ≤ length (now lengths)) ⌝ }
+    requires { ⌜ (p * parent-ids + parent-ids ≤ length (now ids)) × (p * parent-numbers + parent-numbers ≤ length (now numbers)) × (p * 3 + 3 ≤ length (now lengths)) ⌝ }
     ensures { λ r. ⌜ change-step r (now (ids .exit)) (now (numbers .exit)) (now (lengths .exit))
         ≡ change-of adding p nanos token amount (now (ids .entry)) (now (numbers .entry)) (now (lengths .entry)) ⌝ }
 {

@@ -8,8 +8,8 @@ ghost use Rattle.records.specs.Records.{keys};
 ghost use Rattle.records.specs.Find.{find-key, is-found, distinct};
 ghost use Rattle.records.specs.Checks.{records-ok, keys-ok};
 ghost use Rattle.distinct_keys.specs.Trees.{half-at, word-at, root-of, turns-of, AllFree, Grown, Spotted, NoneAgain};
+use index_types::ListCounts;
 use records::Found;
-use records::ListCounts;
 
 // Where a key goes in the trees of `keys_differ`: a slot that is free, or none, for the key is there.
 pub enum Spot {

@@ -7,7 +7,7 @@ use native.Mathlib.Omega.{arith}
 use lib.IntN.{ℤ, pos, negsuc, natAbs}
 use lib.ListN.{length}
 use Rattle.signed.specs.Sign.{is-negative}
-use Rattle.entries.specs.declared.Tally.{Tally}
+use Rattle.index_types.specs.declared.Tally.{Tally}
 use Rattle.entries.specs.Tally.{is-zero, is-above, one-if, how-many, figures, plus}
 
 -- an entry is above 0, below 0 or equal to 0

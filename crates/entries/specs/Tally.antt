@@ -5,7 +5,7 @@ use mathlib.Core.List.{List, [], _∷_}
 use Prim.Native.Nat.{ℕ, zero, suc, _+_}
 use lib.IntN.{ℤ, pos, negsuc}
 use Rattle.signed.specs.Sign.{is-negative}
-use Rattle.entries.specs.declared.Tally.{Tally}
+use Rattle.index_types.specs.declared.Tally.{Tally}
 
 abbrev pub is-zero : ℤ → Bool
 is-zero (pos zero) = true

@@ -9,19 +9,13 @@ ghost use Rattle.entries.specs.Order.{order-ok, Below, From};
 ghost use Rattle.entries.specs.Flip.{position, flipped-at};
 ghost use Rattle.entries.specs.Tally.{is-above, one-if, figures};
 ghost use Rattle.signed.specs.Sign.{is-negative};
+use index_types::Tally;
 
 // Where the entry stands that is to be flipped; or that only entries of the other sign were seen; or none.
 pub enum Position {
     At(usize),
     Seen,
     Absent,
-}
-
-// How many entries are unspent, spent and unknown: above, below and equal to 0.
-pub struct Tally {
-    pub unspent: usize,
-    pub spent: usize,
-    pub unknown: usize,
 }
 
 // Whether none of the first n numbers is -2^63 and their absolute values never fall.

@@ -4,8 +4,8 @@ use Prim.Native.Nat.{ℕ}
 use mathlib.Core.List.{List}
 use lib.IntN.{ℤ}
 use Rattle.segment_id.specs.declared.Kind.{Kind}
-use Rattle.buffer_core.specs.declared.Appended.{Appended}
-use Rattle.buffer_core.specs.declared.Appended.the-variants as appended
+use Rattle.index_types.specs.declared.Appended.{Appended}
+use Rattle.index_types.specs.declared.Appended.the-variants as appended
 use Rattle.buffer_core.specs.Edition.{edition-1}
 use Rattle.buffer_core.specs.Append.{Appending, counts-of, append-of}
 use Rattle.ergo_index_lists.specs.Lists.{list-of}

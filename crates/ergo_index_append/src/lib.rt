@@ -6,11 +6,11 @@ ghost use mathlib.Core.List.{List};
 ghost use lib.IntN.{ℤ};
 ghost use Rattle.segment_id.specs.declared.Kind.the-variants.{Box, Tx};
 ghost use Rattle.ergo_index_append.specs.Append.{append-out, append-by, append-call};
-use buffer_core::Appended;
-use buffer_core::HeadCounts;
-use records::ListCounts;
-use segment_buffer::BoxNumber;
-use segment_buffer::TxNumber;
+use index_types::Appended;
+use index_types::BoxNumber;
+use index_types::HeadCounts;
+use index_types::ListCounts;
+use index_types::TxNumber;
 
 // What an append answers goes to the outs, and its code is the result; a refusal sets no out.
 fn told(appended: Appended, len: &mut usize, spills: &mut i32, staged_count: &mut usize) -> u8

@@ -4,6 +4,8 @@ ghost use Rattle.refusal.specs.Refusal.{code-of};
 ghost use Rattle.balance.specs.Boxes.{add-box, subtract-box};
 ghost use Rattle.balance.specs.Parts.{flat};
 ghost use Rattle.ergo_index_balances.specs.Balances.{balance-out, balance-export};
+use index_types::TOKEN_ID_BYTES;
+use index_types::TOKEN_LIMIT;
 use refusal::Answer;
 
 // The code of an answer.
@@ -19,8 +21,8 @@ fn code_of(answer: Answer) -> u8
 // Adds a box: its nanoErgs, then its tokens in list order; new ids go last.
 #[no_mangle]
 pub extern "C" fn ergo_index_add_box(
-    held_ids: &mut [u8; 4096],
-    held_amounts: &mut [i64; 128],
+    held_ids: &mut [u8; TOKEN_ID_BYTES],
+    held_amounts: &mut [i64; TOKEN_LIMIT],
     held_count: &mut usize,
     held_nanos: &mut i64,
     nanos: i64,
@@ -47,8 +49,8 @@ pub extern "C" fn ergo_index_add_box(
 // Subtracts a box: its nanoErgs, which stop at 0, then its tokens in list order; a token at 0 or below is dropped, an unknown id ignored.
 #[no_mangle]
 pub extern "C" fn ergo_index_subtract_box(
-    held_ids: &mut [u8; 4096],
-    held_amounts: &mut [i64; 128],
+    held_ids: &mut [u8; TOKEN_ID_BYTES],
+    held_amounts: &mut [i64; TOKEN_LIMIT],
     held_count: &mut usize,
     held_nanos: &mut i64,
     nanos: i64,

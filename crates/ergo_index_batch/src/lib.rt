@@ -5,7 +5,7 @@ ghost use Rattle.call_steps.specs.Steps.{spill-counts};
 ghost use Rattle.ergo_index_lists.specs.Lists.{list-of};
 ghost use Rattle.ergo_index_batch.specs.Batch.{code-of, kept, outs-of, run-out, run-call};
 use call_steps::SpillCounts;
-use records::ListCounts;
+use index_types::ListCounts;
 use runner::Progress;
 
 // The code and what goes to the outs that are numbers.

@@ -3,12 +3,12 @@ use Prim.Native.Nat.{ℕ}
 use mathlib.Core.Path.{_≡_, ap}
 use mathlib.Core.List.{List}
 use lib.IntN.{ℤ}
-use Rattle.records.specs.declared.ListCounts.{ListCounts}
-use Rattle.entries.specs.declared.Tally.{Tally}
-use Rattle.buffer_core.specs.declared.Flipped.{Flipped}
-use Rattle.buffer_core.specs.declared.Flipped.the-variants as flipped
-use Rattle.buffer_core.specs.declared.Tallied.{Tallied}
-use Rattle.buffer_core.specs.declared.Tallied.the-variants as tallied
+use Rattle.index_types.specs.declared.ListCounts.{ListCounts}
+use Rattle.index_types.specs.declared.Tally.{Tally}
+use Rattle.index_types.specs.declared.Flipped.{Flipped}
+use Rattle.index_types.specs.declared.Flipped.the-variants as flipped
+use Rattle.index_types.specs.declared.Tallied.{Tallied}
+use Rattle.index_types.specs.declared.Tallied.the-variants as tallied
 use Rattle.buffer_core.specs.Flip.{Flipping, flipping}
 use Rattle.ergo_index_flips.specs.Flips.{flip-out, flip-by, flip-export, tally-out, tally-export}
 

@@ -4,10 +4,10 @@ use Prim.Native.Nat.{ℕ}
 use mathlib.Core.List.{List}
 use lib.IntN.{ℤ}
 use Rattle.buffer_core.specs.declared.Direction.{Direction}
-use Rattle.buffer_core.specs.declared.Flipped.{Flipped}
-use Rattle.buffer_core.specs.declared.Flipped.the-variants as flipped
-use Rattle.buffer_core.specs.declared.Tallied.{Tallied}
-use Rattle.buffer_core.specs.declared.Tallied.the-variants as tallied
+use Rattle.index_types.specs.declared.Flipped.{Flipped}
+use Rattle.index_types.specs.declared.Flipped.the-variants as flipped
+use Rattle.index_types.specs.declared.Tallied.{Tallied}
+use Rattle.index_types.specs.declared.Tallied.the-variants as tallied
 use Rattle.buffer_core.specs.Edition.{edition-1}
 use Rattle.buffer_core.specs.Append.{counts-of}
 use Rattle.buffer_core.specs.Flip.{Flipping, flip-of}

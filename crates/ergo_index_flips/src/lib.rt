@@ -5,11 +5,11 @@ ghost use mathlib.Core.List.{List};
 ghost use lib.IntN.{ℤ};
 ghost use Rattle.buffer_core.specs.declared.Direction.the-variants.{Spend, Unspend};
 ghost use Rattle.ergo_index_flips.specs.Flips.{flip-out, flip-by, flip-call, tally-out, tally-call};
-use buffer_core::Flipped;
-use buffer_core::HeadCounts;
-use buffer_core::Tallied;
-use records::ListCounts;
-use segment_buffer::BoxNumber;
+use index_types::BoxNumber;
+use index_types::Flipped;
+use index_types::HeadCounts;
+use index_types::ListCounts;
+use index_types::Tallied;
 
 // What a spend or an unspend answers goes to the out, and its code is the result; a refusal sets no out.
 fn told(flipped: Flipped, staged_count: &mut usize) -> u8

@@ -2,8 +2,8 @@
 -- Counts are borrowed numbers; an accepted call sets them, "a refusal returns its number only and changes nothing".
 use Prim.Native.Nat.{ℕ}
 use mathlib.Core.List.{List}
-use Rattle.buffer_core.specs.declared.Flushed.{Flushed}
-use Rattle.buffer_core.specs.declared.Flushed.the-variants as flushed
+use Rattle.index_types.specs.declared.Flushed.{Flushed}
+use Rattle.index_types.specs.declared.Flushed.the-variants as flushed
 use Rattle.buffer_core.specs.Edition.{edition-1}
 use Rattle.buffer_core.specs.Pop.{lists}
 use Rattle.buffer_core.specs.Flush.{Flushing, flush-of}

@@ -3,8 +3,8 @@ ghost use Prim.Native.Nat.{ℕ};
 ghost use mathlib.Core.Path.{_≡_};
 ghost use mathlib.Core.List.{List};
 ghost use Rattle.ergo_index_flush.specs.Flush.{flush-out, flush-by, flush-call};
-use buffer_core::Flushed;
-use records::ListCounts;
+use index_types::Flushed;
+use index_types::ListCounts;
 
 // What the flush answers goes to the outs, and its code is the result; a refusal sets no out.
 fn told(

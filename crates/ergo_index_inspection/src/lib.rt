@@ -1,7 +1,7 @@
 // Spill rows among the staged spills and in the segments table.
 ghost use mathlib.Core.Path.{_≡_};
 ghost use Rattle.ergo_index_inspection.specs.Inspection.{locate-out, locate-call, inspect-out, inspect-call};
-use records::ListCounts;
+use index_types::ListCounts;
 use spills::Located;
 
 // Which list holds the row under a key, and the index of its record there.

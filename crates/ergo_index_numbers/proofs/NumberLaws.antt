@@ -3,12 +3,12 @@ use Prim.Native.Nat.{ℕ}
 use mathlib.Core.Path.{_≡_, ap}
 use mathlib.Core.List.{List}
 use lib.IntN.{ℤ}
-use Rattle.vlq_core.specs.declared.Wrote.{Wrote}
-use Rattle.vlq_core.specs.declared.Wrote.the-variants as wrote
-use Rattle.vlq_core.specs.declared.Long.{Long}
-use Rattle.vlq_core.specs.declared.Long.the-variants as long
-use Rattle.vlq_core.specs.declared.Int.{Int}
-use Rattle.vlq_core.specs.declared.Int.the-variants as int
+use Rattle.index_types.specs.declared.Wrote.{Wrote}
+use Rattle.index_types.specs.declared.Wrote.the-variants as wrote
+use Rattle.index_types.specs.declared.Long.{Long}
+use Rattle.index_types.specs.declared.Long.the-variants as long
+use Rattle.index_types.specs.declared.Int.{Int}
+use Rattle.index_types.specs.declared.Int.the-variants as int
 use Rattle.vlq_core.specs.Writing.{Written, written}
 use Rattle.ergo_index_numbers.specs.Numbers.{write-out, write-by, write-export, number-out, long-export, int-export}
 

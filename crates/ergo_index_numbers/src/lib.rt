@@ -7,9 +7,9 @@ ghost use Rattle.vlq_core.specs.Groups.{enc};
 ghost use Rattle.vlq_core.specs.Reading.{read-at, long-of, int-of};
 ghost use Rattle.vlq_core.specs.Writing.{put-bytes};
 ghost use Rattle.ergo_index_numbers.specs.Numbers.{write-out, write-by, write-export, number-out, long-export, int-export};
-use vlq_core::Int;
-use vlq_core::Long;
-use vlq_core::Wrote;
+use index_types::Int;
+use index_types::Long;
+use index_types::Wrote;
 
 // The position goes behind what was written, and the code is the result; a refusal leaves the position.
 pub fn moved(wrote: Wrote, at: &mut usize) -> u8

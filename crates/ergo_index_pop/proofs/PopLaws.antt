@@ -4,17 +4,17 @@ use Prim.Native.Nat.{ℕ}
 use mathlib.Core.Path.{_≡_, ap, _∙_}
 use mathlib.Core.List.{List}
 use lib.IntN.{ℤ}
-use Rattle.records.specs.declared.ListCounts.{ListCounts}
-use Rattle.buffer_core.specs.declared.HeadCounts.{HeadCounts}
-use Rattle.buffer_core.specs.declared.Popped.{Popped}
-use Rattle.buffer_core.specs.declared.Popped.the-variants as popped
+use Rattle.index_types.specs.declared.ListCounts.{ListCounts}
+use Rattle.index_types.specs.declared.HeadCounts.{HeadCounts}
+use Rattle.index_types.specs.declared.Popped.{Popped}
+use Rattle.index_types.specs.declared.Popped.the-variants as popped
 use Rattle.buffer_core.specs.Pop.{Popping, popping}
-use Rattle.buffer_checks.specs.declared.BoxNumber.{BoxNumber}
-use Rattle.buffer_checks.specs.declared.TxNumber.{TxNumber}
-use Rattle.buffer_checks.specs.declared.PoppedBox.{PoppedBox}
-use Rattle.buffer_checks.specs.declared.PoppedBox.the-variants as box
-use Rattle.buffer_checks.specs.declared.PoppedTx.{PoppedTx}
-use Rattle.buffer_checks.specs.declared.PoppedTx.the-variants as tx
+use Rattle.index_types.specs.declared.BoxNumber.{BoxNumber}
+use Rattle.index_types.specs.declared.TxNumber.{TxNumber}
+use Rattle.index_types.specs.declared.PoppedBox.{PoppedBox}
+use Rattle.index_types.specs.declared.PoppedBox.the-variants as box
+use Rattle.index_types.specs.declared.PoppedTx.{PoppedTx}
+use Rattle.index_types.specs.declared.PoppedTx.the-variants as tx
 use Rattle.buffer_checks.specs.Answers.{as-popped-box, as-popped-tx}
 use Rattle.ergo_index_pop.specs.Pop.{pop-out, pop-by, pop-export}
 

@@ -4,8 +4,8 @@ use Prim.Native.Nat.{ℕ}
 use mathlib.Core.List.{List}
 use lib.IntN.{ℤ}
 use Rattle.segment_id.specs.declared.Kind.{Kind}
-use Rattle.buffer_core.specs.declared.Popped.{Popped}
-use Rattle.buffer_core.specs.declared.Popped.the-variants as popped
+use Rattle.index_types.specs.declared.Popped.{Popped}
+use Rattle.index_types.specs.declared.Popped.the-variants as popped
 use Rattle.buffer_core.specs.Edition.{edition-1}
 use Rattle.buffer_core.specs.Append.{counts-of}
 use Rattle.buffer_core.specs.Pop.{Popping, lists, pop-of}

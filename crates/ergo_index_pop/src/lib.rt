@@ -7,11 +7,11 @@ ghost use lib.IntN.{ℤ};
 ghost use Rattle.buffer_checks.specs.Answers.{as-popped-box, as-popped-tx};
 ghost use Rattle.segment_id.specs.declared.Kind.the-variants.{Box, Tx};
 ghost use Rattle.ergo_index_pop.specs.Pop.{pop-out, pop-by, pop-call};
-use buffer_core::HeadCounts;
-use buffer_core::Popped;
-use records::ListCounts;
-use segment_buffer::PoppedBox;
-use segment_buffer::PoppedTx;
+use index_types::HeadCounts;
+use index_types::ListCounts;
+use index_types::Popped;
+use index_types::PoppedBox;
+use index_types::PoppedTx;
 
 // The answer of a pop of boxes, as that of either kind.
 fn box_answer(popped: PoppedBox) -> Popped

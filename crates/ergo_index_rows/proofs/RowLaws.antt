@@ -4,8 +4,8 @@ use mathlib.Core.Path.{_≡_}
 use mathlib.Core.List.{List}
 use lib.IntN.{ℤ}
 use Rattle.refusal.specs.declared.Answer.the-variants as answer
-use Rattle.segment_core.specs.declared.Loaded.{Loaded}
-use Rattle.segment_core.specs.declared.Loaded.the-variants as loaded
+use Rattle.index_types.specs.declared.Loaded.{Loaded}
+use Rattle.index_types.specs.declared.Loaded.the-variants as loaded
 use Rattle.segment_core.specs.Loading.{Loading, loading}
 use Rattle.address_core.specs.declared.IndexedAddress.{IndexedAddress}
 use Rattle.address_core.specs.declared.AddressRead.{AddressRead}

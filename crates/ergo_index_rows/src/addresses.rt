@@ -4,6 +4,8 @@ ghost use Rattle.address_core.specs.Writing.{write-address};
 ghost use Rattle.address_core.specs.Loading.{read-address};
 ghost use Rattle.ergo_index_numbers.specs.Numbers.{write-out, write-export};
 ghost use Rattle.ergo_index_rows.specs.Rows.{address, address-out, address-export};
+use index_types::TOKEN_ID_BYTES;
+use index_types::TOKEN_LIMIT;
 use refusal::Answer;
 
 // Writes an address record: the hash, the flag, the balance where the flag is set, and the segment.
@@ -11,8 +13,8 @@ use refusal::Answer;
 pub extern "C" fn ergo_index_write_indexed_address(
     hash: &[u8; 32],
     has_balance: bool,
-    ids: &[u8; 4096],
-    amounts: &[i64; 128],
+    ids: &[u8; TOKEN_ID_BYTES],
+    amounts: &[i64; TOKEN_LIMIT],
     count: usize,
     nanos: i64,
     txs: &[i64],
@@ -52,8 +54,8 @@ pub extern "C" fn ergo_index_read_indexed_address(
     row: &[u8],
     hash: &mut [u8; 32],
     has_balance: &mut bool,
-    ids: &mut [u8; 4096],
-    amounts: &mut [i64; 128],
+    ids: &mut [u8; TOKEN_ID_BYTES],
+    amounts: &mut [i64; TOKEN_LIMIT],
     count: &mut usize,
     nanos: &mut i64,
     txs: &mut [i64],

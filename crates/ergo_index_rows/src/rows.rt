@@ -4,7 +4,7 @@ ghost use Rattle.segment_core.specs.Row.{row-limit};
 ghost use Rattle.segment.specs.Calls.{write-of, read-of};
 ghost use Rattle.ergo_index_numbers.specs.Numbers.{write-out, write-export};
 ghost use Rattle.ergo_index_rows.specs.Rows.{counted, row-out, row-export};
-use segment_core::Loaded;
+use index_types::Loaded;
 
 // Writes the first n_txs transactions and the first n_boxes boxes, with the spill counts, as a row.
 #[no_mangle]

@@ -4,12 +4,12 @@ ghost use Rattle.buffer_core.specs.declared.Direction.the-variants.{Spend, Unsp
 ghost use Rattle.buffer_core.specs.Edition.{edition-1};
 ghost use Rattle.buffer_core.specs.Flip.{flipping, flip-of};
 ghost use Rattle.buffer_core.specs.Tally.{tally-of};
-use buffer_checks::BoxNumber;
 use buffer_core::Direction;
-use buffer_core::Flipped;
-use buffer_core::HeadCounts;
-use buffer_core::Tallied;
-use records::ListCounts;
+use index_types::BoxNumber;
+use index_types::Flipped;
+use index_types::HeadCounts;
+use index_types::ListCounts;
+use index_types::Tallied;
 
 // A spend or an unspend. It brings no hints: where the records of the table stand is noted in the call, if it goes to the rows of a table of more than 128.
 fn flip_entry(

@@ -15,7 +15,7 @@ use Rattle.entries.specs.declared.Position.{Position}
 use Rattle.entries.specs.declared.Position.the-variants.{At, Seen, Absent}
 use Rattle.records.specs.declared.Found.{Found}
 use Rattle.records.specs.declared.Found.the-variants as found
-use Rattle.records.specs.declared.ListCounts.{ListCounts}
+use Rattle.index_types.specs.declared.ListCounts.{ListCounts}
 use Rattle.records.specs.declared.Place.{Place}
 use Rattle.records.specs.declared.Place.the-variants.{Staged, Table, Missing}
 use Rattle.records.specs.Records.{keys}
@@ -27,9 +27,9 @@ use Rattle.segment_id.specs.Key.{row-key}
 use Rattle.segment_id.specs.declared.Kind.the-variants.{Box}
 use Rattle.segment_core.specs.Reading.{Seg, seg, no-seg, segment-at, ended, row-of}
 use Rattle.segment_core.proofs.CodecLaws.{Few, segment-refusals, row-within}
-use Rattle.buffer_core.specs.declared.HeadCounts.{HeadCounts}
+use Rattle.index_types.specs.declared.HeadCounts.{HeadCounts}
 use Rattle.buffer_core.specs.declared.Direction.{Direction}
-use Rattle.buffer_core.specs.declared.Flipped.the-variants.{Done, Refused}
+use Rattle.index_types.specs.declared.Flipped.the-variants.{Done, Refused}
 use Rattle.buffer_core.specs.declared.Lead.{Lead}
 use Rattle.buffer_core.specs.declared.Lead.the-variants.{Leads, NoLead}
 use Rattle.buffer_core.specs.declared.Low.{Low}

@@ -13,11 +13,11 @@ use Rattle.entries.specs.Order.{order-ok}
 use Rattle.entries.specs.Flip.{position, flipped-at}
 use Rattle.entries.specs.declared.Position.{Position}
 use Rattle.entries.specs.declared.Position.the-variants.{At, Seen, Absent}
-use Rattle.records.specs.declared.ListCounts.{ListCounts}
-use Rattle.buffer_core.specs.declared.HeadCounts.{HeadCounts}
+use Rattle.index_types.specs.declared.ListCounts.{ListCounts}
+use Rattle.index_types.specs.declared.HeadCounts.{HeadCounts}
 use Rattle.buffer_core.specs.declared.Direction.{Direction}
-use Rattle.buffer_core.specs.declared.Flipped.{Flipped}
-use Rattle.buffer_core.specs.declared.Flipped.the-variants.{Done, Refused}
+use Rattle.index_types.specs.declared.Flipped.{Flipped}
+use Rattle.index_types.specs.declared.Flipped.the-variants.{Done, Refused}
 use Rattle.buffer_core.specs.declared.Low.{Low}
 use Rattle.buffer_core.specs.declared.Low.the-variants.{Upto, Broken}
 use Rattle.buffer_core.specs.declared.Walk.{Walk}

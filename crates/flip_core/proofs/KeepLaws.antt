@@ -19,7 +19,7 @@ use Rattle.entries.specs.declared.Position.{Position}
 use Rattle.entries.specs.declared.Position.the-variants.{At, Seen, Absent}
 use Rattle.records.specs.declared.Found.{Found}
 use Rattle.records.specs.declared.Found.the-variants as found
-use Rattle.records.specs.declared.ListCounts.{ListCounts}
+use Rattle.index_types.specs.declared.ListCounts.{ListCounts}
 use Rattle.records.specs.Records.{keys, record-of}
 use Rattle.records.specs.Find.{find-key, row-at, place-of}
 use Rattle.records.specs.Changes.{slot, count-after, with-count, put-record, full-for}
@@ -31,9 +31,9 @@ use Rattle.segment_id.proofs.KeyLaws.{row-key-length}
 use Rattle.segment_core.specs.Reading.{Seg, seg, no-seg, row-of}
 use Rattle.segment_core.proofs.BackLaws.{All64}
 use Rattle.segment_core.proofs.CodecLaws.{row-writable, redo-size}
-use Rattle.buffer_core.specs.declared.HeadCounts.{HeadCounts}
+use Rattle.index_types.specs.declared.HeadCounts.{HeadCounts}
 use Rattle.buffer_core.specs.declared.Direction.{Direction}
-use Rattle.buffer_core.specs.declared.Flipped.the-variants.{Done, Refused}
+use Rattle.index_types.specs.declared.Flipped.the-variants.{Done, Refused}
 use Rattle.buffer_core.specs.declared.Low.{Low}
 use Rattle.buffer_core.specs.declared.Low.the-variants.{Upto, Broken}
 use Rattle.buffer_core.specs.declared.Walk.{Walk}

@@ -16,15 +16,15 @@ use Rattle.entries.specs.declared.Position.{Position}
 use Rattle.entries.specs.declared.Position.the-variants.{At, Seen, Absent}
 use Rattle.entries.proofs.Counts.{copies}
 use Rattle.entries.proofs.FlipLaws as entry
-use Rattle.records.specs.declared.ListCounts.{ListCounts}
+use Rattle.index_types.specs.declared.ListCounts.{ListCounts}
 use Rattle.records.specs.declared.Place.{Place}
 use Rattle.records.specs.declared.Place.the-variants.{Staged, Table, Missing}
 use Rattle.records.specs.Changes.{with-count}
 use Rattle.records.specs.Checks.{InBounds}
 use Rattle.segment_id.specs.declared.Kind.the-variants.{Box}
-use Rattle.buffer_core.specs.declared.HeadCounts.{HeadCounts}
+use Rattle.index_types.specs.declared.HeadCounts.{HeadCounts}
 use Rattle.buffer_core.specs.declared.Direction.{Direction}
-use Rattle.buffer_core.specs.declared.Flipped.the-variants.{Done, Refused}
+use Rattle.index_types.specs.declared.Flipped.the-variants.{Done, Refused}
 use Rattle.buffer_core.specs.declared.Low.{Low}
 use Rattle.buffer_core.specs.declared.Low.the-variants.{Upto, Broken}
 use Rattle.buffer_core.specs.declared.Look.{Look}

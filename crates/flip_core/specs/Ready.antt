@@ -5,15 +5,16 @@ use mathlib.Core.Bool.{true}
 use mathlib.Core.List.{List}
 use lib.IntN.{ℤ}
 use lib.ListN.{length}
-use Rattle.records.specs.declared.ListCounts.{ListCounts}
+use Rattle.index_types.specs.Limits.{segment-threshold}
+use Rattle.index_types.specs.declared.ListCounts.{ListCounts}
 use Rattle.records.specs.Records.{keys}
 use Rattle.records.specs.Find.{distinct}
 use Rattle.records.specs.Checks.{InBounds}
-use Rattle.buffer_core.specs.declared.HeadCounts.{HeadCounts}
+use Rattle.index_types.specs.declared.HeadCounts.{HeadCounts}
 
 pub record FlipReady (h : HeadCounts) (c : ListCounts) (staged : List ℕ) (e : ListCounts) (table : List ℕ) (head : List ℤ) : Type 0 where
-  pub few : h .len ≤ 512
-  pub long : 512 ≤ length head
+  pub few : h .len ≤ segment-threshold
+  pub long : segment-threshold ≤ length head
   pub bounds : InBounds 10288 c staged
   pub table-bounds : InBounds 10288 e table
   pub apart : distinct (keys 10288 (e .count) table) ≡ true

@@ -10,12 +10,12 @@ ghost use Rattle.buffer_core.specs.Flip.{flipping, spends, done-by, in-rows, in
 ghost use Rattle.flip_stage.specs.Steps.{RowsReady, Stages};
 ghost use Rattle.flip_core.specs.Ready.{FlipReady};
 use buffer_core::Direction;
-use buffer_core::Flipped;
-use buffer_core::HeadCounts;
 use buffer_core::Low;
 use buffer_core::Walk;
 use entries::Position;
-use records::ListCounts;
+use index_types::Flipped;
+use index_types::HeadCounts;
+use index_types::ListCounts;
 
 // The halving, the walk, and the match.
 fn flip_hinted(

@@ -11,6 +11,7 @@ ghost use Rattle.buffer_core.specs.Spills.{sources};
 ghost use Rattle.buffer_core.specs.Flip.{lead-at, search-in};
 use buffer_core::Lead;
 use buffer_core::Low;
+use index_types::SEGMENT_THRESHOLD;
 use spill_rows::Read;
 
 // The absolute value of the first number of a row.
@@ -27,7 +28,7 @@ fn lead_of<'a>(
         × (distinct (keys 10288 «table_count» (now table)) ≡ true) ⌝ }
     ensures { λ r. ⌜ r ≡ lead-at edition-1 (sources (now (parent .entry)) (now (staged .entry)) «staged_count» (now (table .entry)) «table_count») number ⌝ }
 {
-    let mut row = [0i64; 512];
+    let mut row = [0i64; SEGMENT_THRESHOLD];
     let read = spill_rows::read_checked(
         parent,
         number,

@@ -13,8 +13,8 @@ use Rattle.stores.proofs.PutLaws.{sets-front}
 use Rattle.entries.specs.Flip.{flipped-at}
 use Rattle.entries.specs.declared.Position.the-variants.{At}
 use Rattle.segment_id.specs.declared.Kind.the-variants.{Box, Tx}
-use Rattle.segment_core.specs.declared.Loaded.{Loaded}
-use Rattle.segment_core.specs.declared.Loaded.the-variants as loaded
+use Rattle.index_types.specs.declared.Loaded.{Loaded}
+use Rattle.index_types.specs.declared.Loaded.the-variants as loaded
 use Rattle.segment_core.specs.Row.{row-bytes, Held}
 use Rattle.segment_core.specs.Reading.{Seg, seg, no-seg, segment-at, ended, row-of, redo}
 use Rattle.segment_core.specs.Loading.{Loading, loading, load, padded}

@@ -8,7 +8,7 @@ use lib.IntN.{pos}
 use lib.ListN.{length}
 use Rattle.records.specs.declared.Found.{Found}
 use Rattle.records.specs.declared.Found.the-variants as found
-use Rattle.records.specs.declared.ListCounts.{ListCounts}
+use Rattle.index_types.specs.declared.ListCounts.{ListCounts}
 use Rattle.records.specs.declared.Place.{Place}
 use Rattle.records.specs.declared.Place.the-variants.{Staged, Table, Missing}
 use Rattle.records.specs.Records.{keys, record-of}
@@ -19,7 +19,7 @@ use Rattle.records.proofs.TurnLaws.{found-in}
 use Rattle.segment_id.specs.Key.{row-key}
 use Rattle.segment_id.specs.declared.Kind.the-variants.{Box}
 use Rattle.segment_core.specs.Reading.{row-of}
-use Rattle.buffer_core.specs.declared.Flipped.the-variants.{Done, Refused}
+use Rattle.index_types.specs.declared.Flipped.the-variants.{Done, Refused}
 use Rattle.buffer_core.specs.Edition.{numbers-of, edition-1}
 use Rattle.buffer_core.specs.Spills.{sources, place-at, spill-read}
 use Rattle.buffer_core.specs.Flip.{row-flipped, stage-at}

@@ -5,11 +5,11 @@ use mathlib.Core.Bool.{true}
 use mathlib.Core.List.{List}
 use lib.IntN.{ℤ, pos, natAbs}
 use lib.ListN.{length, take, getD}
-use Rattle.records.specs.declared.ListCounts.{ListCounts}
+use Rattle.index_types.specs.declared.ListCounts.{ListCounts}
 use Rattle.records.specs.Records.{keys}
 use Rattle.records.specs.Find.{distinct}
 use Rattle.records.specs.Checks.{InBounds}
-use Rattle.buffer_core.specs.declared.Flipped.{Flipped}
+use Rattle.index_types.specs.declared.Flipped.{Flipped}
 use Rattle.buffer_core.specs.Edition.{RowRead, good, edition-1}
 use Rattle.buffer_core.specs.Flip.{Effect, flipping, done-by}
 

@@ -8,10 +8,11 @@ ghost use Rattle.buffer_core.specs.Edition.{edition-1, numbers-of};
 ghost use Rattle.buffer_core.specs.Spills.{sources, spill-read};
 ghost use Rattle.buffer_core.specs.Flip.{row-flipped, stage-at};
 ghost use Rattle.flip_stage.specs.Steps.{RowsReady, Takes, Written, Stages};
-use buffer_core::Flipped;
-use records::ListCounts;
+use index_types::Flipped;
+use index_types::ListCounts;
+use index_types::Loaded;
+use index_types::SEGMENT_THRESHOLD;
 use records::Place;
-use segment_core::Loaded;
 use segment_id::Kind;
 
 // Writes a row anew with the entry at a place negated, and gives its length.
@@ -19,8 +20,8 @@ fn rewrite(row: &[u8], at: usize, out: &mut [u8]) -> usize
     requires { ⌜ (length (now row) ≤ 10254) × (length (now out) ≡ 10254) × Takes (numbers-of Kind.Box (row-of 10254 (now row))) at ⌝ }
     ensures { λ r. ⌜ Written (row-flipped edition-1 (now (row .entry)) at) r (now (out .exit)) ⌝ }
 {
-    let mut txs = [0i64; 512];
-    let mut boxes = [0i64; 512];
+    let mut txs = [0i64; SEGMENT_THRESHOLD];
+    let mut boxes = [0i64; SEGMENT_THRESHOLD];
     match segment_core::read_last_segment(row, 0, &mut txs, &mut boxes) {
         Loaded::Read {
             txs: n,

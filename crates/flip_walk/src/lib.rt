@@ -5,6 +5,7 @@ ghost use mathlib.Core.Bool.{true, _||_};
 ghost use Prim.Native.Nat.{_*_, _≤_, _<_};
 ghost use lib.Dec.{ltb};
 ghost use lib.ListN.{length, take};
+ghost use Rattle.index_types.specs.Limits.{segment-threshold};
 ghost use Rattle.records.specs.Records.{keys};
 ghost use Rattle.records.specs.Find.{distinct};
 ghost use Rattle.entries.specs.Order.{order-ok};
@@ -14,6 +15,7 @@ ghost use Rattle.buffer_core.specs.Flip.{look-past, look-in, look-at, walk-from
 use buffer_core::Look;
 use buffer_core::Walk;
 use entries::Position;
+use index_types::SEGMENT_THRESHOLD;
 use spill_rows::Read;
 
 // What a row shows that has no entry to take.
@@ -29,14 +31,14 @@ fn look_past(first: u64, target: u64, seen: bool) -> Look
 
 // What the numbers of a row show, which are in order.
 fn look_in(row: &[i64], target: u64, spend: bool) -> Look
-    requires { ⌜ (length (now row) ≡ 512) × (order-ok (take 512 (now row)) ≡ true) ⌝ }
+    requires { ⌜ (length (now row) ≡ segment-threshold) × (order-ok (take segment-threshold (now row)) ≡ true) ⌝ }
     ensures { λ r. ⌜ r ≡ look-in (now (row .entry)) target spend ⌝ }
 {
     if signed::magnitude(row[511]) < target {
         return Look::Stop(false);
     }
     let first = signed::magnitude(row[0]);
-    let position = entries::flip_position(row, 512, target, spend);
+    let position = entries::flip_position(row, SEGMENT_THRESHOLD, target, spend);
     match position {
         Position::At(i) => Look::Take(i),
         Position::Seen => look_past(first, target, true),
@@ -60,7 +62,7 @@ fn look_at<'a>(
         × (distinct (keys 10288 «table_count» (now table)) ≡ true) ⌝ }
     ensures { λ r. ⌜ r ≡ look-at edition-1 (sources (now (parent .entry)) (now (staged .entry)) «staged_count» (now (table .entry)) «table_count») target spend number ⌝ }
 {
-    let mut row = [0i64; 512];
+    let mut row = [0i64; SEGMENT_THRESHOLD];
     let read = spill_rows::read_checked(
         parent,
         number,

@@ -1,7 +1,7 @@
 -- One law for each way out of a flush.
 use mathlib.Core.Path.{_≡_}
 use mathlib.Core.Bool.{true, false}
-use Rattle.buffer_core.specs.declared.Flushed.the-variants as flushed
+use Rattle.index_types.specs.declared.Flushed.the-variants as flushed
 use Rattle.buffer_core.specs.Edition.{edition-1}
 use Rattle.buffer_core.specs.Pop.{Lists, lists-ok}
 use Rattle.buffer_core.specs.Flush.{Flushing, flushing, flush-core, flush-of}

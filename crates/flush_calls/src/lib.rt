@@ -3,8 +3,8 @@ ghost use mathlib.Core.Path.{_≡_};
 ghost use Rattle.buffer_core.specs.Edition.{edition-1};
 ghost use Rattle.buffer_core.specs.Pop.{lists};
 ghost use Rattle.buffer_core.specs.Flush.{flushing, flush-of};
-use buffer_core::Flushed;
-use records::ListCounts;
+use index_types::Flushed;
+use index_types::ListCounts;
 
 // Writes the staged rows whose key is not deleted to the table, then removes the deleted keys from it; staged and deleted spills end empty.
 pub fn flush_staged_spills(

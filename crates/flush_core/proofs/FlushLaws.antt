@@ -10,7 +10,7 @@ use borrow.Author.Tests.{le-leb, lt-leb}
 use Rattle.stores.specs.Equal.{same-bytes}
 use Rattle.records.specs.declared.Found.{Found}
 use Rattle.records.specs.declared.Found.the-variants.{At, Nothing}
-use Rattle.records.specs.declared.ListCounts.{ListCounts}
+use Rattle.index_types.specs.declared.ListCounts.{ListCounts}
 use Rattle.records.specs.Records.{records, keys, stored-row, record-of}
 use Rattle.records.specs.Find.{find-from, find-key, is-found}
 use Rattle.records.specs.Changes.{slot, count-after, with-count, put-record, clear-records}
@@ -19,10 +19,11 @@ use Rattle.records.proofs.Views.{put-at}
 use Rattle.records.proofs.TurnLaws.{records-step, records-past, keys-step, keys-past, found-in}
 use Rattle.records.proofs.RecordLaws.{row-room, record-length, record-key}
 use Rattle.records.proofs.PutLaws.{keys-after-put}
-use Rattle.buffer_core.specs.declared.Flushed.the-variants.{Done, Refused}
+use Rattle.index_types.specs.declared.Flushed.the-variants.{Done, Refused}
 use Rattle.buffer_core.specs.Edition.{edition-1}
 use Rattle.buffer_core.specs.Pop.{Lists, count-without}
-use Rattle.buffer_core.specs.Flush.{one-if, new-count, new-keys, Listed, listed, put-staged, put-undeleted, remove-key, remove-keys, deleted-keys, table-after, Flushing, flushing, flushed, flush-core}
+use Rattle.buffer_core.specs.Flush.{new-count, new-keys, Listed, listed, put-staged, put-undeleted, remove-key, remove-keys, deleted-keys, table-after, Flushing, flushing, flushed, flush-core}
+use Rattle.entries.specs.Tally.{one-if}
 use Rattle.flush_core.specs.Steps.{is-new, put-unless-deleted}
 
 -- ---- turns of the loops

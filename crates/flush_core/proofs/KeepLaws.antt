@@ -8,17 +8,18 @@ use lib.Dec.{leb}
 use lib.ListN.{length, take, drop, length-take, length-drop}
 use lib.Seq.{take-take}
 use borrow.Author.Tests.{leb-true, lt-leb}
-use Rattle.records.specs.declared.ListCounts.{ListCounts}
+use Rattle.index_types.specs.declared.ListCounts.{ListCounts}
 use Rattle.records.specs.Records.{records, keys, stored-length, stored-row}
 use Rattle.records.specs.Find.{find-key, is-found}
 use Rattle.records.specs.Changes.{with-count, full-for, clear-records}
 use Rattle.records.specs.Checks.{lengths-ok, RecordsOk}
 use Rattle.records.proofs.RecordLaws.{row-room}
 use Rattle.records.proofs.CheckLaws.{and-left, and-right, records-ok-after-put, records-ok-after-clear, keys-ok-after-clear}
-use Rattle.buffer_core.specs.declared.Flushed.the-variants.{Done, Refused}
+use Rattle.index_types.specs.declared.Flushed.the-variants.{Done, Refused}
 use Rattle.buffer_core.specs.Edition.{edition-1}
 use Rattle.buffer_core.specs.Pop.{Lists, lists, lists-ok}
-use Rattle.buffer_core.specs.Flush.{one-if, new-count, new-keys, Listed, listed, put-staged, put-undeleted, remove-key, remove-keys, deleted-keys, table-after, Flushing, flushing, flushed, flush-core}
+use Rattle.buffer_core.specs.Flush.{new-count, new-keys, Listed, listed, put-staged, put-undeleted, remove-key, remove-keys, deleted-keys, table-after, Flushing, flushing, flushed, flush-core}
+use Rattle.entries.specs.Tally.{one-if}
 use Rattle.buffer_core.proofs.ListLaws.{ListsFit, lists-fit, fit-lists, without-ok}
 use Rattle.flush_core.specs.Steps.{is-new, put-unless-deleted, FlushReady}
 use Rattle.flush_core.proofs.FlushLaws.{put-room}

@@ -7,12 +7,13 @@ ghost use Rattle.records.specs.Find.{find-key, is-found};
 ghost use Rattle.records.specs.Changes.{with-count};
 ghost use Rattle.buffer_core.specs.Edition.{edition-1};
 ghost use Rattle.buffer_core.specs.Pop.{lists};
-ghost use Rattle.buffer_core.specs.Flush.{one-if, new-count, listed, put-undeleted, remove-key, remove-keys, flushing, flushed, flush-core};
+ghost use Rattle.buffer_core.specs.Flush.{new-count, listed, put-undeleted, remove-key, remove-keys, flushing, flushed, flush-core};
+ghost use Rattle.entries.specs.Tally.{one-if};
 ghost use Rattle.flush_core.specs.Steps.{is-new, put-unless-deleted, FlushReady, RoomReady};
-use buffer_core::Flushed;
 use buffer_core::RECORD;
+use index_types::Flushed;
+use index_types::ListCounts;
 use records::Found;
-use records::ListCounts;
 
 // Whether a key stands in a list.
 fn holds_key(list: &[u8], size: usize, count: usize, key: &[u8]) -> bool

@@ -10,7 +10,7 @@ use lib.Signed.{mag}
 use lib.ListN.{length}
 use Rattle.ledger.specs.Ledger.{TokenId, id-dec, Tokens, ite}
 use Rattle.ledger.specs.Run.{Res, done, refused}
-use Rattle.fork_model.proofs.Store.{andThen}
+use Rattle.fork_model.proofs.Store.{then-do}
 
 abbrev pub Has : Tokens → TokenId → Type 0
 Has [] t = ⊥
@@ -25,18 +25,18 @@ pub has-dec : (l : Tokens) (t : TokenId) → Dec (Has l t)
 has-dec [] t = no (λ h. h)
 has-dec (x ∷ l) t = or-dec (id-dec (x .0) t) (has-dec l t)
 
-abbrev pub setTok : Tokens → TokenId → ℤ → Tokens
-setTok [] t v = []
-setTok (x ∷ l) t v = ite (id-dec (x .0) t) ((t, v) ∷ l) (x ∷ setTok l t v)
+abbrev pub set-token : Tokens → TokenId → ℤ → Tokens
+set-token [] t v = []
+set-token (x ∷ l) t v = ite (id-dec (x .0) t) ((t, v) ∷ l) (x ∷ set-token l t v)
 
-abbrev pub dropTok : Tokens → TokenId → Tokens
-dropTok [] t = []
-dropTok (x ∷ l) t = ite (id-dec (x .0) t) l (x ∷ dropTok l t)
+abbrev pub drop-token : Tokens → TokenId → Tokens
+drop-token [] t = []
+drop-token (x ∷ l) t = ite (id-dec (x .0) t) l (x ∷ drop-token l t)
 
 abbrev pub shrink : Tokens → TokenId → ℤ → Tokens
-shrink l t (pos zero) = dropTok l t
-shrink l t (pos (suc v)) = setTok l t (pos (suc v))
-shrink l t (negsuc v) = dropTok l t
+shrink l t (pos zero) = drop-token l t
+shrink l t (pos (suc v)) = set-token l t (pos (suc v))
+shrink l t (negsuc v) = drop-token l t
 
 abbrev pub stop0 : ℤ → ℤ
 stop0 (pos n) = pos n
@@ -46,36 +46,36 @@ pub record Bal : Type 0 where
   pub nanos : ℤ
   pub toks : Tokens
 
-abbrev pub noBal : Bal
-noBal = record { nanos = pos 0; toks = [] }
+abbrev pub no-balance : Bal
+no-balance = record { nanos = pos 0; toks = [] }
 
-abbrev pub nanoOf : Bal → ℤ
-nanoOf b = b .nanos
+abbrev pub nano-of : Bal → ℤ
+nano-of b = b .nanos
 
-abbrev pub amountOf : Bal → TokenId → ℤ
-amountOf b t = amount-in (b .toks) t
+abbrev pub amount-of : Bal → TokenId → ℤ
+amount-of b t = amount-in (b .toks) t
 
 module _ (lim cap : ℕ) where
-  abbrev pub addTok : Tokens → TokenId → ℤ → Res Tokens
-  addTok l t a =
+  abbrev pub token-added : Tokens → TokenId → ℤ → Res Tokens
+  token-added l t a =
       ite (decLt (mag (amount-in l t +ℤ a)) lim)
-      (ite (has-dec l t) (done (setTok l t (amount-in l t +ℤ a))) (ite (decLt (length l) cap) (done (l ++ ((t, a) ∷ []))) (refused 24)))
+      (ite (has-dec l t) (done (set-token l t (amount-in l t +ℤ a))) (ite (decLt (length l) cap) (done (l ++ ((t, a) ∷ []))) (refused 24)))
       (refused 23)
 
-  unfoldable pub addToks : Tokens → Tokens → Res Tokens
-  addToks l [] = done l
-  addToks l (x ∷ ts) = andThen (addTok l (x .0) (x .1)) (λ k. addToks k ts)
+  unfoldable pub add-tokens : Tokens → Tokens → Res Tokens
+  add-tokens l [] = done l
+  add-tokens l (x ∷ ts) = then-do (token-added l (x .0) (x .1)) (λ k. add-tokens k ts)
 
-  abbrev pub subTok : Tokens → TokenId → ℤ → Res Tokens
-  subTok l t a =
+  abbrev pub token-taken : Tokens → TokenId → ℤ → Res Tokens
+  token-taken l t a =
       ite (has-dec l t) (ite (decLt (mag (amount-in l t -ℤ a)) lim) (done (shrink l t (amount-in l t -ℤ a))) (refused 23)) (done l)
 
-  unfoldable pub subToks : Tokens → Tokens → Res Tokens
-  subToks l [] = done l
-  subToks l (x ∷ ts) = andThen (subTok l (x .0) (x .1)) (λ k. subToks k ts)
+  unfoldable pub subtract-tokens : Tokens → Tokens → Res Tokens
+  subtract-tokens l [] = done l
+  subtract-tokens l (x ∷ ts) = then-do (token-taken l (x .0) (x .1)) (λ k. subtract-tokens k ts)
 
   abbrev pub add : Bal → ℤ → Tokens → Res Bal
-  add b n ts = ite (decLt (mag (b .nanos +ℤ n)) lim) (andThen (addToks (b .toks) ts) (λ l. done (record { nanos = b .nanos +ℤ n; toks = l }))) (refused 23)
+  add b n ts = ite (decLt (mag (b .nanos +ℤ n)) lim) (then-do (add-tokens (b .toks) ts) (λ l. done (record { nanos = b .nanos +ℤ n; toks = l }))) (refused 23)
 
   abbrev pub sub : Bal → ℤ → Tokens → Res Bal
-  sub b n ts = ite (decLt (mag (b .nanos -ℤ n)) lim) (andThen (subToks (b .toks) ts) (λ l. done (record { nanos = stop0 (b .nanos -ℤ n); toks = l }))) (refused 23)
+  sub b n ts = ite (decLt (mag (b .nanos -ℤ n)) lim) (then-do (subtract-tokens (b .toks) ts) (λ l. done (record { nanos = stop0 (b .nanos -ℤ n); toks = l }))) (refused 23)

@@ -9,7 +9,7 @@ use native.Mathlib.Omega.{arith}
 use lib.IntN.{ℤ, pos, negsuc, negℤ, natAbs}
 use Rattle.ledger.specs.Ledger.{Parent, Series, boxes, txs, series-dec, ite, Call, append, spend, credit, debit, absℤ, ledger-numbers, Rule, Rules}
 use Rattle.ledger.specs.Decide.{boxes≢txs}
-use Rattle.ledger.specs.Run.{negAt, negs}
+use Rattle.ledger.specs.Run.{negated-at, negs}
 
 pub map-append : (f : ℤ → ℤ) (a b : List ℤ) → map f (a ++ b) ≡ map f a ++ map f b
 map-append f [] b = refl
@@ -33,7 +33,7 @@ abs-neg (suc m) = refl
 pub flip-abs : {m : ℕ} {l l′ : List ℤ} → Flip m l l′ → map absℤ l ≡ map absℤ l′
 flip-abs {m} f = rw (f .was, f .is, map-append, map-append, abs-neg)
 
-neg-at : (n m : ℕ) → 0 < n → negAt n (negℤ (pos m)) ≡ ite (ℕ-discrete m n) 1 0
+neg-at : (n m : ℕ) → 0 < n → negated-at n (negℤ (pos m)) ≡ ite (ℕ-discrete m n) 1 0
 neg-at n zero h = sym (ite-no (ℕ-discrete 0 n) 1 0 (λ e. omega arith))
 neg-at n (suc m) h = refl
 
@@ -92,14 +92,14 @@ unfolding ite
 neg-ite n k (yes e) t = let q : k ≡ n = omega arith in ap negsuc q
 neg-ite n k (no q) t = absurd (omega arith)
 
-neg-here : (n : ℕ) (e : ℤ) → 0 < negAt (suc n) e → e ≡ negsuc n
+neg-here : (n : ℕ) (e : ℤ) → 0 < negated-at (suc n) e → e ≡ negsuc n
 neg-here n (pos m) h = absurd (omega arith)
 neg-here n (negsuc k) h = neg-ite n k (ℕ-discrete (suc k) (suc n)) h
 
-neg-cons : (n : ℕ) (e : ℤ) (l : List ℤ) (k : ℕ) → negAt (suc n) e ≡ k → 0 < k + negs (suc n) l → (0 < negs (suc n) l → List·Memᴰ (negsuc n) l) → List·Memᴰ (negsuc n) (e ∷ l)
+neg-cons : (n : ℕ) (e : ℤ) (l : List ℤ) (k : ℕ) → negated-at (suc n) e ≡ k → 0 < k + negs (suc n) l → (0 < negs (suc n) l → List·Memᴰ (negsuc n) l) → List·Memᴰ (negsuc n) (e ∷ l)
 neg-cons n e l zero q h ih = List·Memᴰ·tail (ih (omega arith))
 neg-cons n e l (suc k) q h ih = List·Memᴰ·head (sym (neg-here n e (omega arith)))
 
 pub neg-mem : (n : ℕ) (l : List ℤ) → 0 < negs (suc n) l → List·Memᴰ (negsuc n) l
 neg-mem n [] h = absurd (omega arith)
-neg-mem n (e ∷ l) h = neg-cons n e l (negAt (suc n) e) refl h (λ t. neg-mem n l t)
+neg-mem n (e ∷ l) h = neg-cons n e l (negated-at (suc n) e) refl h (λ t. neg-mem n l t)

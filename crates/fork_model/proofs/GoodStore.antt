@@ -1,6 +1,6 @@
 -- What holds of the store of tables between calls: full rows under the keys in use, heads within a row, lists within their capacities.
 use Rattle.ledger.proofs.TestLaws.{ite-yes, ite-no}
-use Rattle.ledger.specs.Run.{flat, rowOr}
+use Rattle.ledger.specs.Run.{flat, row-or}
 use mathlib.Core.Path.{_≡_, refl, sym, _∙_, ap}
 use mathlib.Core.Logic.{_⊎_, ⊎-elim, _≢_}
 use mathlib.Core.List.{List, [], _∷_, _++_, List·Memᴰ, List·Memᴰ·tail, List·Memᴰ·cases-cons, List·Memᴰ·append-cases, List·Memᴰ·eq-of-singleton, Memᴰ·append-left, Memᴰ·append-right}
@@ -11,7 +11,7 @@ use lib.IntN.{ℤ, pos, negsuc, negℤ, natAbs}
 use lib.ListN.{length, length-append}
 use Rattle.ledger.specs.Ledger.{Series, series-dec, ite}
 use Rattle.ledger.specs.Run.{Res, done, refused}
-use Rattle.fork_model.proofs.Table.{Found, missing, found, orElse}
+use Rattle.fork_model.proofs.Table.{Found, missing, found, or-else}
 use Rattle.fork_model.proofs.Table as Tb
 use Rattle.fork_model.proofs.EntryLaws.{mem-mid}
 use Rattle.fork_model.proofs.Store.{both}
@@ -50,8 +50,8 @@ small-split {lim} {e} {l} {k} p s x t =
 abbrev pub FullRow : ℕ → ℕ → Res (List ℤ) → Type 0
 FullRow lim r f = (l : List ℤ) × (f ≡ done l) × (length l ≡ suc r) × Small lim l
 
-pub full-length : (lim r : ℕ) (f : Res (List ℤ)) → FullRow lim r f → length (rowOr f) ≡ suc r
-full-length lim r f h = ap (λ x. length (rowOr x)) (h .1) ∙ h .2
+pub full-length : (lim r : ℕ) (f : Res (List ℤ)) → FullRow lim r f → length (row-or f) ≡ suc r
+full-length lim r f h = ap (λ x. length (row-or x)) (h .1) ∙ h .2
 
 -- what is asked of the coding
 pub record Coded (E : St.Env) : Type 0 where
@@ -59,7 +59,7 @@ pub record Coded (E : St.Env) : Type 0 where
   pub again : (ch : Series) (b : E .Row) (l new : List ℤ) → E .dec ch b ≡ done l → length new ≤ suc (E .r) → Small (E .lim) new → E .dec ch (E .redo ch b new) ≡ done new
 
 module _ (E : St.Env) (code : Coded E) where
-  open St.Env E using (r, lim, Key, key-dec, key, Row, enc, dec, redo, tableCap, stagCap, delCap, maxCount)
+  open St.Env E using (r, lim, Key, key-dec, key, Row, enc, dec, redo, table-cap, staged-cap, deleted-cap, max-count)
 
   abbrev pub Store : Type 0
   Store = St.Store E
@@ -70,11 +70,11 @@ module _ (E : St.Env) (code : Coded E) where
   abbrev pub entries : Store → Series → List ℤ
   entries σ ch = St.entries E σ ch
 
-  abbrev pub rowAt : Store → Series → ℕ → Res (List ℤ)
-  rowAt σ ch s = St.rowAt E σ ch s
+  abbrev pub store-row : Store → Series → ℕ → Res (List ℤ)
+  store-row σ ch s = St.store-row E σ ch s
 
   abbrev pub view : Table → Table → Key → Found Row
-  view a b k = orElse (Tb.lookup Row Key key-dec a k) (Tb.lookup Row Key key-dec b k)
+  view a b k = or-else (Tb.lookup Row Key key-dec a k) (Tb.lookup Row Key key-dec b k)
 
   abbrev put : Table → Key → Row → Table
   put t k l = Tb.put Row Key key-dec t k l
@@ -85,8 +85,8 @@ module _ (E : St.Env) (code : Coded E) where
   abbrev pub Distinct : Table → Type 0
   Distinct t = Tb.Distinct Row Key key-dec t
 
-  abbrev withHead : Store → Series → List ℤ → Store
-  withHead σ ch l = St.withHead E σ ch l
+  abbrev with-head : Store → Series → List ℤ → Store
+  with-head σ ch l = St.with-head E σ ch l
 
   abbrev spilled : Store → Series → ℤ → Table → Store
   spilled σ ch n t = St.spilled E σ ch n t
@@ -101,45 +101,45 @@ module _ (E : St.Env) (code : Coded E) where
   flushed σ = St.flushed E σ
 
   abbrev pub StagingFull : Store → Type 0
-  StagingFull σ = stagCap ≤ length (σ .staging)
+  StagingFull σ = staged-cap ≤ length (σ .staging)
 
   abbrev pub DeletionFull : Store → Type 0
-  DeletionFull σ = delCap ≤ length (σ .deletion)
+  DeletionFull σ = deleted-cap ≤ length (σ .deletion)
 
   -- staging
   pub stage-done : (σ : Store) (k : Key) (l : Row) (t : Table) → stage σ k l ≡ done t → t ≡ put (σ .staging) k l
   stage-done σ k l t h =
-      ite-cases (both (decLe stagCap (length (σ .staging))) (Tb.lacks-dec Row Key key-dec (Tb.lookup Row Key key-dec (σ .staging) k))) (refused 16) (done (put (σ .staging) k l)) (done t) h
+      ite-cases (both (decLe staged-cap (length (σ .staging))) (Tb.lacks-dec Row Key key-dec (Tb.lookup Row Key key-dec (σ .staging) k))) (refused 16) (done (put (σ .staging) k l)) (done t) h
       (λ a b. absurd (done≢refused (sym b))) (λ a b. let q : put (σ .staging) k l ≡ t = cc in sym q)
 
-  pub stage-size : (σ : Store) (k : Key) (l : Row) (t : Table) → length (σ .staging) ≤ stagCap → stage σ k l ≡ done t → length (put (σ .staging) k l) ≤ stagCap
+  pub stage-size : (σ : Store) (k : Key) (l : Row) (t : Table) → length (σ .staging) ≤ staged-cap → stage σ k l ≡ done t → length (put (σ .staging) k l) ≤ staged-cap
   stage-size σ k l t c h =
-      ite-cases (both (decLe stagCap (length (σ .staging))) (Tb.lacks-dec Row Key key-dec (Tb.lookup Row Key key-dec (σ .staging) k))) (refused 16) (done (put (σ .staging) k l)) (done t) h
+      ite-cases (both (decLe staged-cap (length (σ .staging))) (Tb.lacks-dec Row Key key-dec (Tb.lookup Row Key key-dec (σ .staging) k))) (refused 16) (done (put (σ .staging) k l)) (done t) h
       (λ a b. absurd (done≢refused (sym b)))
-      (λ a b. size (decLe stagCap (length (σ .staging))) a)
+      (λ a b. size (decLe staged-cap (length (σ .staging))) a)
     where
-      size : Dec (stagCap ≤ length (σ .staging)) → ((stagCap ≤ length (σ .staging)) × Tb.Lacks Row Key key-dec (Tb.lookup Row Key key-dec (σ .staging) k) → ⊥) → length (put (σ .staging) k l) ≤ stagCap
+      size : Dec (staged-cap ≤ length (σ .staging)) → ((staged-cap ≤ length (σ .staging)) × Tb.Lacks Row Key key-dec (Tb.lookup Row Key key-dec (σ .staging) k) → ⊥) → length (put (σ .staging) k l) ≤ staged-cap
       size (yes q) a = omega (arith, Tb.length-put-has Row Key key-dec (σ .staging) k l (λ z. a (q, z)))
       size (no q) a = omega (arith, q, Tb.length-put Row Key key-dec (σ .staging) k l)
 
   pub stage-refused : (σ : Store) (k : Key) (l : Row) (j : ℕ) → stage σ k l ≡ refused j → (j ≡ 16) × StagingFull σ
   stage-refused σ k l j h =
-      ite-cases (both (decLe stagCap (length (σ .staging))) (Tb.lacks-dec Row Key key-dec (Tb.lookup Row Key key-dec (σ .staging) k))) (refused 16) (done (put (σ .staging) k l)) (refused j) h
+      ite-cases (both (decLe staged-cap (length (σ .staging))) (Tb.lacks-dec Row Key key-dec (Tb.lookup Row Key key-dec (σ .staging) k))) (refused 16) (done (put (σ .staging) k l)) (refused j) h
       (λ a b. let q : 16 ≡ j = cc in (sym q, a .0)) (λ a b. absurd (done≢refused b))
 
   module _ (U : Series → ℕ → Type 0) where
     pub record Good (σ : Store) : Type 0 where
-      pub full : (ch : Series) (s : ℕ) → s < σ .counts ch → FullRow lim r (rowAt σ ch s)
+      pub full : (ch : Series) (s : ℕ) → s < σ .counts ch → FullRow lim r (store-row σ ch s)
       pub used : (ch : Series) (s : ℕ) → s < σ .counts ch → U ch s
       pub kept : (ch : Series) (s : ℕ) → s < σ .counts ch → In (key ch s) (σ .deletion) → ⊥
       pub fits : (ch : Series) → length (σ .heads ch) ≤ suc r
       pub small : (ch : Series) → Small lim (σ .heads ch)
-      pub oneStaged : Distinct (σ .staging)
-      pub oneTable : Distinct (σ .table)
+      pub one-staged : Distinct (σ .staging)
+      pub one-table : Distinct (σ .table)
       -- 25 never arises
-      pub capStaged : length (σ .staging) ≤ stagCap
-      pub capTable : length (σ .table) ≤ tableCap
-      pub capDeleted : length (σ .deletion) ≤ delCap
+      pub cap-staged : length (σ .staging) ≤ staged-cap
+      pub cap-table : length (σ .table) ≤ table-cap
+      pub cap-deleted : length (σ .deletion) ≤ deleted-cap
 
     abbrev pub Tidy : Store → Type 0
     Tidy σ = σ .deletion ≡ []
@@ -148,36 +148,36 @@ module _ (E : St.Env) (code : Coded E) where
     Beside ch σ τ = Op.Beside Store entries ch σ τ
 
     -- a new head
-    pub head-good : (σ : Store) (ch : Series) (l : List ℤ) → Good σ → length l ≤ suc r → Small lim l → Good (withHead σ ch l)
+    pub head-good : (σ : Store) (ch : Series) (l : List ℤ) → Good σ → length l ≤ suc r → Small lim l → Good (with-head σ ch l)
     head-good σ ch l G h sm = record {
       full = G .full;
       used = G .used;
       kept = G .kept;
       fits = λ d. ite-both (λ (x : List ℤ). length x ≤ suc r) (series-dec ch d) l (σ .heads d) h (G .fits d);
       small = λ d. ite-both (Small lim) (series-dec ch d) l (σ .heads d) sm (G .small d);
-      oneStaged = G .oneStaged;
-      oneTable = G .oneTable;
-      capStaged = G .capStaged;
-      capTable = G .capTable;
-      capDeleted = G .capDeleted;
+      one-staged = G .one-staged;
+      one-table = G .one-table;
+      cap-staged = G .cap-staged;
+      cap-table = G .cap-table;
+      cap-deleted = G .cap-deleted;
     }
 
-    pub head-entries : (σ : Store) (ch : Series) (l : List ℤ) → entries (withHead σ ch l) ch ≡ flat (rowAt σ ch) (σ .counts ch) ++ l
-    head-entries σ ch l = ap (λ (x : List ℤ). flat (rowAt σ ch) (σ .counts ch) ++ x) (ite-yes (series-dec ch ch) l (σ .heads ch) refl)
+    pub head-entries : (σ : Store) (ch : Series) (l : List ℤ) → entries (with-head σ ch l) ch ≡ flat (store-row σ ch) (σ .counts ch) ++ l
+    head-entries σ ch l = ap (λ (x : List ℤ). flat (store-row σ ch) (σ .counts ch) ++ x) (ite-yes (series-dec ch ch) l (σ .heads ch) refl)
 
-    pub head-beside : (σ : Store) (ch : Series) (l : List ℤ) → Beside ch σ (withHead σ ch l)
-    head-beside σ ch l d q = ap (λ (x : List ℤ). flat (rowAt σ d) (σ .counts d) ++ x) (ite-no (series-dec ch d) l (σ .heads d) q)
+    pub head-beside : (σ : Store) (ch : Series) (l : List ℤ) → Beside ch σ (with-head σ ch l)
+    head-beside σ ch l d q = ap (λ (x : List ℤ). flat (store-row σ d) (σ .counts d) ++ x) (ite-no (series-dec ch d) l (σ .heads d) q)
 
     pub entries-length : (σ : Store) (ch : Series) → Good σ → length (entries σ ch) ≡ suc r * σ .counts ch + length (σ .heads ch)
-    entries-length σ ch G = length-append (flat (rowAt σ ch) (σ .counts ch)) (σ .heads ch)
-        ∙ ap (λ x. x + length (σ .heads ch)) (Se.flat-length (rowAt σ ch) (suc r) (σ .counts ch) (λ s h. full-length lim r (rowAt σ ch s) (G .full ch s h)))
+    entries-length σ ch G = length-append (flat (store-row σ ch) (σ .counts ch)) (σ .heads ch)
+        ∙ ap (λ x. x + length (σ .heads ch)) (Se.flat-length (store-row σ ch) (suc r) (σ .counts ch) (λ s h. full-length lim r (store-row σ ch s) (G .full ch s h)))
 
     -- a row put into staging
     view-put-same : (a b : Table) (k : Key) (l : Row) → view (put a k l) b k ≡ found l
-    view-put-same a b k l = ap (λ x. orElse x (Tb.lookup Row Key key-dec b k)) (Tb.lookup-put-same Row Key key-dec a k l)
+    view-put-same a b k l = ap (λ x. or-else x (Tb.lookup Row Key key-dec b k)) (Tb.lookup-put-same Row Key key-dec a k l)
 
     pub view-put-other : (a b : Table) (k j : Key) (l : Row) → k ≢ j → view (put a k l) b j ≡ view a b j
-    view-put-other a b k j l n = ap (λ x. orElse x (Tb.lookup Row Key key-dec b j)) (Tb.lookup-put-other Row Key key-dec a k j l n)
+    view-put-other a b k j l n = ap (λ x. or-else x (Tb.lookup Row Key key-dec b j)) (Tb.lookup-put-other Row Key key-dec a k j l n)
 
     abbrev decoded : Series → Found Row → Res (List ℤ)
     decoded ch f = St.decoded E ch f
@@ -201,6 +201,6 @@ module _ (E : St.Env) (code : Coded E) where
     abbrev redone : Store → Series → ℕ → List ℤ → Row
     redone σ ch s new = St.redone E σ ch s new
 
-    pub redo-found : (ch : Series) (f : Found Row) (l new : List ℤ) → decoded ch f ≡ done l → length new ≤ suc r → Small lim new → dec ch (St.redoFound E ch f new) ≡ done new
+    pub redo-found : (ch : Series) (f : Found Row) (l new : List ℤ) → decoded ch f ≡ done l → length new ≤ suc r → Small lim new → dec ch (St.found-redone E ch f new) ≡ done new
     redo-found ch missing l new e h sm = absurd (done≢refused (sym e))
     redo-found ch (found b) l new e h sm = code .again ch b l new e h sm

@@ -2,7 +2,7 @@
 use mathlib.Core.Path.{_≡_}
 use lib.IntN.{ℤ, pos, _+ℤ_, _-ℤ_}
 use lib.Signed.{_≤ℤ_}
-use Rattle.ledger.specs.Ledger.{TokenId, Tokens, Typed, AllPos, sumOf}
+use Rattle.ledger.specs.Ledger.{TokenId, Tokens, Typed, AllPos, sum-of}
 
 pub record Paid (n : ℤ) (ts : Tokens) : Type 0 where
   pub typed : Typed ts
@@ -10,15 +10,15 @@ pub record Paid (n : ℤ) (ts : Tokens) : Type 0 where
   pub allpos : AllPos ts
 
 -- over balances of any kind, by their nanoErgs and the amount of each token id
-module _ (Bal : Type 0) (nanoOf : Bal → ℤ) (amountOf : Bal → TokenId → ℤ) where
+module _ (Bal : Type 0) (nano-of : Bal → ℤ) (amount-of : Bal → TokenId → ℤ) where
   pub record Grew (b : Bal) (n : ℤ) (ts : Tokens) (b′ : Bal) : Type 0 where
-    pub nanoErgs : nanoOf b′ ≡ nanoOf b +ℤ n
-    pub amounts : (t : TokenId) → amountOf b′ t ≡ amountOf b t +ℤ sumOf t ts
+    pub nanoErgs : nano-of b′ ≡ nano-of b +ℤ n
+    pub amounts : (t : TokenId) → amount-of b′ t ≡ amount-of b t +ℤ sum-of t ts
 
   pub record Shrank (b : Bal) (n : ℤ) (ts : Tokens) (b′ : Bal) : Type 0 where
-    pub nanoErgs : nanoOf b′ ≡ nanoOf b -ℤ n
-    pub amounts : (t : TokenId) → amountOf b′ t ≡ amountOf b t -ℤ sumOf t ts
+    pub nanoErgs : nano-of b′ ≡ nano-of b -ℤ n
+    pub amounts : (t : TokenId) → amount-of b′ t ≡ amount-of b t -ℤ sum-of t ts
 
   pub record Alike (b b′ : Bal) : Type 0 where
-    pub nanoErgs : nanoOf b′ ≡ nanoOf b
-    pub amounts : (t : TokenId) → amountOf b′ t ≡ amountOf b t
+    pub nanoErgs : nano-of b′ ≡ nano-of b
+    pub amounts : (t : TokenId) → amount-of b′ t ≡ amount-of b t

@@ -1,6 +1,6 @@
 -- Facts about the searches in lists and rows.
 use Rattle.ledger.proofs.TestLaws.{ite-yes}
-use Rattle.ledger.specs.Run.{flat, rowOr}
+use Rattle.ledger.specs.Run.{flat, row-or}
 use mathlib.Core.Path.{_≡_, refl, sym, _∙_, ap, subst}
 use mathlib.Core.Logic.{⊎-elim, _≢_}
 use mathlib.Core.Bool.{Bool, true, false}
@@ -15,7 +15,7 @@ use Rattle.ledger.specs.Ledger.{int-dec, ite, absℤ}
 use Rattle.ledger.specs.Run.{Res, done, refused}
 use Rattle.fork_model.proofs.Table.{Found, missing, found}
 use Rattle.fork_model.proofs.EntryLaws.{Sorted, Flip, mem-map}
-use Rattle.fork_model.proofs.Store.{andThen, Ends, nothing, ends, consEnd, unsnoc, consF, flipFirst, ordered, orB, seenIn, Hit, onHit, firstAbs, midOf, halve, notFound, lastAbs, walk}
+use Rattle.fork_model.proofs.Store.{then-do, Ends, nothing, ends, cons-end, unsnoc, cons-found, flip-first, ordered, or-bool, seen-in, Hit, on-hit, first-abs, half-way, halve, none-found, last-abs, walk}
 
 -- two constructors are never equal
 pub done≢refused : {A : Type 0} {a : A} {k : ℕ} → _≡_ {A = Res A} (done a) (refused k) → ⊥
@@ -25,7 +25,7 @@ pub found≢missing : {A : Type 0} {l : A} → _≡_ {A = Found A} (found l) mis
 found≢missing e = let z : _≡_ {A = ℕ} 0 1 = cc in omega arith
 
 -- UNSNOC
-cons-nothing : (x : ℤ) (E : Ends) → consEnd x E ≡ nothing → ⊥
+cons-nothing : (x : ℤ) (E : Ends) → cons-end x E ≡ nothing → ⊥
 cons-nothing x nothing e = let z : _≡_ {A = ℕ} 0 1 = cc in omega arith
 cons-nothing x (ends f v) e = let z : _≡_ {A = ℕ} 0 1 = cc in omega arith
 
@@ -34,7 +34,7 @@ unfolding unsnoc
 unsnoc-nothing [] e = refl
 unsnoc-nothing (x ∷ l) e = absurd (cons-nothing x (unsnoc l) e)
 
-cons-ends : (x : ℤ) (l : List ℤ) (E : Ends) (f : List ℤ) (v : ℤ) → unsnoc l ≡ E → consEnd x E ≡ ends f v → ((g : List ℤ) (w : ℤ) → unsnoc l ≡ ends g w → l ≡ g ++ (w ∷ [])) → x ∷ l ≡ f ++ (v ∷ [])
+cons-ends : (x : ℤ) (l : List ℤ) (E : Ends) (f : List ℤ) (v : ℤ) → unsnoc l ≡ E → cons-end x E ≡ ends f v → ((g : List ℤ) (w : ℤ) → unsnoc l ≡ ends g w → l ≡ g ++ (w ∷ [])) → x ∷ l ≡ f ++ (v ∷ [])
 cons-ends x l nothing f v h e ih =
     let ef : [] ≡ f = cc in let ev : x ≡ v = cc in let el : l ≡ [] = unsnoc-nothing l h in
     ap (λ y. x ∷ y) el ∙ (λ i. ef i ++ (ev i ∷ []))
@@ -54,7 +54,7 @@ pub record Split (e : ℤ) (l l′ : List ℤ) : Type 0 where
   pub was : l ≡ front ++ e ∷ back
   pub is : l′ ≡ front ++ negℤ e ∷ back
 
-first-cons : (e x : ℤ) (l l′ : List ℤ) (E : Found (List ℤ)) (w : Dec (x ≡ e)) → flipFirst e l ≡ E → ite w (found (negℤ x ∷ l)) (consF x E) ≡ found l′ → ((m : List ℤ) → flipFirst e l ≡ found m → Split e l m) → Split e (x ∷ l) l′
+first-cons : (e x : ℤ) (l l′ : List ℤ) (E : Found (List ℤ)) (w : Dec (x ≡ e)) → flip-first e l ≡ E → ite w (found (negℤ x ∷ l)) (cons-found x E) ≡ found l′ → ((m : List ℤ) → flip-first e l ≡ found m → Split e l m) → Split e (x ∷ l) l′
 unfolding ite
 first-cons e x l l′ E (yes q) h g ih =
     let el : negℤ x ∷ l ≡ l′ = cc in
@@ -64,22 +64,22 @@ first-cons e x l l′ (found m) (no q) h g ih =
     let el : x ∷ m ≡ l′ = cc in let s = ih m h in
     record { front = x ∷ s .front; back = s .back; was = ap (λ y. x ∷ y) (s .was); is = sym el ∙ ap (λ y. x ∷ y) (s .is) }
 
-pub first-split : (e : ℤ) (l l′ : List ℤ) → flipFirst e l ≡ found l′ → Split e l l′
-unfolding flipFirst
+pub first-split : (e : ℤ) (l l′ : List ℤ) → flip-first e l ≡ found l′ → Split e l l′
+unfolding flip-first
 first-split e [] l′ h = absurd (found≢missing (sym h))
-first-split e (x ∷ l) l′ h = first-cons e x l l′ (flipFirst e l) (int-dec x e) refl h (λ m g. first-split e l m g)
+first-split e (x ∷ l) l′ h = first-cons e x l l′ (flip-first e l) (int-dec x e) refl h (λ m g. first-split e l m g)
 
-miss-cons : (e x : ℤ) (l : List ℤ) (E : Found (List ℤ)) (w : Dec (x ≡ e)) → flipFirst e l ≡ E → ite w (found (negℤ x ∷ l)) (consF x E) ≡ missing → (x ≢ e) × (flipFirst e l ≡ missing)
+miss-cons : (e x : ℤ) (l : List ℤ) (E : Found (List ℤ)) (w : Dec (x ≡ e)) → flip-first e l ≡ E → ite w (found (negℤ x ∷ l)) (cons-found x E) ≡ missing → (x ≢ e) × (flip-first e l ≡ missing)
 unfolding ite
 miss-cons e x l E (yes q) h g = absurd (found≢missing g)
 miss-cons e x l missing (no q) h g = (q, h)
 miss-cons e x l (found m) (no q) h g = absurd (found≢missing g)
 
-pub first-missing : (e : ℤ) (l : List ℤ) → flipFirst e l ≡ missing → List·Memᴰ e l → ⊥
-unfolding flipFirst
+pub first-missing : (e : ℤ) (l : List ℤ) → flip-first e l ≡ missing → List·Memᴰ e l → ⊥
+unfolding flip-first
 first-missing e [] h t = List·Memᴰ·not-nil t
 first-missing e (x ∷ l) h t =
-    let m = miss-cons e x l (flipFirst e l) (int-dec x e) refl h in
+    let m = miss-cons e x l (flip-first e l) (int-dec x e) refl h in
     ⊎-elim (λ q. m .0 (sym q)) (λ u. first-missing e l (m .1) u) (List·Memᴰ·cases-cons t)
 
 pub flip-of-split : (m : ℕ) {l l′ : List ℤ} → Split (pos m) l l′ → Flip m l l′
@@ -146,20 +146,20 @@ last-above (y ∷ l) (suc i) x s e t =
 pub flat-cong : (f g : ℕ → Res (List ℤ)) (n : ℕ) → ((s : ℕ) → s < n → f s ≡ g s) → flat f n ≡ flat g n
 unfolding flat
 flat-cong f g zero h = refl
-flat-cong f g (suc n) h = (λ i. flat-cong f g n (λ s l. h s (omega arith)) i ++ rowOr (h n (omega arith) i))
+flat-cong f g (suc n) h = (λ i. flat-cong f g n (λ s l. h s (omega arith)) i ++ row-or (h n (omega arith) i))
 
-pub flat-length : (f : ℕ → Res (List ℤ)) (r n : ℕ) → ((s : ℕ) → s < n → length (rowOr (f s)) ≡ r) → length (flat f n) ≡ r * n
+pub flat-length : (f : ℕ → Res (List ℤ)) (r n : ℕ) → ((s : ℕ) → s < n → length (row-or (f s)) ≡ r) → length (flat f n) ≡ r * n
 unfolding flat
 flat-length f r zero h = omega arith
-flat-length f r (suc n) h = length-append (flat f n) (rowOr (f n)) ∙ omega (arith, flat-length f r n (λ s l. h s (omega arith)), h n (omega arith), mul-suc r n)
+flat-length f r (suc n) h = length-append (flat f n) (row-or (f n)) ∙ omega (arith, flat-length f r n (λ s l. h s (omega arith)), h n (omega arith), mul-suc r n)
 
 -- the rows before s, row s, the rows after it
 pub record Parts (f : ℕ → Res (List ℤ)) (n s : ℕ) : Type 0 where
   pub rest : List ℤ
-  pub parts : flat f n ≡ flat f s ++ (rowOr (f s) ++ rest)
-  pub alike : (g : ℕ → Res (List ℤ)) → ((t : ℕ) → s < t → t < n → g t ≡ f t) → flat g n ≡ flat g s ++ (rowOr (g s) ++ rest)
+  pub parts : flat f n ≡ flat f s ++ (row-or (f s) ++ rest)
+  pub alike : (g : ℕ → Res (List ℤ)) → ((t : ℕ) → s < t → t < n → g t ≡ f t) → flat g n ≡ flat g s ++ (row-or (g s) ++ rest)
 
-parts-here : (f : ℕ → Res (List ℤ)) (n s : ℕ) → s ≡ n → flat f (suc n) ≡ flat f s ++ (rowOr (f s) ++ [])
+parts-here : (f : ℕ → Res (List ℤ)) (n s : ℕ) → s ≡ n → flat f (suc n) ≡ flat f s ++ (row-or (f s) ++ [])
 unfolding flat
 parts-here f n s e = rw (e, append-nil)
 
@@ -169,32 +169,32 @@ parts-step f n s below ih (yes e) = record { rest = []; parts = parts-here f n s
 parts-step f n s below ih (no q) =
     let p = ih q in
     record {
-      rest = p .rest ++ rowOr (f n);
-      parts = ap (λ y. y ++ rowOr (f n)) (p .parts) ∙ simp append-assoc;
-      alike = λ g h. ap (λ y. y ++ rowOr (g n)) (p .alike g (λ t a b. h t a (omega arith))) ∙ ap (λ y. (flat g s ++ (rowOr (g s) ++ p .rest)) ++ rowOr y) (h n (below q) (omega arith)) ∙ simp append-assoc;
+      rest = p .rest ++ row-or (f n);
+      parts = ap (λ y. y ++ row-or (f n)) (p .parts) ∙ simp append-assoc;
+      alike = λ g h. ap (λ y. y ++ row-or (g n)) (p .alike g (λ t a b. h t a (omega arith))) ∙ ap (λ y. (flat g s ++ (row-or (g s) ++ p .rest)) ++ row-or y) (h n (below q) (omega arith)) ∙ simp append-assoc;
     }
 
 pub flat-parts : (f : ℕ → Res (List ℤ)) (n s : ℕ) → s < n → Parts f n s
 flat-parts f zero s h = absurd (omega arith)
 flat-parts f (suc n) s h = parts-step f n s (λ q. omega arith) (λ q. flat-parts f n s (omega arith)) (ℕ-discrete s n)
 
-pub mem-flat : (f : ℕ → Res (List ℤ)) (n s : ℕ) (x : ℤ) → s < n → List·Memᴰ x (rowOr (f s)) → List·Memᴰ x (flat f n)
+pub mem-flat : (f : ℕ → Res (List ℤ)) (n s : ℕ) (x : ℤ) → s < n → List·Memᴰ x (row-or (f s)) → List·Memᴰ x (flat f n)
 mem-flat f n s x h t = let p = flat-parts f n s h in rw (p .parts) (Memᴰ·append-right (flat f s) (Memᴰ·append-left (p .rest) t))
 
-pub flat-mem : (f : ℕ → Res (List ℤ)) (n : ℕ) (x : ℤ) → List·Memᴰ x (flat f n) → (s : ℕ) × (s < n) × List·Memᴰ x (rowOr (f s))
+pub flat-mem : (f : ℕ → Res (List ℤ)) (n : ℕ) (x : ℤ) → List·Memᴰ x (flat f n) → (s : ℕ) × (s < n) × List·Memᴰ x (row-or (f s))
 unfolding flat
 flat-mem f zero x t = absurd (List·Memᴰ·not-nil t)
 flat-mem f (suc n) x t = ⊎-elim (λ u. let q = flat-mem f n x u in (q .0, omega (arith, q .1), q .2)) (λ u. (n, omega arith, u)) (List·Memᴰ·append-cases (flat f n) t)
 
-pub sorted-row : (f : ℕ → Res (List ℤ)) (n s : ℕ) → s < n → Sorted (flat f n) → Sorted (rowOr (f s))
+pub sorted-row : (f : ℕ → Res (List ℤ)) (n s : ℕ) → s < n → Sorted (flat f n) → Sorted (row-or (f s))
 sorted-row f n s h S = let p = flat-parts f n s h in
-    sorted-left (rowOr (f s)) (p .rest) (sorted-right (flat f s) (rowOr (f s) ++ p .rest) (subst Sorted (p .parts) S))
+    sorted-left (row-or (f s)) (p .rest) (sorted-right (flat f s) (row-or (f s) ++ p .rest) (subst Sorted (p .parts) S))
 
-pub sorted-rows : (f : ℕ → Res (List ℤ)) (n s t : ℕ) (x y : ℤ) → s < t → t < n → Sorted (flat f n) → List·Memᴰ x (rowOr (f s)) → List·Memᴰ y (rowOr (f t)) → natAbs x ≤ natAbs y
+pub sorted-rows : (f : ℕ → Res (List ℤ)) (n s t : ℕ) (x y : ℤ) → s < t → t < n → Sorted (flat f n) → List·Memᴰ x (row-or (f s)) → List·Memᴰ y (row-or (f t)) → natAbs x ≤ natAbs y
 sorted-rows f n s t x y a b S u v = let p = flat-parts f n t b in
-    sorted-cross (flat f t) (rowOr (f t) ++ p .rest) x y (subst Sorted (p .parts) S) (mem-flat f t s x a u) (Memᴰ·append-left (p .rest) v)
+    sorted-cross (flat f t) (row-or (f t) ++ p .rest) x y (subst Sorted (p .parts) S) (mem-flat f t s x a u) (Memᴰ·append-left (p .rest) v)
 
-pub first-below : (l : List ℤ) (x : ℤ) → Sorted l → List·Memᴰ x l → firstAbs l ≤ natAbs x
+pub first-below : (l : List ℤ) (x : ℤ) → Sorted l → List·Memᴰ x l → first-abs l ≤ natAbs x
 first-below [] x s t = absurd (List·Memᴰ·not-nil t)
 first-below (y ∷ l) x s t = ⊎-elim (λ q. let z : natAbs x ≡ natAbs y = ap natAbs q in omega arith) (λ u. s .0 x u) (List·Memᴰ·cases-cons t)
 
@@ -216,25 +216,25 @@ ite-cases (yes e) p q c h f g = f e h
 ite-cases (no n) p q c h f g = g n h
 
 module _ (rd : ℕ → Res (List ℤ)) (m : ℕ) where
-  halve-row : (X : Res (List ℤ)) (x hi : ℕ) (p q : Res ℕ) → andThen X (λ l. ite (decLe (firstAbs l) m) p q) ≡ done x → (p ≡ done x → x ≤ hi) → (q ≡ done x → x ≤ hi) → x ≤ hi
+  halve-row : (X : Res (List ℤ)) (x hi : ℕ) (p q : Res ℕ) → then-do X (λ l. ite (decLe (first-abs l) m) p q) ≡ done x → (p ≡ done x → x ≤ hi) → (q ≡ done x → x ≤ hi) → x ≤ hi
   halve-row (refused k) x hi p q e f g = absurd (done≢refused (sym e))
-  halve-row (done l) x hi p q e f g = ite-cases (decLe (firstAbs l) m) p q (done x) e (λ u. f) (λ u. g)
+  halve-row (done l) x hi p q e f g = ite-cases (decLe (first-abs l) m) p q (done x) e (λ u. f) (λ u. g)
 
   pub halve-le : (f lo hi x : ℕ) → lo ≤ hi → halve rd m f lo hi ≡ done x → x ≤ hi
   unfolding halve
   halve-le zero lo hi x h e = let q : lo ≡ x = cc in omega arith
   halve-le (suc f) lo hi x h e =
-      ite-cases (decLt lo hi) (andThen (rd (midOf lo hi)) (λ l. ite (decLe (firstAbs l) m) (halve rd m f (suc (midOf lo hi)) hi) (halve rd m f lo (midOf lo hi)))) (done lo) (done x) e
-      (λ l a. halve-row (rd (midOf lo hi)) x hi (halve rd m f (suc (midOf lo hi)) hi) (halve rd m f lo (midOf lo hi)) a
-      (λ b. halve-le f (suc (midOf lo hi)) hi x (omega arith) b)
-      (λ b. let z : x ≤ midOf lo hi = halve-le f lo (midOf lo hi) x (omega arith) b in omega arith))
+      ite-cases (decLt lo hi) (then-do (rd (half-way lo hi)) (λ l. ite (decLe (first-abs l) m) (halve rd m f (suc (half-way lo hi)) hi) (halve rd m f lo (half-way lo hi)))) (done lo) (done x) e
+      (λ l a. halve-row (rd (half-way lo hi)) x hi (halve rd m f (suc (half-way lo hi)) hi) (halve rd m f lo (half-way lo hi)) a
+      (λ b. halve-le f (suc (half-way lo hi)) hi x (omega arith) b)
+      (λ b. let z : x ≤ half-way lo hi = halve-le f lo (half-way lo hi) x (omega arith) b in omega arith))
       (λ l a. let q : lo ≡ x = cc in omega arith)
 
   -- rows that can be read, whose first numbers do not fall
-  module _ (n : ℕ) (row : ℕ → List ℤ) (reads : (s : ℕ) → s < n → rd s ≡ done (row s)) (rises : (s t : ℕ) → s ≤ t → t < n → firstAbs (row s) ≤ firstAbs (row t)) where
+  module _ (n : ℕ) (row : ℕ → List ℤ) (reads : (s : ℕ) → s < n → rd s ≡ done (row s)) (rises : (s t : ℕ) → s ≤ t → t < n → first-abs (row s) ≤ first-abs (row t)) where
     pub record Halved (x : ℕ) : Type 0 where
       pub within : x ≤ n
-      pub above : (s : ℕ) → x ≤ s → s < n → m < firstAbs (row s)
+      pub above : (s : ℕ) → x ≤ s → s < n → m < first-abs (row s)
 
     abbrev Answers : Res ℕ → Type 0
     Answers q = (x : ℕ) × (q ≡ done x) × Halved x
@@ -244,15 +244,15 @@ module _ (rd : ℕ → Res (List ℤ)) (m : ℕ) where
     pick-half (yes e) p q f g = f e
     pick-half (no e) p q f g = g e
 
-    pub halve-spec : (f lo hi : ℕ) → hi ≤ n → lo ≤ hi → hi ≤ lo + f → ((s : ℕ) → hi ≤ s → s < n → m < firstAbs (row s)) → Answers (halve rd m f lo hi)
+    pub halve-spec : (f lo hi : ℕ) → hi ≤ n → lo ≤ hi → hi ≤ lo + f → ((s : ℕ) → hi ≤ s → s < n → m < first-abs (row s)) → Answers (halve rd m f lo hi)
     unfolding halve
     halve-spec zero lo hi a b c h = (lo, refl, record { within = omega arith; above = λ s u v. h s (omega arith) v })
     halve-spec (suc f) lo hi a b c h =
-        pick-half (decLt lo hi) (andThen (rd (midOf lo hi)) (λ l. ite (decLe (firstAbs l) m) (halve rd m f (suc (midOf lo hi)) hi) (halve rd m f lo (midOf lo hi)))) (done lo)
-        (λ l. subst (λ (X : Res (List ℤ)). Answers (andThen X (λ k. ite (decLe (firstAbs k) m) (halve rd m f (suc (midOf lo hi)) hi) (halve rd m f lo (midOf lo hi))))) (sym (reads (midOf lo hi) (omega arith)))
-        (pick-half (decLe (firstAbs (row (midOf lo hi))) m) (halve rd m f (suc (midOf lo hi)) hi) (halve rd m f lo (midOf lo hi))
-        (λ u. halve-spec f (suc (midOf lo hi)) hi a (omega arith) (omega arith) h)
-        (λ u. halve-spec f lo (midOf lo hi) (omega arith) (omega arith) (omega arith) (λ s v w. omega (arith, rises (midOf lo hi) s v w)))))
+        pick-half (decLt lo hi) (then-do (rd (half-way lo hi)) (λ l. ite (decLe (first-abs l) m) (halve rd m f (suc (half-way lo hi)) hi) (halve rd m f lo (half-way lo hi)))) (done lo)
+        (λ l. subst (λ (X : Res (List ℤ)). Answers (then-do X (λ k. ite (decLe (first-abs k) m) (halve rd m f (suc (half-way lo hi)) hi) (halve rd m f lo (half-way lo hi))))) (sym (reads (half-way lo hi) (omega arith)))
+        (pick-half (decLe (first-abs (row (half-way lo hi))) m) (halve rd m f (suc (half-way lo hi)) hi) (halve rd m f lo (half-way lo hi))
+        (λ u. halve-spec f (suc (half-way lo hi)) hi a (omega arith) (omega arith) h)
+        (λ u. halve-spec f lo (half-way lo hi) (omega arith) (omega arith) (omega arith) (λ s v w. omega (arith, rises (half-way lo hi) s v w)))))
         (λ l. (lo, refl, record { within = omega arith; above = λ s u v. h s (omega arith) v }))
 
 -- THE WALK
@@ -261,27 +261,27 @@ module _ (r : ℕ) (rd : ℕ → Res (List ℤ)) (e : ℤ) where
     pub below : h .at < n
     pub row : List ℤ
     pub read : rd (h .at) ≡ done row
-    pub hit : flipFirst e row ≡ found (h .new)
+    pub hit : flip-first e row ≡ found (h .new)
 
   later : {n : ℕ} {h : Hit} → Stopped n h → Stopped (suc n) h
   later s = record { below = omega (arith, s .below); row = s .row; read = s .read; hit = s .hit }
 
-  hit-cases : (s : ℕ) (l : List ℤ) (F : Found (List ℤ)) (q : Res Hit) (h : Hit) → rd s ≡ done l → flipFirst e l ≡ F → onHit s F q ≡ done h → (q ≡ done h → Stopped (suc s) h) → Stopped (suc s) h
+  hit-cases : (s : ℕ) (l : List ℤ) (F : Found (List ℤ)) (q : Res Hit) (h : Hit) → rd s ≡ done l → flip-first e l ≡ F → on-hit s F q ≡ done h → (q ≡ done h → Stopped (suc s) h) → Stopped (suc s) h
   hit-cases s l missing q h a b c g = g c
   hit-cases s l (found k) q h a b c g =
       let z : record { at = s; new = k } ≡ h = cc in
       subst (Stopped (suc s)) z (record { below = omega arith; row = l; read = a; hit = b })
 
   walk-row : (s : ℕ) (X : Res (List ℤ)) (seen : Bool) (h : Hit) → rd s ≡ X
-      → andThen X (λ l. ite (decLt (lastAbs r l) (natAbs e)) (refused (notFound seen))
-      (onHit s (flipFirst e l) (ite (decLt (firstAbs l) (natAbs e)) (refused (notFound (orB (seenIn (natAbs e) l) seen))) (walk r rd e s (orB (seenIn (natAbs e) l) seen))))) ≡ done h
+      → then-do X (λ l. ite (decLt (last-abs r l) (natAbs e)) (refused (none-found seen))
+      (on-hit s (flip-first e l) (ite (decLt (first-abs l) (natAbs e)) (refused (none-found (or-bool (seen-in (natAbs e) l) seen))) (walk r rd e s (or-bool (seen-in (natAbs e) l) seen))))) ≡ done h
       → ((b : Bool) → walk r rd e s b ≡ done h → Stopped s h) → Stopped (suc s) h
   walk-row s (refused k) seen h a c ih = absurd (done≢refused (sym c))
   walk-row s (done l) seen h a c ih =
-      ite-cases (decLt (lastAbs r l) (natAbs e)) (refused (notFound seen)) _ (done h) c (λ u v. absurd (done≢refused (sym v)))
-      (λ u v. hit-cases s l (flipFirst e l) _ h a refl v
-      (λ w. ite-cases (decLt (firstAbs l) (natAbs e)) (refused (notFound (orB (seenIn (natAbs e) l) seen))) (walk r rd e s (orB (seenIn (natAbs e) l) seen)) (done h) w
-      (λ x y. absurd (done≢refused (sym y))) (λ x y. later (ih (orB (seenIn (natAbs e) l) seen) y))))
+      ite-cases (decLt (last-abs r l) (natAbs e)) (refused (none-found seen)) _ (done h) c (λ u v. absurd (done≢refused (sym v)))
+      (λ u v. hit-cases s l (flip-first e l) _ h a refl v
+      (λ w. ite-cases (decLt (first-abs l) (natAbs e)) (refused (none-found (or-bool (seen-in (natAbs e) l) seen))) (walk r rd e s (or-bool (seen-in (natAbs e) l) seen)) (done h) w
+      (λ x y. absurd (done≢refused (sym y))) (λ x y. later (ih (or-bool (seen-in (natAbs e) l) seen) y))))
 
   pub walk-stopped : (n : ℕ) (seen : Bool) (h : Hit) → walk r rd e n seen ≡ done h → Stopped n h
   unfolding walk
@@ -290,37 +290,37 @@ module _ (r : ℕ) (rd : ℕ → Res (List ℤ)) (e : ℤ) where
 
   -- a copy in row s is found by a walk that starts above it
   module _ (n : ℕ) (row : ℕ → List ℤ) (reads : (s : ℕ) → s < n → rd s ≡ done (row s)) (s : ℕ) (there : List·Memᴰ e (row s))
-      (lasts : (t : ℕ) → s ≤ t → t < n → natAbs e ≤ lastAbs r (row t)) (firsts : (t : ℕ) → s < t → t < n → natAbs e ≤ firstAbs (row t)) where
-    hit-some : (t : ℕ) (F : Found (List ℤ)) (q : Res Hit) (k : ℕ) → flipFirst e (row t) ≡ F → onHit t F q ≡ refused k → (F ≡ missing → q ≡ refused k → ⊥) → ⊥
+      (lasts : (t : ℕ) → s ≤ t → t < n → natAbs e ≤ last-abs r (row t)) (firsts : (t : ℕ) → s < t → t < n → natAbs e ≤ first-abs (row t)) where
+    hit-some : (t : ℕ) (F : Found (List ℤ)) (q : Res Hit) (k : ℕ) → flip-first e (row t) ≡ F → on-hit t F q ≡ refused k → (F ≡ missing → q ≡ refused k → ⊥) → ⊥
     hit-some t missing q k a b g = g refl b
     hit-some t (found l) q k a b g = done≢refused b
 
-    walk-miss : (t : ℕ) (seen : Bool) (k : ℕ) → s ≤ t → t < n → flipFirst e (row t) ≡ missing
-        → ite (decLt (firstAbs (row t)) (natAbs e)) (refused (notFound (orB (seenIn (natAbs e) (row t)) seen))) (walk r rd e t (orB (seenIn (natAbs e) (row t)) seen)) ≡ refused k
+    walk-miss : (t : ℕ) (seen : Bool) (k : ℕ) → s ≤ t → t < n → flip-first e (row t) ≡ missing
+        → ite (decLt (first-abs (row t)) (natAbs e)) (refused (none-found (or-bool (seen-in (natAbs e) (row t)) seen))) (walk r rd e t (or-bool (seen-in (natAbs e) (row t)) seen)) ≡ refused k
         → ((b : Bool) → s < t → walk r rd e t b ≡ refused k → ⊥) → Dec (s ≡ t) → ⊥
     walk-miss t seen k a b f d ih (yes q) = first-missing e (row t) f (subst (λ (x : ℕ). List·Memᴰ e (row x)) q there)
     walk-miss t seen k a b f d ih (no q) =
-        ite-cases (decLt (firstAbs (row t)) (natAbs e)) (refused (notFound (orB (seenIn (natAbs e) (row t)) seen))) (walk r rd e t (orB (seenIn (natAbs e) (row t)) seen)) (refused k) d
-        (λ x y. omega (arith, firsts t (omega arith) b)) (λ x y. ih (orB (seenIn (natAbs e) (row t)) seen) (omega arith) y)
+        ite-cases (decLt (first-abs (row t)) (natAbs e)) (refused (none-found (or-bool (seen-in (natAbs e) (row t)) seen))) (walk r rd e t (or-bool (seen-in (natAbs e) (row t)) seen)) (refused k) d
+        (λ x y. omega (arith, firsts t (omega arith) b)) (λ x y. ih (or-bool (seen-in (natAbs e) (row t)) seen) (omega arith) y)
 
     walk-at : (t : ℕ) (seen : Bool) (k : ℕ) → s ≤ t → t < n
-        → ite (decLt (lastAbs r (row t)) (natAbs e)) (refused (notFound seen))
-        (onHit t (flipFirst e (row t)) (ite (decLt (firstAbs (row t)) (natAbs e)) (refused (notFound (orB (seenIn (natAbs e) (row t)) seen))) (walk r rd e t (orB (seenIn (natAbs e) (row t)) seen)))) ≡ refused k
+        → ite (decLt (last-abs r (row t)) (natAbs e)) (refused (none-found seen))
+        (on-hit t (flip-first e (row t)) (ite (decLt (first-abs (row t)) (natAbs e)) (refused (none-found (or-bool (seen-in (natAbs e) (row t)) seen))) (walk r rd e t (or-bool (seen-in (natAbs e) (row t)) seen)))) ≡ refused k
         → ((b : Bool) → s < t → walk r rd e t b ≡ refused k → ⊥) → Dec (s ≡ t) → ⊥
     walk-at t seen k a b d ih w =
-        ite-cases (decLt (lastAbs r (row t)) (natAbs e)) (refused (notFound seen)) _ (refused k) d
+        ite-cases (decLt (last-abs r (row t)) (natAbs e)) (refused (none-found seen)) _ (refused k) d
         (λ u v. omega (arith, lasts t a b))
-        (λ u v. hit-some t (flipFirst e (row t)) _ k refl v (λ f g. walk-miss t seen k a b f g ih w))
+        (λ u v. hit-some t (flip-first e (row t)) _ k refl v (λ f g. walk-miss t seen k a b f g ih w))
 
     walk-in : (t : ℕ) (X : Res (List ℤ)) (seen : Bool) (k : ℕ) → s ≤ t → t < n → X ≡ done (row t)
-        → andThen X (λ l. ite (decLt (lastAbs r l) (natAbs e)) (refused (notFound seen))
-        (onHit t (flipFirst e l) (ite (decLt (firstAbs l) (natAbs e)) (refused (notFound (orB (seenIn (natAbs e) l) seen))) (walk r rd e t (orB (seenIn (natAbs e) l) seen))))) ≡ refused k
+        → then-do X (λ l. ite (decLt (last-abs r l) (natAbs e)) (refused (none-found seen))
+        (on-hit t (flip-first e l) (ite (decLt (first-abs l) (natAbs e)) (refused (none-found (or-bool (seen-in (natAbs e) l) seen))) (walk r rd e t (or-bool (seen-in (natAbs e) l) seen))))) ≡ refused k
         → ((b : Bool) → s < t → walk r rd e t b ≡ refused k → ⊥) → Dec (s ≡ t) → ⊥
     walk-in t (refused j) seen k a b c d ih w = done≢refused (sym c)
     walk-in t (done l) seen k a b c d ih w =
         let q : l ≡ row t = cc in
-        walk-at t seen k a b (subst (λ (x : List ℤ). andThen (done x) (λ l. ite (decLt (lastAbs r l) (natAbs e)) (refused (notFound seen))
-        (onHit t (flipFirst e l) (ite (decLt (firstAbs l) (natAbs e)) (refused (notFound (orB (seenIn (natAbs e) l) seen))) (walk r rd e t (orB (seenIn (natAbs e) l) seen))))) ≡ refused k) q d) ih w
+        walk-at t seen k a b (subst (λ (x : List ℤ). then-do (done x) (λ l. ite (decLt (last-abs r l) (natAbs e)) (refused (none-found seen))
+        (on-hit t (flip-first e l) (ite (decLt (first-abs l) (natAbs e)) (refused (none-found (or-bool (seen-in (natAbs e) l) seen))) (walk r rd e t (or-bool (seen-in (natAbs e) l) seen))))) ≡ refused k) q d) ih w
 
     pub walk-finds : (t : ℕ) (seen : Bool) (k : ℕ) → t ≤ n → s < t → walk r rd e t seen ≡ refused k → ⊥
     unfolding walk

@@ -7,7 +7,7 @@ use lib.IntN.{ℤ, pos}
 use Rattle.ledger.specs.Ledger.{boxes, append, spend, ite, series-dec, int-dec}
 use Rattle.ledger.specs.Run.{done, Machine, Step, call, undo, flush, start, run, flat}
 use Rattle.fork_model.proofs.Table as Tb
-use Rattle.fork_model.proofs.Store.{unsnoc, flipFirst, ordered, seenIn, halve, walk}
+use Rattle.fork_model.proofs.Store.{unsnoc, flip-first, ordered, seen-in, halve, walk}
 use Rattle.fork_model.proofs.Store as St
 use Rattle.fork_model.proofs.Whole as Wh
 
@@ -33,10 +33,10 @@ short-rows = record {
   enc = λ ch l. l;
   dec = λ ch l. done l;
   redo = λ ch b l. l;
-  tableCap = 3;
-  stagCap = 3;
-  delCap = 3;
-  maxCount = 3;
+  table-cap = 3;
+  staged-cap = 3;
+  deleted-cap = 3;
+  max-count = 3;
 }
 
 module _ (B : Wh.Balances) where
@@ -45,10 +45,10 @@ module _ (B : Wh.Balances) where
 
   -- rows [5] and [5], both spent: the second undo of a spend passes the newer row, which starts with 5 and holds no -5 any more
   pub past-an-equal-row : boxes-after M (append-box 5 ∷ append-box 5 ∷ spend-box 5 ∷ spend-box 5 ∷ append-box 6 ∷ flush ∷ undo ∷ undo ∷ undo ∷ []) ≡ pos 5 ∷ pos 5 ∷ []
-  unfolding run flat ite series-dec int-dec ℕ-discrete decLe decLt unsnoc flipFirst ordered seenIn halve walk Tb.in-dec Tb.lacks-dec Tb.new-dec Tb.fresh
+  unfolding run flat ite series-dec int-dec ℕ-discrete decLe decLt unsnoc flip-first ordered seen-in halve walk Tb.in-dec Tb.lacks-dec Tb.new-dec Tb.fresh
   past-an-equal-row = refl
 
   -- row [5] is merged back, so that its key is deleted; spilled again after a flush, it outlives the next flush
   pub row-spilled-again : boxes-after M (append-box 5 ∷ append-box 6 ∷ flush ∷ undo ∷ undo ∷ flush ∷ append-box 5 ∷ append-box 6 ∷ flush ∷ []) ≡ pos 5 ∷ pos 6 ∷ []
-  unfolding run flat ite series-dec int-dec ℕ-discrete decLe decLt unsnoc flipFirst ordered seenIn halve walk Tb.in-dec Tb.lacks-dec Tb.new-dec Tb.fresh
+  unfolding run flat ite series-dec int-dec ℕ-discrete decLe decLt unsnoc flip-first ordered seen-in halve walk Tb.in-dec Tb.lacks-dec Tb.new-dec Tb.fresh
   row-spilled-again = refl

@@ -14,9 +14,9 @@ pub data Found (A : Type 0) : Type 0 where
   missing : Found A
   found : A → Found A
 
-abbrev pub orElse : {A : Type 0} → Found A → Found A → Found A
-orElse missing b = b
-orElse (found l) b = found l
+abbrev pub or-else : {A : Type 0} → Found A → Found A → Found A
+or-else missing b = b
+or-else (found l) b = found l
 
 module _ (Row : Type 0) (Key : Type 0) (key-dec : Discrete Key) where
   pub record Rec : Type 0 where
@@ -39,13 +39,13 @@ module _ (Row : Type 0) (Key : Type 0) (key-dec : Discrete Key) where
   second a (z ∷ u) = z ∷ (a ∷ u)
 
   -- the last record first, then the others
-  abbrev pub lastFirst : Rec → Table → Table
-  lastFirst x [] = x ∷ []
-  lastFirst x (y ∷ t) = second x (lastFirst y t)
+  abbrev pub newest-first : Rec → Table → Table
+  newest-first x [] = x ∷ []
+  newest-first x (y ∷ t) = second x (newest-first y t)
 
   abbrev pub gapped : Table → Table
   gapped [] = []
-  gapped (y ∷ t) = lastFirst y t
+  gapped (y ∷ t) = newest-first y t
 
   abbrev pub remove : Table → Key → Table
   remove [] k = []
@@ -121,17 +121,17 @@ module _ (Row : Type 0) (Key : Type 0) (key-dec : Discrete Key) where
   distinct-second x [] d = d
   distinct-second x (z ∷ u) d = (((λ e. d .0 .0 (sym e)), d .1 .0), (d .0 .1, d .1 .1))
 
-  absent-last : (x : Rec) (t : Table) (j : Key) → Absent j (x ∷ t) → Absent j (lastFirst x t)
+  absent-last : (x : Rec) (t : Table) (j : Key) → Absent j (x ∷ t) → Absent j (newest-first x t)
   absent-last x [] j a = a
-  absent-last x (y ∷ t) j a = absent-second x (lastFirst y t) j (a .0, absent-last y t j (a .1))
+  absent-last x (y ∷ t) j a = absent-second x (newest-first y t) j (a .0, absent-last y t j (a .1))
 
-  distinct-last : (x : Rec) (t : Table) → Distinct (x ∷ t) → Distinct (lastFirst x t)
+  distinct-last : (x : Rec) (t : Table) → Distinct (x ∷ t) → Distinct (newest-first x t)
   distinct-last x [] d = d
-  distinct-last x (y ∷ t) d = distinct-second x (lastFirst y t) (absent-last y t (x .name) (d .0), distinct-last y t (d .1))
+  distinct-last x (y ∷ t) d = distinct-second x (newest-first y t) (absent-last y t (x .name) (d .0), distinct-last y t (d .1))
 
-  lookup-last : (x : Rec) (t : Table) (k : Key) → Distinct (x ∷ t) → lookup (lastFirst x t) k ≡ lookup (x ∷ t) k
+  lookup-last : (x : Rec) (t : Table) (k : Key) → Distinct (x ∷ t) → lookup (newest-first x t) k ≡ lookup (x ∷ t) k
   lookup-last x [] k d = refl
-  lookup-last x (y ∷ t) k d = lookup-second x (lastFirst y t) k (absent-last y t (x .name) (d .0)) ∙ ap (ite (key-dec (x .name) k) (found (x .row))) (lookup-last y t k (d .1))
+  lookup-last x (y ∷ t) k d = lookup-second x (newest-first y t) k (absent-last y t (x .name) (d .0)) ∙ ap (ite (key-dec (x .name) k) (found (x .row))) (lookup-last y t k (d .1))
 
   lookup-gapped : (t : Table) (k : Key) → Distinct t → lookup (gapped t) k ≡ lookup t k
   lookup-gapped [] k d = refl
@@ -187,24 +187,24 @@ module _ (Row : Type 0) (Key : Type 0) (key-dec : Discrete Key) where
   in-dec k [] = no (λ h. h)
   in-dec k (x ∷ ks) = in-step (key-dec x k) (in-dec k ks)
 
-  abbrev pub writeAll : Table → List Key → Table → Table
-  writeAll [] ks table = table
-  writeAll (x ∷ t) ks table = writeAll t ks (ite (in-dec (x .name) ks) table (put table (x .name) (x .row)))
+  abbrev pub write-all : Table → List Key → Table → Table
+  write-all [] ks table = table
+  write-all (x ∷ t) ks table = write-all t ks (ite (in-dec (x .name) ks) table (put table (x .name) (x .row)))
 
-  abbrev pub removeAll : List Key → Table → Table
-  removeAll [] table = table
-  removeAll (k ∷ ks) table = removeAll ks (remove table k)
+  abbrev pub remove-all : List Key → Table → Table
+  remove-all [] table = table
+  remove-all (k ∷ ks) table = remove-all ks (remove table k)
 
   write-distinct : {P : Type 0} (w : Dec P) (table : Table) (k : Key) (l : Row) → Distinct table → Distinct (ite w table (put table k l))
   unfolding ite
   write-distinct (yes e) table k l d = d
   write-distinct (no q) table k l d = distinct-put table k l d
 
-  pub distinct-write : (t : Table) (ks : List Key) (table : Table) → Distinct table → Distinct (writeAll t ks table)
+  pub distinct-write : (t : Table) (ks : List Key) (table : Table) → Distinct table → Distinct (write-all t ks table)
   distinct-write [] ks table d = d
   distinct-write (x ∷ t) ks table d = distinct-write t ks (ite (in-dec (x .name) ks) table (put table (x .name) (x .row))) (write-distinct (in-dec (x .name) ks) table (x .name) (x .row) d)
 
-  pub distinct-removeAll : (ks : List Key) (table : Table) → Distinct table → Distinct (removeAll ks table)
+  pub distinct-removeAll : (ks : List Key) (table : Table) → Distinct table → Distinct (remove-all ks table)
   distinct-removeAll [] table d = d
   distinct-removeAll (k ∷ ks) table d = distinct-removeAll ks (remove table k) (distinct-remove table k d)
 
@@ -217,17 +217,17 @@ module _ (Row : Type 0) (Key : Type 0) (key-dec : Discrete Key) where
   removed [] k d = tt
   removed (x ∷ t) k d = removed-at t k x (key-dec (x .name) k) d (removed t k (d .1))
 
-  absent-removeAll : (ks : List Key) (t : Table) (k : Key) → Absent k t → Absent k (removeAll ks t)
+  absent-removeAll : (ks : List Key) (t : Table) (k : Key) → Absent k t → Absent k (remove-all ks t)
   absent-removeAll [] t k a = a
   absent-removeAll (j ∷ ks) t k a = absent-removeAll ks (remove t j) k (absent-remove t j k a)
 
   -- a deleted key has no row any more
-  pub deleted-gone : (ks : List Key) (t : Table) (k : Key) → Distinct t → In k ks → Absent k (removeAll ks t)
+  pub deleted-gone : (ks : List Key) (t : Table) (k : Key) → Distinct t → In k ks → Absent k (remove-all ks t)
   deleted-gone [] t k d h = absurd h
   deleted-gone (j ∷ ks) t k d (inl e) = absent-removeAll ks (remove t j) k (subst (λ (y : Key). Absent y (remove t j)) e (removed t j d))
   deleted-gone (j ∷ ks) t k d (inr h) = deleted-gone ks (remove t j) k (distinct-remove t j d) h
 
-  pub lookup-removeAll : (ks : List Key) (table : Table) (j : Key) → Distinct table → (In j ks → ⊥) → lookup (removeAll ks table) j ≡ lookup table j
+  pub lookup-removeAll : (ks : List Key) (table : Table) (j : Key) → Distinct table → (In j ks → ⊥) → lookup (remove-all ks table) j ≡ lookup table j
   lookup-removeAll [] table j d n = refl
   lookup-removeAll (k ∷ ks) table j d n =
       lookup-removeAll ks (remove table k) j (distinct-remove table k d) (λ h. n (inr h)) ∙ lookup-remove-other table k j d (λ e. n (inl e))
@@ -241,12 +241,12 @@ module _ (Row : Type 0) (Key : Type 0) (key-dec : Discrete Key) where
   write-one x table ks j n (no h) (yes e) = ap (lookup (put table (x .name) (x .row))) (sym e) ∙ lookup-put-same table (x .name) (x .row)
   write-one x table ks j n (no h) (no q) = lookup-put-other table (x .name) j (x .row) q
 
-  write-rest : (x : Rec) (r : Found Row) (t : Table) (j : Key) → Absent (x .name) t → (s : Found Row) → (v : Dec (x .name ≡ j)) → s ≡ ite v (found (x .row)) r → orElse (lookup t j) s ≡ orElse (ite v (found (x .row)) (lookup t j)) r
+  write-rest : (x : Rec) (r : Found Row) (t : Table) (j : Key) → Absent (x .name) t → (s : Found Row) → (v : Dec (x .name ≡ j)) → s ≡ ite v (found (x .row)) r → or-else (lookup t j) s ≡ or-else (ite v (found (x .row)) (lookup t j)) r
   unfolding ite
-  write-rest x r t j a s (yes e) h = ap (λ z. orElse z s) (lookup-absent t j (subst (λ (y : Key). Absent y t) e a)) ∙ h
-  write-rest x r t j a s (no q) h = ap (orElse (lookup t j)) h
+  write-rest x r t j a s (yes e) h = ap (λ z. or-else z s) (lookup-absent t j (subst (λ (y : Key). Absent y t) e a)) ∙ h
+  write-rest x r t j a s (no q) h = ap (or-else (lookup t j)) h
 
-  pub lookup-write : (t : Table) (ks : List Key) (table : Table) (j : Key) → Distinct t → (In j ks → ⊥) → lookup (writeAll t ks table) j ≡ orElse (lookup t j) (lookup table j)
+  pub lookup-write : (t : Table) (ks : List Key) (table : Table) (j : Key) → Distinct t → (In j ks → ⊥) → lookup (write-all t ks table) j ≡ or-else (lookup t j) (lookup table j)
   lookup-write [] ks table j d n = refl
   lookup-write (x ∷ t) ks table j d n =
       lookup-write t ks (ite (in-dec (x .name) ks) table (put table (x .name) (x .row))) j (d .1) n
@@ -281,9 +281,9 @@ module _ (Row : Type 0) (Key : Type 0) (key-dec : Discrete Key) where
   len-second x [] = refl
   len-second x (z ∷ u) = refl
 
-  len-last : (x : Rec) (t : Table) → length (lastFirst x t) ≡ suc (length t)
+  len-last : (x : Rec) (t : Table) → length (newest-first x t) ≡ suc (length t)
   len-last x [] = refl
-  len-last x (y ∷ t) = len-second x (lastFirst y t) ∙ ap suc (len-last y t)
+  len-last x (y ∷ t) = len-second x (newest-first y t) ∙ ap suc (len-last y t)
 
   len-gapped : (t : Table) → length (gapped t) ≡ length t
   len-gapped [] = refl
@@ -298,7 +298,7 @@ module _ (Row : Type 0) (Key : Type 0) (key-dec : Discrete Key) where
   length-remove [] k = omega arith
   length-remove (x ∷ t) k = len-remove t k x (key-dec (x .name) k) (length-remove t k)
 
-  pub length-removeAll : (ks : List Key) (t : Table) → length (removeAll ks t) ≤ length t
+  pub length-removeAll : (ks : List Key) (t : Table) → length (remove-all ks t) ≤ length t
   length-removeAll [] t = omega arith
   length-removeAll (k ∷ ks) t = omega (arith, length-removeAll ks (remove t k), length-remove t k)
 
@@ -335,7 +335,7 @@ module _ (Row : Type 0) (Key : Type 0) (key-dec : Discrete Key) where
   write-look x table ks (yes h) j n = refl
   write-look x table ks (no h) j n = lookup-put-other table (x .name) j (x .row) n
 
-  pub length-write : (t : Table) (ks : List Key) (table : Table) → Distinct t → length (writeAll t ks table) ≤ length table + fresh t ks table
+  pub length-write : (t : Table) (ks : List Key) (table : Table) → Distinct t → length (write-all t ks table) ≤ length table + fresh t ks table
   unfolding fresh
   length-write [] ks table d = omega arith
   length-write (x ∷ t) ks table d =

@@ -10,37 +10,37 @@ use native.Mathlib.Omega.{arith}
 use lib.IntN.{ℤ, pos, negsuc, natAbs, _+ℤ_, _-ℤ_, +ℤ-negℤ-cancel}
 use lib.Signed.{_≤ℤ_, mag}
 use lib.ListN.{length, length-append}
-use Rattle.ledger.specs.Ledger.{TokenId, id-dec, Tokens, ite, sumOf, AllPos}
+use Rattle.ledger.specs.Ledger.{TokenId, id-dec, Tokens, ite, sum-of, AllPos}
 use Rattle.ledger.specs.Run.{done, refused}
 use Rattle.fork_model.proofs.Search.{done≢refused, ite-cases}
-use Rattle.fork_model.proofs.Balances.{Has, has-dec, setTok, dropTok, shrink}
+use Rattle.fork_model.proofs.Balances.{Has, has-dec, set-token, drop-token, shrink}
 use Rattle.fork_model.proofs.Balances as Ba
 
 -- amounts as natural numbers
 abbrev pub AN : Tokens → TokenId → ℕ
 AN l t = natAbs (amount-in l t)
 
-abbrev pub sumN : TokenId → Tokens → ℕ
-sumN t [] = 0
-sumN t (x ∷ ts) = ite (id-dec (x .0) t) (natAbs (x .1) + sumN t ts) (sumN t ts)
+abbrev pub sum-n : TokenId → Tokens → ℕ
+sum-n t [] = 0
+sum-n t (x ∷ ts) = ite (id-dec (x .0) t) (natAbs (x .1) + sum-n t ts) (sum-n t ts)
 
-pub posOf : (z : ℤ) → pos 1 ≤ℤ z → (w : ℕ) × (z ≡ pos (suc w))
-posOf (pos zero) h = absurd (h .le)
-posOf (pos (suc w)) h = (w, refl)
-posOf (negsuc w) h = absurd (h .le)
+pub pos-of : (z : ℤ) → pos 1 ≤ℤ z → (w : ℕ) × (z ≡ pos (suc w))
+pos-of (pos zero) h = absurd (h .le)
+pos-of (pos (suc w)) h = (w, refl)
+pos-of (negsuc w) h = absurd (h .le)
 
-pub nonOf : (z : ℤ) → pos 0 ≤ℤ z → z ≡ pos (natAbs z)
-nonOf (pos n) h = refl
-nonOf (negsuc w) h = absurd (h .le)
+pub non-of : (z : ℤ) → pos 0 ≤ℤ z → z ≡ pos (natAbs z)
+non-of (pos n) h = refl
+non-of (negsuc w) h = absurd (h .le)
 
 sum-ite : {P : Type 0} (w : Dec P) (z : ℤ) (a : ℕ) (s : ℤ) (k : ℕ) → z ≡ pos (suc a) → s ≡ pos k → ite w (z +ℤ s) s ≡ pos (ite w (natAbs z + k) k)
 unfolding ite
 sum-ite (yes e) z a s k h q = (λ i. h i +ℤ q i) ∙ ap (λ x. pos (natAbs x + k)) (sym h)
 sum-ite (no n) z a s k h q = q
 
-pub sum-pos : (t : TokenId) (ts : Tokens) → AllPos ts → sumOf t ts ≡ pos (sumN t ts)
+pub sum-pos : (t : TokenId) (ts : Tokens) → AllPos ts → sum-of t ts ≡ pos (sum-n t ts)
 sum-pos t [] h = refl
-sum-pos t (x ∷ ts) h = let p = posOf (x .1) (h .0) in sum-ite (id-dec (x .0) t) (x .1) (p .0) (sumOf t ts) (sumN t ts) (p .1) (sum-pos t ts (h .1))
+sum-pos t (x ∷ ts) h = let p = pos-of (x .1) (h .0) in sum-ite (id-dec (x .0) t) (x .1) (p .0) (sum-of t ts) (sum-n t ts) (p .1) (sum-pos t ts (h .1))
 
 module _ (lim cap : ℕ) where
   -- a list of tokens in which no id repeats, each amount above 0
@@ -82,94 +82,94 @@ module _ (lim cap : ℕ) where
     pub other : (u : TokenId) → t ≢ u → AN l′ u ≡ AN l u
 
   -- set
-  set-has : (l : Tokens) (t : TokenId) (v : ℤ) (u : TokenId) → Has (setTok l t v) u → Has l u
+  set-has : (l : Tokens) (t : TokenId) (v : ℤ) (u : TokenId) → Has (set-token l t v) u → Has l u
   unfolding ite
   set-has [] t v u h = h
   set-has (x ∷ l) t v u h = go (id-dec (x .0) t) h (set-has l t v u)
     where
-      go : (w : Dec (x .0 ≡ t)) → Has (ite w ((t, v) ∷ l) (x ∷ setTok l t v)) u → (Has (setTok l t v) u → Has l u) → Has (x ∷ l) u
+      go : (w : Dec (x .0 ≡ t)) → Has (ite w ((t, v) ∷ l) (x ∷ set-token l t v)) u → (Has (set-token l t v) u → Has l u) → Has (x ∷ l) u
       go (yes e) a f = ⊎-elim (λ q. inl (e ∙ q)) (λ k. inr k) a
       go (no n) a f = ⊎-elim (λ q. inl q) (λ k. inr (f k)) a
 
-  set-good : (l : Tokens) (t : TokenId) (v : ℤ) → TokOk v → GoodT l → GoodT (setTok l t v)
+  set-good : (l : Tokens) (t : TokenId) (v : ℤ) → TokOk v → GoodT l → GoodT (set-token l t v)
   unfolding ite
   set-good [] t v o g = tt
   set-good (x ∷ l) t v o g = go (id-dec (x .0) t) (set-good l t v o (g .2))
     where
-      go : (w : Dec (x .0 ≡ t)) → GoodT (setTok l t v) → GoodT (ite w ((t, v) ∷ l) (x ∷ setTok l t v))
+      go : (w : Dec (x .0 ≡ t)) → GoodT (set-token l t v) → GoodT (ite w ((t, v) ∷ l) (x ∷ set-token l t v))
       go (yes e) k = (o, (λ h. g .1 (subst (Has l) (sym e) h)), g .2)
       go (no n) k = (g .0, (λ h. g .1 (set-has l t v (x .0) h)), k)
 
-  set-len : (l : Tokens) (t : TokenId) (v : ℤ) → length (setTok l t v) ≡ length l
+  set-len : (l : Tokens) (t : TokenId) (v : ℤ) → length (set-token l t v) ≡ length l
   unfolding ite
   set-len [] t v = refl
   set-len (x ∷ l) t v = go (id-dec (x .0) t) (set-len l t v)
     where
-      go : (w : Dec (x .0 ≡ t)) → length (setTok l t v) ≡ length l → length (ite w ((t, v) ∷ l) (x ∷ setTok l t v)) ≡ suc (length l)
+      go : (w : Dec (x .0 ≡ t)) → length (set-token l t v) ≡ length l → length (ite w ((t, v) ∷ l) (x ∷ set-token l t v)) ≡ suc (length l)
       go (yes e) k = refl
       go (no n) k = ap suc k
 
-  set-here : (l : Tokens) (t : TokenId) (v : ℤ) → Has l t → amount-in (setTok l t v) t ≡ v
+  set-here : (l : Tokens) (t : TokenId) (v : ℤ) → Has l t → amount-in (set-token l t v) t ≡ v
   unfolding ite
   set-here [] t v h = absurd h
   set-here (x ∷ l) t v h = go (id-dec (x .0) t) (⊎-elim (λ e. inl e) (λ k. inr (set-here l t v k)) h)
     where
-      go : (w : Dec (x .0 ≡ t)) → (x .0 ≡ t) ⊎ (amount-in (setTok l t v) t ≡ v) → amount-in (ite w ((t, v) ∷ l) (x ∷ setTok l t v)) t ≡ v
+      go : (w : Dec (x .0 ≡ t)) → (x .0 ≡ t) ⊎ (amount-in (set-token l t v) t ≡ v) → amount-in (ite w ((t, v) ∷ l) (x ∷ set-token l t v)) t ≡ v
       go (yes e) k = ite-yes (id-dec t t) v (amount-in l t) refl
-      go (no n) k = ite-no (id-dec (x .0) t) (x .1) (amount-in (setTok l t v) t) n ∙ ⊎-elim (λ e. absurd (n e)) (λ q. q) k
+      go (no n) k = ite-no (id-dec (x .0) t) (x .1) (amount-in (set-token l t v) t) n ∙ ⊎-elim (λ e. absurd (n e)) (λ q. q) k
 
-  set-other : (l : Tokens) (t : TokenId) (v : ℤ) (u : TokenId) → t ≢ u → amount-in (setTok l t v) u ≡ amount-in l u
+  set-other : (l : Tokens) (t : TokenId) (v : ℤ) (u : TokenId) → t ≢ u → amount-in (set-token l t v) u ≡ amount-in l u
   unfolding ite
   set-other [] t v u q = refl
   set-other (x ∷ l) t v u q = go (id-dec (x .0) t) (set-other l t v u q)
     where
-      go : (w : Dec (x .0 ≡ t)) → amount-in (setTok l t v) u ≡ amount-in l u → amount-in (ite w ((t, v) ∷ l) (x ∷ setTok l t v)) u ≡ ite (id-dec (x .0) u) (x .1) (amount-in l u)
+      go : (w : Dec (x .0 ≡ t)) → amount-in (set-token l t v) u ≡ amount-in l u → amount-in (ite w ((t, v) ∷ l) (x ∷ set-token l t v)) u ≡ ite (id-dec (x .0) u) (x .1) (amount-in l u)
       go (yes e) k = ite-no (id-dec t u) v (amount-in l u) q ∙ sym (ite-no (id-dec (x .0) u) (x .1) (amount-in l u) (λ z. q (sym e ∙ z)))
       go (no n) k = ap (ite (id-dec (x .0) u) (x .1)) k
 
   -- drop
-  drop-has : (l : Tokens) (t : TokenId) (u : TokenId) → Has (dropTok l t) u → Has l u
+  drop-has : (l : Tokens) (t : TokenId) (u : TokenId) → Has (drop-token l t) u → Has l u
   unfolding ite
   drop-has [] t u h = h
   drop-has (x ∷ l) t u h = go (id-dec (x .0) t) h (drop-has l t u)
     where
-      go : (w : Dec (x .0 ≡ t)) → Has (ite w l (x ∷ dropTok l t)) u → (Has (dropTok l t) u → Has l u) → Has (x ∷ l) u
+      go : (w : Dec (x .0 ≡ t)) → Has (ite w l (x ∷ drop-token l t)) u → (Has (drop-token l t) u → Has l u) → Has (x ∷ l) u
       go (yes e) a f = inr a
       go (no n) a f = ⊎-elim (λ q. inl q) (λ k. inr (f k)) a
 
-  drop-good : (l : Tokens) (t : TokenId) → GoodT l → GoodT (dropTok l t)
+  drop-good : (l : Tokens) (t : TokenId) → GoodT l → GoodT (drop-token l t)
   unfolding ite
   drop-good [] t g = tt
   drop-good (x ∷ l) t g = go (id-dec (x .0) t) (drop-good l t (g .2))
     where
-      go : (w : Dec (x .0 ≡ t)) → GoodT (dropTok l t) → GoodT (ite w l (x ∷ dropTok l t))
+      go : (w : Dec (x .0 ≡ t)) → GoodT (drop-token l t) → GoodT (ite w l (x ∷ drop-token l t))
       go (yes e) k = g .2
       go (no n) k = (g .0, (λ h. g .1 (drop-has l t (x .0) h)), k)
 
-  drop-len : (l : Tokens) (t : TokenId) → length (dropTok l t) ≤ length l
+  drop-len : (l : Tokens) (t : TokenId) → length (drop-token l t) ≤ length l
   unfolding ite
   drop-len [] t = omega arith
   drop-len (x ∷ l) t = go (id-dec (x .0) t) (drop-len l t)
     where
-      go : (w : Dec (x .0 ≡ t)) → length (dropTok l t) ≤ length l → length (ite w l (x ∷ dropTok l t)) ≤ suc (length l)
+      go : (w : Dec (x .0 ≡ t)) → length (drop-token l t) ≤ length l → length (ite w l (x ∷ drop-token l t)) ≤ suc (length l)
       go (yes e) k = omega arith
       go (no n) k = omega arith
 
-  drop-here : (l : Tokens) (t : TokenId) → GoodT l → amount-in (dropTok l t) t ≡ pos 0
+  drop-here : (l : Tokens) (t : TokenId) → GoodT l → amount-in (drop-token l t) t ≡ pos 0
   unfolding ite
   drop-here [] t g = refl
   drop-here (x ∷ l) t g = go (id-dec (x .0) t) (drop-here l t (g .2))
     where
-      go : (w : Dec (x .0 ≡ t)) → amount-in (dropTok l t) t ≡ pos 0 → amount-in (ite w l (x ∷ dropTok l t)) t ≡ pos 0
+      go : (w : Dec (x .0 ≡ t)) → amount-in (drop-token l t) t ≡ pos 0 → amount-in (ite w l (x ∷ drop-token l t)) t ≡ pos 0
       go (yes e) k = not-has l t (λ h. g .1 (subst (Has l) (sym e) h))
-      go (no n) k = ite-no (id-dec (x .0) t) (x .1) (amount-in (dropTok l t) t) n ∙ k
+      go (no n) k = ite-no (id-dec (x .0) t) (x .1) (amount-in (drop-token l t) t) n ∙ k
 
-  drop-other : (l : Tokens) (t : TokenId) (u : TokenId) → t ≢ u → amount-in (dropTok l t) u ≡ amount-in l u
+  drop-other : (l : Tokens) (t : TokenId) (u : TokenId) → t ≢ u → amount-in (drop-token l t) u ≡ amount-in l u
   unfolding ite
   drop-other [] t u q = refl
   drop-other (x ∷ l) t u q = go (id-dec (x .0) t) (drop-other l t u q)
     where
-      go : (w : Dec (x .0 ≡ t)) → amount-in (dropTok l t) u ≡ amount-in l u → amount-in (ite w l (x ∷ dropTok l t)) u ≡ ite (id-dec (x .0) u) (x .1) (amount-in l u)
+      go : (w : Dec (x .0 ≡ t)) → amount-in (drop-token l t) u ≡ amount-in l u → amount-in (ite w l (x ∷ drop-token l t)) u ≡ ite (id-dec (x .0) u) (x .1) (amount-in l u)
       go (yes e) k = sym (ite-no (id-dec (x .0) u) (x .1) (amount-in l u) (λ z. q (sym e ∙ z)))
       go (no n) k = ap (ite (id-dec (x .0) u) (x .1)) k
 
@@ -201,11 +201,11 @@ module _ (lim cap : ℕ) where
     sum-ok : mag sum < lim → TokOk sum
     sum-ok h = record { val = AN l t + w; is = plus; low = subst (λ (z : ℤ). mag z < lim) plus h }
 
-    pub add-one-ok : (k : Tokens) → Ba.addTok lim cap l t (pos (suc w)) ≡ done k → UpdN l t (AN l t + suc w) k
+    pub add-one-ok : (k : Tokens) → Ba.token-added lim cap l t (pos (suc w)) ≡ done k → UpdN l t (AN l t + suc w) k
     add-one-ok k e =
-        ite-cases (decLt (mag sum) lim) (ite (has-dec l t) (done (setTok l t sum)) (ite (decLt (length l) cap) (done (l ++ ((t, pos (suc w)) ∷ []))) (refused 24))) (refused 23) (done k) e
-        (λ h a. ite-cases (has-dec l t) (done (setTok l t sum)) (ite (decLt (length l) cap) (done (l ++ ((t, pos (suc w)) ∷ []))) (refused 24)) (done k) a
-        (λ p b. let q : setTok l t sum ≡ k = cc in subst (UpdN l t (AN l t + suc w)) q (record {
+        ite-cases (decLt (mag sum) lim) (ite (has-dec l t) (done (set-token l t sum)) (ite (decLt (length l) cap) (done (l ++ ((t, pos (suc w)) ∷ []))) (refused 24))) (refused 23) (done k) e
+        (λ h a. ite-cases (has-dec l t) (done (set-token l t sum)) (ite (decLt (length l) cap) (done (l ++ ((t, pos (suc w)) ∷ []))) (refused 24)) (done k) a
+        (λ p b. let q : set-token l t sum ≡ k = cc in subst (UpdN l t (AN l t + suc w)) q (record {
           good = set-good l t sum (sum-ok h) g;
           len = omega (arith, set-len l t sum);
           here = ap natAbs (set-here l t sum p ∙ plus) ∙ omega arith;
@@ -221,10 +221,10 @@ module _ (lim cap : ℕ) where
         (λ c d. absurd (done≢refused (sym d)))))
         (λ h a. absurd (done≢refused (sym a)))
 
-    pub add-one-no : (k : ℕ) → AN l t + suc w < lim → ((Has l t → ⊥) → length l < cap) → Ba.addTok lim cap l t (pos (suc w)) ≡ refused k → ⊥
+    pub add-one-no : (k : ℕ) → AN l t + suc w < lim → ((Has l t → ⊥) → length l < cap) → Ba.token-added lim cap l t (pos (suc w)) ≡ refused k → ⊥
     add-one-no k h c e =
-        ite-cases (decLt (mag sum) lim) (ite (has-dec l t) (done (setTok l t sum)) (ite (decLt (length l) cap) (done (l ++ ((t, pos (suc w)) ∷ []))) (refused 24))) (refused 23) (refused k) e
-        (λ x a. ite-cases (has-dec l t) (done (setTok l t sum)) (ite (decLt (length l) cap) (done (l ++ ((t, pos (suc w)) ∷ []))) (refused 24)) (refused k) a
+        ite-cases (decLt (mag sum) lim) (ite (has-dec l t) (done (set-token l t sum)) (ite (decLt (length l) cap) (done (l ++ ((t, pos (suc w)) ∷ []))) (refused 24))) (refused 23) (refused k) e
+        (λ x a. ite-cases (has-dec l t) (done (set-token l t sum)) (ite (decLt (length l) cap) (done (l ++ ((t, pos (suc w)) ∷ []))) (refused 24)) (refused k) a
         (λ p b. done≢refused b)
         (λ p b. ite-cases (decLt (length l) cap) (done (l ++ ((t, pos (suc w)) ∷ []))) (refused 24) (refused k) b (λ y d. done≢refused d) (λ y d. y (c p))))
         (λ x a. x (subst (λ (z : ℤ). mag z < lim) (sym plus) (omega arith)))
@@ -253,7 +253,7 @@ module _ (lim cap : ℕ) where
         other = λ u n. ap natAbs (set-other l t (pos (suc v)) u n);
       }
 
-      pub sub-one : (k : Tokens) × (Ba.subTok lim cap l t (pos (suc w)) ≡ done k) × UpdN l t y k
+      pub sub-one : (k : Tokens) × (Ba.token-taken lim cap l t (pos (suc w)) ≡ done k) × UpdN l t y k
       sub-one = (
         shrink l t (pos y),
         ite-yes (has-dec l t) (ite (decLt (mag (amount-in l t -ℤ pos (suc w))) lim) (done (shrink l t (amount-in l t -ℤ pos (suc w)))) (refused 23)) (done l) present

@@ -15,15 +15,15 @@ use borrow.Author.Tests.{leb-true, leb-false, ltb-true, ltb-false}
 use Rattle.stores.specs.Stores.{write}
 use Rattle.stores.proofs.StoreLaws.{length-write}
 use Rattle.signed.specs.Sign.{is-negative}
-use Rattle.records.specs.declared.ListCounts.{ListCounts}
+use Rattle.index_types.specs.declared.ListCounts.{ListCounts}
 use Rattle.records.specs.Records.{records, keys, record-of}
 use Rattle.records.specs.Find.{find-key}
 use Rattle.records.specs.Changes.{count-after, with-count, put-record, full-for}
 use Rattle.records.specs.Checks.{RecordsOk, records-ok}
 use Rattle.records.proofs.CheckLaws.{and-true, records-ok-after-put, records-ok-test}
 use Rattle.segment_id.specs.declared.Kind.{Kind}
-use Rattle.buffer_core.specs.declared.HeadCounts.{HeadCounts}
-use Rattle.buffer_core.specs.declared.Appended.the-variants.{Done, Refused}
+use Rattle.index_types.specs.declared.HeadCounts.{HeadCounts}
+use Rattle.index_types.specs.declared.Appended.the-variants.{Done, Refused}
 use Rattle.buffer_core.specs.Edition.{Edition}
 use Rattle.buffer_core.specs.Spills.{head-ok}
 use Rattle.buffer_core.specs.Append.{Appending, appending, counts-of, one-number, counts-with, bytes-with, spilled, spill-of, append-core, append-ok, append-of}
@@ -32,9 +32,9 @@ use Rattle.buffer_core.proofs.ListLaws.{ListsFit, lists-fit, fit-lists}
 use Rattle.ledger.specs.Ledger.{Parent, Series, series-dec, ite, id-dec}
 use Rattle.ledger.specs.Run.{Res, done, refused}
 use Rattle.fork_model.proofs.Store as St
-use Rattle.fork_model.proofs.Store.{andThen}
+use Rattle.fork_model.proofs.Store.{then-do}
 use Rattle.fork_model.proofs.Search.{done≢refused}
-use Rattle.fork_model.proofs.Results.{mapRes, result-of}
+use Rattle.fork_model.proofs.Results.{map-res, result-of}
 use Rattle.history.specs.Index.{Part, part, Index, index, kind-of, set-part, with-staged, after-append, id-of, do-append}
 use Rattle.history.proofs.Tables.{Table, tab, put}
 use Rattle.history.proofs.State as S
@@ -109,7 +109,7 @@ module _ (E : Edition) (L : EditionLaws E) (ids : Parent → List ℕ) (caps : C
     abbrev longer : ℤ → Appending
     longer n = appending (Done (counts-of (len + 1) (p .head .spills)) c) (set (p .places) len n) l
 
-    longer-same : (n : ℤ) → len < 512 → mapRes abs (end (longer n)) ≡ done (St.withHead W (abs b) ch (abs b .heads ch ++ n ∷ []))
+    longer-same : (n : ℤ) → len < 512 → map-res abs (end (longer n)) ≡ done (St.with-head W (abs b) ch (abs b .heads ch ++ n ∷ []))
     longer-same n h =
         let v : Part = part (counts-of (len + 1) (p .head .spills)) (set (p .places) len n) in
         let heads = push-to head-of (b .parts) ch v (abs b .heads ch ++ n ∷ []) (grown (p .places) len n (omega (arith, hf .places-in))) in
@@ -124,7 +124,7 @@ module _ (E : Edition) (L : EditionLaws E) (ids : Parent → List ℕ) (caps : C
     short-row e = L .encode-length kind (take 512 (p .places)) (omega (arith, length-take-le 512 (p .places) (hf .places-in))) (λ x t. small x (rw e t))
 
     spill-same : (n : ℤ) → len ≡ 512 → full-for (E .size) c key l ≡ false
-        → mapRes abs (end (spill n)) ≡ done (St.spilled W (abs b) ch n (put (abs b .staging) key (E .encode kind (abs b .heads ch))))
+        → map-res abs (end (spill n)) ≡ done (St.spilled W (abs b) ch n (put (abs b .staging) key (E .encode kind (abs b .heads ch))))
     unfolding spilled
     spill-same n e f =
         let w = short-row e in
@@ -140,29 +140,29 @@ module _ (E : Edition) (L : EditionLaws E) (ids : Parent → List ℕ) (caps : C
     stage-is r = full-is (E .size) c (caps .staged) key l (refused 16) (done (put (abs b .staging) key r)) (I .staged-at)
 
     by-full : (n : ℤ) (t : Bool) → len ≡ 512 → full-for (E .size) c key l ≡ t
-        → mapRes abs (end (cond t (no-append 16) (spill n)))
-        ≡ andThen (cond t (refused 16) (done (put (abs b .staging) key (E .encode kind (abs b .heads ch))))) (λ (x : Table). done (St.spilled W (abs b) ch n x))
+        → map-res abs (end (cond t (no-append 16) (spill n)))
+        ≡ then-do (cond t (refused 16) (done (put (abs b .staging) key (E .encode kind (abs b .heads ch))))) (λ (x : Table). done (St.spilled W (abs b) ch n x))
     by-full n true e q = refl
     by-full n false e q = spill-same n e q
 
     by-count : (n : ℤ) (t : Bool) → len ≡ 512 → leb 2147483647 spills ≡ t
-        → mapRes abs (end (cond t (no-append 18) (cond (full-for (E .size) c key l) (no-append 16) (spill n))))
-        ≡ ite (ℕ-discrete spills 2147483647) (refused 18) (andThen (St.stage W (abs b) key (E .encode kind (abs b .heads ch))) (λ (x : Table). done (St.spilled W (abs b) ch n x)))
+        → map-res abs (end (cond t (no-append 18) (cond (full-for (E .size) c key l) (no-append 16) (spill n))))
+        ≡ ite (ℕ-discrete spills 2147483647) (refused 18) (then-do (St.stage W (abs b) key (E .encode kind (abs b .heads ch))) (λ (x : Table). done (St.spilled W (abs b) ch n x)))
     by-count n true e q = sym (ite-yes (ℕ-discrete spills 2147483647) (refused 18) _ (omega (arith, leb-true 2147483647 spills q, I .spills-in ch)))
     by-count n false e q =
         by-full n (full-for (E .size) c key l) e refl
-        ∙ ap (λ (x : Res Table). andThen x (λ (y : Table). done (St.spilled W (abs b) ch n y))) (sym (stage-is (E .encode kind (abs b .heads ch))))
+        ∙ ap (λ (x : Res Table). then-do x (λ (y : Table). done (St.spilled W (abs b) ch n y))) (sym (stage-is (E .encode kind (abs b .heads ch))))
         ∙ sym (ite-no (ℕ-discrete spills 2147483647) (refused 18) _ (λ d. omega (arith, leb-false 2147483647 spills q)))
 
     by-len : (m : ℕ) (t : Bool) → ltb len 512 ≡ t
-        → mapRes abs (end (cond t (longer (pos m)) (spill-of E kind (id-of E ids ch) spills (pos m) c (p .places) l))) ≡ St.doAppend W (abs b) ch (pos m)
+        → map-res abs (end (cond t (longer (pos m)) (spill-of E kind (id-of E ids ch) spills (pos m) c (p .places) l))) ≡ St.append-store W (abs b) ch (pos m)
     unfolding spill-of
     by-len m true e = longer-same (pos m) (ltb-true len 512 e) ∙ sym (ite-yes (decLe (length (abs b .heads ch)) 511) _ _ (omega (arith, long, ltb-true len 512 e)))
     by-len m false e =
         by-count (pos m) (leb 2147483647 spills) (omega (arith, ltb-false len 512 e, hf .len-in)) refl
         ∙ sym (ite-no (decLe (length (abs b .heads ch)) 511) _ _ (λ h. omega (arith, long, ltb-false len 512 e)))
 
-    pub append-same : (n : ℤ) → mapRes abs (result-of (do-append E ids b ch n)) ≡ St.doAppend W (abs b) ch n
+    pub append-same : (n : ℤ) → map-res abs (result-of (do-append E ids b ch n)) ≡ St.append-store W (abs b) ch n
     unfolding append-of append-core
     append-same (negsuc k) = rw (ok, I .not-below ch)
     append-same (pos m) = rw (ok, I .not-below ch) (by-len m (ltb len 512) refl)

@@ -9,7 +9,7 @@ use native.Mathlib.Omega.{arith}
 use lib.IntN.{ℤ, pos, negsuc, natAbs}
 use lib.ListN.{length, length-append}
 use Rattle.ledger.specs.Ledger.{Series, boxes, series-dec, Call, absℤ, ledger-numbers, ledger-spent, BoxRule}
-use Rattle.ledger.specs.Run.{negs, negAt}
+use Rattle.ledger.specs.Run.{negs, negated-at}
 use Rattle.history.specs.Example.{append-box, up-to, numbers-to}
 
 -- calls of box appends to parent 0: how many numbers there are, and one that none is above
@@ -72,7 +72,7 @@ pub within : (n top : ℕ) (cs : List Call) → Plain n top cs → n ≤ 1024 �
 within n top cs P h ch s l = within-by n top cs P h ch s l (series-dec (boxes 0) ch)
 
 -- a number of which no entry is the negative is an entry
-neg-counted : (m k : ℕ) → suc k ≡ m → negAt m (negsuc k) ≡ 1
+neg-counted : (m k : ℕ) → suc k ≡ m → negated-at m (negsuc k) ≡ 1
 neg-counted m k e = ite-yes (ℕ-discrete (suc k) m) 1 0 e
 
 pub unspent-entry : (m : ℕ) (l : List ℤ) → List·Memᴰ (pos m) (map absℤ l) → negs m l ≡ 0 → List·Memᴰ (pos m) l

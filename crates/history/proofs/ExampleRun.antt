@@ -23,7 +23,7 @@ use Rattle.fork_model.proofs.GoodStore as Gs
 use Rattle.fork_model.proofs.FlipLaws as Fl
 use Rattle.fork_model.proofs.Search as Se
 use Rattle.fork_model.proofs.Whole as Wh
-use Rattle.fork_model.proofs.Results.{mapRes, mapPop, result-of, result-keeping}
+use Rattle.fork_model.proofs.Results.{map-res, map-pop, result-of, result-keeping}
 use Rattle.history.specs.Index.{Index, do-append, do-pop, do-flip, do-flush, entries-of}
 use Rattle.history.specs.Machine.{Borrowed}
 use Rattle.history.specs.ForkUndo.{Places}
@@ -34,7 +34,7 @@ use Rattle.history.proofs.Sim as Sm
 use Rattle.history.proofs.IndexTheorem as Ix
 use Rattle.history.proofs.ExampleRules.{Plain, plain-append, plain-rule, plain-up-to, numbers-up-to, in-numbers-to, FirstRow, Within, within, unspent-entry}
 
-goes-well : {S A B : Type 0} (f : A → B) (X : Made S A) (Y : Res B) → mapRes f (result-of X) ≡ Y → ((k : ℕ) → Y ≡ refused k → ⊥) → (a : A) × (X ≡ accepted a) × (Y ≡ done (f a))
+goes-well : {S A B : Type 0} (f : A → B) (X : Made S A) (Y : Res B) → map-res f (result-of X) ≡ Y → ((k : ℕ) → Y ≡ refused k → ⊥) → (a : A) × (X ≡ accepted a) × (Y ≡ done (f a))
 goes-well f (accepted a) Y e n = (a, refl, sym e)
 goes-well f (refused-leaving k s) Y e n = absurd (n k (sym e))
 
@@ -149,22 +149,22 @@ module _ (E : Edition) (L : EditionLaws E) (ids : Parent → List ℕ) (B : Borr
 
       append-moves : (m : ℕ) → Moves c (call (append-box m)) (append-box m ∷ cs) calls (suc n)
       append-moves m =
-          let a = goes-well abs (do-append E ids b (boxes 0) (pos m)) (St.doAppend W (abs b) (boxes 0) (pos m)) (sims .append b (boxes 0) (pos m) (fine .0) (fine .1) .same ∙ result-keeping (abs b) _)
+          let a = goes-well abs (do-append E ids b (boxes 0) (pos m)) (St.append-store W (abs b) (boxes 0) (pos m)) (sims .append b (boxes 0) (pos m) (fine .0) (fine .1) .same ∙ result-keeping (abs b) _)
           (λ k e. Ro.append-accepted W code (abs b) (boxes 0) m k count-small staged-few e) in
           record {
             after = record { store = a .0; bals = σ .bals };
-            is = ap (λ (x : Made Index Index). Mc.afterCall M c (append-box m) (Mc.withStore M σ x)) (a .1);
+            is = ap (λ (x : Made Index Index). Mc.after-call M c (append-box m) (Mc.with-store M σ x)) (a .1);
             room = Ro.append-room W code (abs b) (boxes 0) m n (abs (a .0)) (S .room) (a .2);
           }
 
       flush-moves : Moves c flush cs clean (suc n)
       flush-moves =
-          let a = goes-well abs (do-flush E ids b) (St.doFlush W (abs b)) (sims .flush b (fine .0) (fine .1) .same ∙ result-keeping (abs b) _)
+          let a = goes-well abs (do-flush E ids b) (St.flush-store W (abs b)) (sims .flush b (fine .0) (fine .1) .same ∙ result-keeping (abs b) _)
           (λ k e. Ro.flush-accepted W code (abs b) n (S .room) k (omega arith) e) in
           record {
             after = record { store = a .0; bals = σ .bals };
-            is = ap (λ (x : Made Index Index). Mc.afterFlush M c (Mc.withStore M σ x)) (a .1);
-            room = Ro.flush-room W code (abs b) n (S .room) (abs (a .0)) (fine .1 .oneStaged) (a .2);
+            is = ap (λ (x : Made Index Index). Mc.after-flush M c (Mc.with-store M σ x)) (a .1);
+            room = Ro.flush-room W code (abs b) n (S .room) (abs (a .0)) (fine .1 .one-staged) (a .2);
           }
 
       -- a spend of a number that stands and is not spent
@@ -174,11 +174,11 @@ module _ (E : Edition) (L : EditionLaws E) (ids : Parent → List ℕ) (B : Borr
           let held = S .inv .holds .numbers (boxes 0) in
           let there = unspent-entry m (entries-of E ids b (boxes 0)) (subst (List·Memᴰ (pos m)) (sym held) t) (S .inv .holds .copies (boxes 0) m p ∙ counted-boxes cs 0 m ∙ z) in
           let sorted = Se.sorted-unmap (entries-of E ids b (boxes 0)) (subst Sorted (sym held) (sorted-nums cs 0 (S .inv .rules))) in
-          let a = goes-well abs (do-flip E ids Spend b 0 (pos m)) (St.doSpend W (abs b) 0 (pos m)) (sims .spend b 0 (pos m) (fine .0) (fine .1) .same ∙ result-keeping (abs b) _)
+          let a = goes-well abs (do-flip E ids Spend b 0 (pos m)) (St.spend-store W (abs b) 0 (pos m)) (sims .spend b 0 (pos m) (fine .0) (fine .1) .same ∙ result-keeping (abs b) _)
           (λ k e. omega (arith, staged-few, Fl.guard-no W code FirstRow apart (abs b) (boxes 0) (pos m) (pos m) k (fine .1) (subst Sorted seen sorted) refl (subst (List·Memᴰ (pos m)) seen there) e .1)) in
           record {
             after = record { store = a .0; bals = σ .bals };
-            is = ap (λ (x : Made Index Index). Mc.afterCall M c (spend 0 (pos m)) (Mc.withStore M σ x)) (a .1);
+            is = ap (λ (x : Made Index Index). Mc.after-call M c (spend 0 (pos m)) (Mc.with-store M σ x)) (a .1);
             room = Ro.flip-room W code (abs b) (boxes 0) (pos m) n (S .room) (abs (a .0)) (pos m) (a .2);
           }
 
@@ -197,9 +197,9 @@ module _ (E : Edition) (L : EditionLaws E) (ids : Parent → List ℕ) (B : Borr
       by-answer (refused-leaving k τ) e a = absurd (not-full σ (append ch m ∷ cs) f n S few (full-of σ k a))
       by-answer (accepted x) e a = record {
         after = record { store = x .left; bals = σ .bals };
-        is = ap (λ (y : Made Index (Popped Index)). Mc.afterUndo M (conf σ (append ch m ∷ cs) f) cs (Mc.popped M σ y)) e;
-        room = Ro.pop-room W code (abs (σ .store)) ch n (S .room) (mapPop abs x)
-            (Sm.map-keeps-done (mapPop abs) (result-of (do-pop E ids (σ .store) ch)) x (St.doPop W (abs (σ .store)) ch) (sims .pop (σ .store) ch (fit .0) (fit .1) .same ∙ result-keeping (abs (σ .store)) _) (ap result-of e));
+        is = ap (λ (y : Made Index (Popped Index)). Mc.after-undo M (conf σ (append ch m ∷ cs) f) cs (Mc.popped M σ y)) e;
+        room = Ro.pop-room W code (abs (σ .store)) ch n (S .room) (map-pop abs x)
+            (Sm.map-keeps-done (map-pop abs) (result-of (do-pop E ids (σ .store) ch)) x (St.pop-store W (abs (σ .store)) ch) (sims .pop (σ .store) ch (fit .0) (fit .1) .same ∙ result-keeping (abs (σ .store)) _) (ap result-of e));
       }
 
   undo-spend-moves : (σ : State) (m : ℕ) (cs : List Call) (f : Phase) (n : ℕ) (S : Stands σ (spend 0 (pos m) ∷ cs) f n) → n < 600 → Moves (conf σ (spend 0 (pos m) ∷ cs) f) undo cs undos (suc n)
@@ -208,13 +208,13 @@ module _ (E : Edition) (L : EditionLaws E) (ids : Parent → List ℕ) (B : Borr
       fit : Fine (σ .store)
       fit = S .inv .holds .good
 
-      by-answer : (X : Made Index Index) → do-flip E ids Unspend (σ .store) 0 (pos m) ≡ X → Mc.UndoAnswer M σ (spend 0 (pos m)) (Mc.quiet M (Mc.withStore M σ X)) → Moves (conf σ (spend 0 (pos m) ∷ cs) f) undo cs undos (suc n)
+      by-answer : (X : Made Index Index) → do-flip E ids Unspend (σ .store) 0 (pos m) ≡ X → Mc.UndoAnswer M σ (spend 0 (pos m)) (Mc.quiet M (Mc.with-store M σ X)) → Moves (conf σ (spend 0 (pos m) ∷ cs) f) undo cs undos (suc n)
       by-answer (refused-leaving k τ) e a = absurd (not-full σ (spend 0 (pos m) ∷ cs) f n S few (full-of σ k a))
       by-answer (accepted d) e a = record {
         after = record { store = d; bals = σ .bals };
-        is = ap (λ (y : Made Index Index). Mc.afterUndo M (conf σ (spend 0 (pos m) ∷ cs) f) cs (Mc.quiet M (Mc.withStore M σ y))) e;
+        is = ap (λ (y : Made Index Index). Mc.after-undo M (conf σ (spend 0 (pos m) ∷ cs) f) cs (Mc.quiet M (Mc.with-store M σ y))) e;
         room = Ro.flip-room W code (abs (σ .store)) (boxes 0) (negℤ (pos m)) n (S .room) (abs d) (pos m)
-            (Sm.map-keeps-done abs (result-of (do-flip E ids Unspend (σ .store) 0 (pos m))) d (St.doUnspend W (abs (σ .store)) 0 (pos m)) (sims .unspend (σ .store) 0 (pos m) (fit .0) (fit .1) .same ∙ result-keeping (abs (σ .store)) _) (ap result-of e));
+            (Sm.map-keeps-done abs (result-of (do-flip E ids Unspend (σ .store) 0 (pos m))) d (St.unspend-store W (abs (σ .store)) 0 (pos m)) (sims .unspend (σ .store) 0 (pos m) (fit .0) (fit .1) .same ∙ result-keeping (abs (σ .store)) _) (ap result-of e));
       }
 
   -- ---- the steps in turn

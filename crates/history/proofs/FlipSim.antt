@@ -1,6 +1,6 @@
 -- A spend or an unspend of the bytes is one of the tables, and keeps what holds between calls.
 use Rattle.ledger.proofs.TestLaws.{ite-yes}
-use Rattle.ledger.specs.Run.{rowOr}
+use Rattle.ledger.specs.Run.{row-or}
 use mathlib.Core.Path.{_≡_, refl, sym, _∙_, ap}
 use mathlib.Core.List.{List, [], _∷_, _++_, map}
 use mathlib.Core.Bool.{Bool, true, false, not, _&&_, cond}
@@ -21,7 +21,7 @@ use Rattle.entries.specs.declared.Position.the-variants.{At, Seen, Absent}
 use Rattle.records.specs.declared.Found.{Found}
 use Rattle.records.specs.declared.Found.the-variants as found
 use Rattle.records.specs.declared.Place.the-variants.{Staged, Table, Missing}
-use Rattle.records.specs.declared.ListCounts.{ListCounts}
+use Rattle.index_types.specs.declared.ListCounts.{ListCounts}
 use Rattle.records.specs.Records.{records, keys, stored-row, record-of}
 use Rattle.records.specs.Find.{find-key, is-found, row-at, place-of, locate-key}
 use Rattle.records.specs.Changes.{slot, count-after, with-count, put-record, full-for}
@@ -30,7 +30,7 @@ use Rattle.records.proofs.TurnLaws.{found-in}
 use Rattle.records.proofs.RecordLaws.{record-at}
 use Rattle.records.proofs.CheckLaws.{and-true, records-ok-after-put, records-ok-test}
 use Rattle.segment_id.specs.declared.Kind.the-variants.{Box}
-use Rattle.buffer_core.specs.declared.HeadCounts.{HeadCounts}
+use Rattle.index_types.specs.declared.HeadCounts.{HeadCounts}
 use Rattle.buffer_core.specs.declared.Direction.{Direction}
 use Rattle.buffer_core.specs.declared.Direction.the-variants.{Spend, Unspend}
 use Rattle.buffer_core.specs.declared.Lead.{Lead}
@@ -45,12 +45,12 @@ use Rattle.buffer_core.proofs.ListLaws.{ListsFit, lists-fit, fit-lists}
 use Rattle.ledger.specs.Ledger.{Parent, Series, boxes, ite}
 use Rattle.ledger.specs.Run.{Res, done, refused}
 use Rattle.fork_model.proofs.Store as St
-use Rattle.fork_model.proofs.Store.{andThen, flipFirst, seenIn, whenB, notFound}
+use Rattle.fork_model.proofs.Store.{then-do, flip-first, seen-in, when-b, none-found}
 use Rattle.fork_model.proofs.GoodStore as Gs
 use Rattle.fork_model.proofs.Search as Se
 use Rattle.fork_model.proofs.Search.{done≢refused}
-use Rattle.fork_model.proofs.Table.{orElse}
-use Rattle.fork_model.proofs.Results.{mapRes, result-of}
+use Rattle.fork_model.proofs.Table.{or-else}
+use Rattle.fork_model.proofs.Results.{map-res, result-of}
 use Rattle.history.specs.Index.{Part, part, Index, index, set-part, with-staged, after-flip, to-res, sources-of, do-flip}
 use Rattle.history.proofs.Tables.{tab, put, lookup-is, row-opt}
 use Rattle.history.proofs.Tables as Tab
@@ -58,21 +58,21 @@ use Rattle.history.proofs.State as S
 use Rattle.history.proofs.State.{EditionLaws, HeadFits, head-fits, fit-head, push-to, all-set, same-set, Capacities, head-of, spills-of}
 use Rattle.history.proofs.Lists.{ite-le, full-is, put-table}
 use Rattle.history.proofs.PopSim.{read-same}
-use Rattle.history.proofs.FlipLists.{copyOf, copy-abs, newOf, first-new, isSeen, first-seen, first-in, order-same, leadRes, lowOf, search-same, lookRes, hitOf, walk-same}
+use Rattle.history.proofs.FlipLists.{copy-of, copy-abs, new-of, first-new, is-seen, first-seen, first-in, order-same, lead-res, low-of, search-same, look-res, hit-of, walk-same}
 
 pub good-of : (r : RowRead) (l : List ℤ) → to-res r ≡ done l → r ≡ good l
 good-of (bad k) l e = absurd (done≢refused (sym e))
 good-of (good x) l e = let q : x ≡ l = cc in ap good q
 
-lead-case : (u : Bool) (l : List ℤ) → lead-of (cond u (good l) (bad 13)) ≡ leadRes (whenB u (done l) (refused 13))
+lead-case : (u : Bool) (l : List ℤ) → lead-of (cond u (good l) (bad 13)) ≡ lead-res (when-b u (done l) (refused 13))
 lead-case true l = refl
 lead-case false l = refl
 
-look-case : (u : Bool) (l : List ℤ) (t : ℕ) (d : Bool) → look-of (cond u (good l) (bad 13)) t d ≡ lookRes t d (whenB u (done l) (refused 13))
+look-case : (u : Bool) (l : List ℤ) (t : ℕ) (d : Bool) → look-of (cond u (good l) (bad 13)) t d ≡ look-res t d (when-b u (done l) (refused 13))
 look-case true l t d = refl
 look-case false l t d = refl
 
-when-same : (u : Bool) (l k : List ℤ) → whenB u (done l) (refused 13) ≡ done k → l ≡ k
+when-same : (u : Bool) (l k : List ℤ) → when-b u (done l) (refused 13) ≡ done k → l ≡ k
 when-same true l k e = cc
 when-same false l k e = absurd (done≢refused (sym e))
 
@@ -90,7 +90,7 @@ module _ (E : Edition) (L : EditionLaws E) (ids : Parent → List ℕ) (caps : C
   abs b = S.abs E ids caps b
 
   module _ (b : Index) (p : Parent) (I : S.Inv E ids caps b) (small : Gs.Small 9223372036854775808 (abs b .heads (boxes p)))
-      (full : (s : ℕ) → s < abs b .counts (boxes p) → Gs.FullRow 9223372036854775808 511 (St.rowAt W (abs b) (boxes p) s)) where
+      (full : (s : ℕ) → s < abs b .counts (boxes p) → Gs.FullRow 9223372036854775808 511 (St.store-row W (abs b) (boxes p) s)) where
     abbrev x : Lists
     x = b .lists
 
@@ -116,7 +116,7 @@ module _ (E : Edition) (L : EditionLaws E) (ids : Parent → List ℕ) (caps : C
     end e = let o = done-by E e c (q .places) (x .staged) in result-of (after-flip b (boxes p) (o .answer) (o .head) (o .staged))
 
     abbrev rd : ℕ → Res (List ℤ)
-    rd n = St.readRow W (abs b) (boxes p) n
+    rd n = St.read-row W (abs b) (boxes p) n
 
     abbrev read-spill : ℕ → RowRead
     read-spill n = spill-read E Box w n
@@ -129,7 +129,7 @@ module _ (E : Edition) (L : EditionLaws E) (ids : Parent → List ℕ) (caps : C
 
     -- an effect does what the tables' operation does, and keeps what holds
     pub record Does (e : Effect) (Y : Res (St.Store W)) : Type 0 where
-      pub same : mapRes abs (end e) ≡ Y
+      pub same : map-res abs (end e) ≡ Y
       pub keeps : (d : Index) → end e ≡ done d → S.Inv E ids caps d
 
     no : (k : ℕ) → Does (refuse k) (refused k)
@@ -154,7 +154,7 @@ module _ (E : Edition) (L : EditionLaws E) (ids : Parent → List ℕ) (caps : C
     }
 
     -- ---- the head
-    head-does : (i : ℕ) → i < length heads → Does (flip-head i) (done (St.withHead W (abs b) (boxes p) (flipped-at (At i) heads)))
+    head-does : (i : ℕ) → i < length heads → Does (flip-head i) (done (St.with-head W (abs b) (boxes p) (flipped-at (At i) heads)))
     head-does i h =
         let long = length-take-le (q .head .len) (q .places) (omega (arith, hf .len-in, hf .places-in)) in
         let v : Part = part (q .head) (flipped-at (At i) (q .places)) in
@@ -180,7 +180,7 @@ module _ (E : Edition) (L : EditionLaws E) (ids : Parent → List ℕ) (caps : C
       f₂ = find-key key (keys (E .size) (x .table-counts .count) (x .table))
 
       put-does : (f : Found) → f ≡ f₁ → (row : List ℕ) → length row ≤ E .limit → full-for (E .size) c key (x .staged) ≡ false
-          → Does (stage (slot f (c .count)) (count-after f (c .count)) key row) (done (St.withStaging W (abs b) (put (abs b .staging) key row)))
+          → Does (stage (slot f (c .count)) (count-after f (c .count)) key row) (done (St.with-staging W (abs b) (put (abs b .staging) key row)))
       unfolding put-record
       put-does f e row m g =
           let v : Part = part (q .head) (q .places) in
@@ -219,7 +219,7 @@ module _ (E : Edition) (L : EditionLaws E) (ids : Parent → List ℕ) (caps : C
       read-by found.Nothing found.Nothing l h = let z : _≡_ {A = ℕ} 0 1 = cc in absurd (omega arith)
 
       redo-found : (f g : Found) → f ≡ f₁ → g ≡ f₂ → (l new : List ℤ) → read-placed E Box w (place-of f g) ≡ good l
-          → St.redoFound W (boxes p) (orElse (row-opt f (records (E .size) (c .count) (x .staged))) (row-opt g (records (E .size) (x .table-counts .count) (x .table)))) new ≡ E .with-boxes (row-by f g) new
+          → St.found-redone W (boxes p) (or-else (row-opt f (records (E .size) (c .count) (x .staged))) (row-opt g (records (E .size) (x .table-counts .count) (x .table)))) new ≡ E .with-boxes (row-by f g) new
       redo-found (found.At i) g e d l new h = ap (λ (r : List ℕ). E .with-boxes (stored-row r) new) (record-at (E .size) (c .count) i (x .staged) (found-in key (E .size) (c .count) (x .staged) i (found.At i) e refl))
       redo-found found.Nothing (found.At j) e d l new h =
           ap (λ (r : List ℕ). E .with-boxes (stored-row r) new) (record-at (E .size) (x .table-counts .count) j (x .table) (found-in key (E .size) (x .table-counts .count) (x .table) j (found.At j) d refl))
@@ -228,18 +228,18 @@ module _ (E : Edition) (L : EditionLaws E) (ids : Parent → List ℕ) (caps : C
       redo-same : (l new : List ℤ) → read-spill n ≡ good l → St.redone W (abs b) (boxes p) n new ≡ E .with-boxes (row-by f₁ f₂) new
       unfolding spill-read place-at
       redo-same l new h =
-          (λ i. St.redoFound W (boxes p) (orElse (lookup-is (records (E .size) (c .count) (x .staged)) key i) (lookup-is (records (E .size) (x .table-counts .count) (x .table)) key i)) new)
+          (λ i. St.found-redone W (boxes p) (or-else (lookup-is (records (E .size) (c .count) (x .staged)) key i) (lookup-is (records (E .size) (x .table-counts .count) (x .table)) key i)) new)
           ∙ redo-found f₁ f₂ refl refl l new h
 
       abbrev finish : Tab.Table → Res (St.Store W)
-      finish t = done (St.withStaging W (abs b) t)
+      finish t = done (St.with-staging W (abs b) t)
 
       module _ (i : ℕ) (l : List ℤ) (few : length (flipped-at (At i) l) ≤ 512) (little : Gs.Small 9223372036854775808 (flipped-at (At i) l)) where
         abbrev new : List ℤ
         new = flipped-at (At i) l
 
         by-room : found.Nothing ≡ f₁ → (row : List ℕ) → length row ≤ E .limit → (u : Bool) → ltb (c .count) cap ≡ u
-            → Does (cond u (stage (c .count) (c .count + 1) key row) (refuse 16)) (andThen (cond (leb cap (c .count)) (refused 16) (done (put (abs b .staging) key row))) finish)
+            → Does (cond u (stage (c .count) (c .count + 1) key row) (refuse 16)) (then-do (cond (leb cap (c .count)) (refused 16) (done (put (abs b .staging) key row))) finish)
         by-room e row m true h =
             let y = lt-leb cap (c .count) (ltb-true (c .count) cap h) in
             rw y (put-does found.Nothing e row m (full-val found.Nothing e ∙ y))
@@ -251,7 +251,7 @@ module _ (E : Edition) (L : EditionLaws E) (ids : Parent → List ℕ) (caps : C
 
         by-find : (f g : Found) → f ≡ f₁ → g ≡ f₂ → read-placed E Box w (place-of f g) ≡ good l
             → Does (stage-from E w cap n i (place-of f g))
-            (andThen (cond (not (is-found f) && leb cap (c .count)) (refused 16) (done (put (abs b .staging) key (E .with-boxes (row-by f g) new)))) finish)
+            (then-do (cond (not (is-found f) && leb cap (c .count)) (refused 16) (done (put (abs b .staging) key (E .with-boxes (row-by f g) new)))) finish)
         by-find (found.At j) g e d h =
             let row : List ℕ = row-at (E .size) j (x .staged) in
             from (ap (λ (y : List ℕ). stage j (c .count) key y) (flipped-row row h)) (put-does (found.At j) e (E .with-boxes row new) (L .redo-length row l new h few little) (full-val (found.At j) e))
@@ -261,100 +261,100 @@ module _ (E : Edition) (L : EditionLaws E) (ids : Parent → List ℕ) (caps : C
             (by-room e (E .with-boxes row new) (L .redo-length row l new h few little) (ltb (c .count) cap) refl)
         by-find found.Nothing found.Nothing e d h = let z : _≡_ {A = ℕ} 0 1 = cc in absurd (omega arith)
 
-        stage-does : read-spill n ≡ good l → Does (stage-at E w cap n i) (andThen (St.stage W (abs b) key (St.redone W (abs b) (boxes p) n new)) finish)
+        stage-does : read-spill n ≡ good l → Does (stage-at E w cap n i) (then-do (St.stage W (abs b) key (St.redone W (abs b) (boxes p) n new)) finish)
         unfolding stage-at spill-read place-at
         stage-does h =
             to (by-find f₁ f₂ refl refl h)
-            (ap (λ (u : Bool). andThen (cond u (refused 16) (done (put (abs b .staging) key (E .with-boxes (row-by f₁ f₂) new)))) finish) (sym (full-val f₁ refl))
-            ∙ ap (λ (y : Res Tab.Table). andThen y finish) (sym (stage-is (E .with-boxes (row-by f₁ f₂) new)))
-            ∙ ap (λ (r : List ℕ). andThen (St.stage W (abs b) key r) finish) (sym (redo-same l new h)))
+            (ap (λ (u : Bool). then-do (cond u (refused 16) (done (put (abs b .staging) key (E .with-boxes (row-by f₁ f₂) new)))) finish) (sym (full-val f₁ refl))
+            ∙ ap (λ (y : Res Tab.Table). then-do y finish) (sym (stage-is (E .with-boxes (row-by f₁ f₂) new)))
+            ∙ ap (λ (r : List ℕ). then-do (St.stage W (abs b) key r) finish) (sym (redo-same l new h)))
 
     -- ---- rows below the spill count are read alike
     reads : (n : ℕ) → n < spills → (l : List ℤ) × (read-spill n ≡ good l) × (length l ≡ 512) × Gs.Small 9223372036854775808 l
     reads n h = let g = full n h in (g .0, good-of (read-spill n) (g .0) (read-same E ids caps b (boxes p) n ∙ g .1), g .2, g .3)
 
-    rd-is : (n : ℕ) (h : n < spills) → rd n ≡ whenB (order-ok (reads n h .0)) (done (reads n h .0)) (refused 13)
+    rd-is : (n : ℕ) (h : n < spills) → rd n ≡ when-b (order-ok (reads n h .0)) (done (reads n h .0)) (refused 13)
     unfolding reads
     rd-is n h =
         let g = full n h in
-        ap (St.checkRow W) (g .1)
-        ∙ ite-yes (ℕ-discrete (length (g .0)) 512) (whenB (St.ordered 0 (g .0)) (done (g .0)) (refused 13)) (refused 13) (g .2)
-        ∙ ap (λ (u : Bool). whenB u (done (g .0)) (refused 13)) (sym (order-same 0 (g .0) (g .3)))
+        ap (St.checked-store-row W) (g .1)
+        ∙ ite-yes (ℕ-discrete (length (g .0)) 512) (when-b (St.ordered 0 (g .0)) (done (g .0)) (refused 13)) (refused 13) (g .2)
+        ∙ ap (λ (u : Bool). when-b u (done (g .0)) (refused 13)) (sym (order-same 0 (g .0) (g .3)))
 
-    lead-same : (n : ℕ) → n < spills → lead-at E w n ≡ leadRes (rd n)
+    lead-same : (n : ℕ) → n < spills → lead-at E w n ≡ lead-res (rd n)
     lead-same n h =
         let g = reads n h in
-        ap (λ (r : RowRead). lead-of (check-row r)) (g .1) ∙ ap lead-of (check-eq (g .0) (g .2)) ∙ lead-case (order-ok (g .0)) (g .0) ∙ ap leadRes (sym (rd-is n h))
+        ap (λ (r : RowRead). lead-of (check-row r)) (g .1) ∙ ap lead-of (check-eq (g .0) (g .2)) ∙ lead-case (order-ok (g .0)) (g .0) ∙ ap lead-res (sym (rd-is n h))
 
-    look-same : (t : ℕ) (d : Bool) (n : ℕ) → n < spills → look-at E w t d n ≡ lookRes t d (rd n)
+    look-same : (t : ℕ) (d : Bool) (n : ℕ) → n < spills → look-at E w t d n ≡ look-res t d (rd n)
     look-same t d n h =
         let g = reads n h in
-        ap (λ (r : RowRead). look-of (check-row r) t d) (g .1) ∙ ap (λ (y : RowRead). look-of y t d) (check-eq (g .0) (g .2)) ∙ look-case (order-ok (g .0)) (g .0) t d ∙ ap (lookRes t d) (sym (rd-is n h))
+        ap (λ (r : RowRead). look-of (check-row r) t d) (g .1) ∙ ap (λ (y : RowRead). look-of y t d) (check-eq (g .0) (g .2)) ∙ look-case (order-ok (g .0)) (g .0) t d ∙ ap (look-res t d) (sym (rd-is n h))
 
     module _ (t : ℕ) (d : Bool) where
       abbrev e : ℤ
-      e = copyOf d t
+      e = copy-of d t
 
       abbrev on-hit : St.Hit → Res (St.Store W)
-      on-hit h = andThen (St.stage W (abs b) (key-at E Box w (h .at)) (St.redone W (abs b) (boxes p) (h .at) (h .new))) (λ (y : Tab.Table). done (St.withStaging W (abs b) y))
+      on-hit h = then-do (St.stage W (abs b) (key-at E Box w (h .at)) (St.redone W (abs b) (boxes p) (h .at) (h .new))) (λ (y : Tab.Table). done (St.with-staging W (abs b) y))
 
       abbrev hits : Walk → Res St.Hit
-      hits v = hitOf (look-at E w t d) rd t d spills (look-same t d) v
+      hits v = hit-of (look-at E w t d) rd t d spills (look-same t d) v
 
-      by-walk : (lo : ℕ) (seen : Bool) → lo ≤ spills → (v : Walk) → walk-from (look-at E w t d) lo seen ≡ v → Does (after-walk E w cap v) (andThen (hits v) on-hit)
+      by-walk : (lo : ℕ) (seen : Bool) → lo ≤ spills → (v : Walk) → walk-from (look-at E w t d) lo seen ≡ v → Does (after-walk E w cap v) (then-do (hits v) on-hit)
       by-walk lo seen m (Ended s) y = by-seen s
         where
-          by-seen : (s : Bool) → Does (refuse (cond s 14 15)) (refused (notFound s))
+          by-seen : (s : Bool) → Does (refuse (cond s 14 15)) (refused (none-found s))
           by-seen true = no 14
           by-seen false = no 15
       by-walk lo seen m (Failed k) y = no k
       by-walk lo seen m (Hit n i) y =
-          let h : St.Hit = record { at = n; new = flipped-at (At i) (rowOr (rd n)) } in
+          let h : St.Hit = record { at = n; new = flipped-at (At i) (row-or (rd n)) } in
           let u : St.walk 511 rd e lo seen ≡ done h = sym (walk-same (look-at E w t d) rd t d spills (look-same t d) lo seen m) ∙ ap hits y in
           let s = Se.walk-stopped 511 rd e lo seen h u in
           let k : n < spills = omega (arith, s .below) in
           let g = reads n k in
           let z : g .0 ≡ s .row = when-same (order-ok (g .0)) (g .0) (s .row) (sym (rd-is n k) ∙ s .read) in
-          let r : rowOr (rd n) ≡ g .0 = ap rowOr (s .read) ∙ sym z in
-          let o : flipFirst e (g .0) ≡ _ = ap (flipFirst e) z ∙ s .hit in
-          let sp = Se.first-split e (g .0) (flipped-at (At i) (rowOr (rd n))) o in
-          let a : flipped-at (At i) (rowOr (rd n)) ≡ flipped-at (At i) (g .0) = ap (flipped-at (At i)) r in
+          let r : row-or (rd n) ≡ g .0 = ap row-or (s .read) ∙ sym z in
+          let o : flip-first e (g .0) ≡ _ = ap (flip-first e) z ∙ s .hit in
+          let sp = Se.first-split e (g .0) (flipped-at (At i) (row-or (rd n))) o in
+          let a : flipped-at (At i) (row-or (rd n)) ≡ flipped-at (At i) (g .0) = ap (flipped-at (At i)) r in
           let few : length (flipped-at (At i) (g .0)) ≤ 512 = omega (arith, sym (ap length a) ∙ Se.split-length sp, g .2) in
           let little : Gs.Small 9223372036854775808 (flipped-at (At i) (g .0)) = rw a at (Gs.small-split sp (g .3)) in
           to (stage-does n i (g .0) few little (g .1)) (ap (λ (l : List ℤ). on-hit (record { at = n; new = l })) (sym a))
 
       by-low : (seen : Bool) (X : Res ℕ) → St.halve rd t spills 0 spills ≡ X
-          → Does (after-search E w cap t d seen (lowOf X)) (andThen X (λ lo. andThen (St.walk 511 rd e lo seen) on-hit))
+          → Does (after-search E w cap t d seen (low-of X)) (then-do X (λ lo. then-do (St.walk 511 rd e lo seen) on-hit))
       by-low seen (refused k) y = no k
       by-low seen (done lo) y =
           let m = Se.halve-le rd t spills 0 spills lo (omega arith) y in
           to (by-walk lo seen m (walk-from (look-at E w t d) lo seen) refl)
-          (ap (λ (u : Res St.Hit). andThen u on-hit) (walk-same (look-at E w t d) rd t d spills (look-same t d) lo seen m))
+          (ap (λ (u : Res St.Hit). then-do u on-hit) (walk-same (look-at E w t d) rd t d spills (look-same t d) lo seen m))
 
-      rows-does : (seen : Bool) → seen ≡ seenIn t heads → Does (in-rows E w cap t d spills seen) (St.flipRows W (abs b) (boxes p) e)
+      rows-does : (seen : Bool) → seen ≡ seen-in t heads → Does (in-rows E w cap t d spills seen) (St.flip-rows W (abs b) (boxes p) e)
       unfolding in-rows
       rows-does seen u =
           let z : spills - 0 ≡ spills = omega arith in
-          let a : search-in (lead-at E w) t 0 spills ≡ lowOf (St.halve rd t spills 0 spills)
+          let a : search-in (lead-at E w) t 0 spills ≡ low-of (St.halve rd t spills 0 spills)
           = ap (λ (k : ℕ). search-by (lead-at E w) t k 0 spills) z ∙ search-same (lead-at E w) rd t spills lead-same spills 0 spills (omega arith) in
           to (from (ap (after-search E w cap t d seen) a) (by-low seen (St.halve rd t spills 0 spills) refl))
-          (ap (λ (s : Bool). andThen (St.halve rd t spills 0 spills) (λ lo. andThen (St.walk 511 rd e lo s) on-hit)) u
-          ∙ sym (λ i. andThen (St.halve rd (copy-abs d t i) spills 0 spills) (λ lo. andThen (St.walk 511 rd e lo (seenIn (copy-abs d t i) heads)) on-hit)))
+          (ap (λ (s : Bool). then-do (St.halve rd t spills 0 spills) (λ lo. then-do (St.walk 511 rd e lo s) on-hit)) u
+          ∙ sym (λ i. then-do (St.halve rd (copy-abs d t i) spills 0 spills) (λ lo. then-do (St.walk 511 rd e lo (seen-in (copy-abs d t i) heads)) on-hit)))
 
-      by-place : (P : Position) → position d t heads 0 false ≡ P → Does (head-first P (λ seen. in-rows E w cap t d spills seen)) (St.flipHead W (abs b) (boxes p) e (newOf P heads))
+      by-place : (P : Position) → position d t heads 0 false ≡ P → Does (head-first P (λ seen. in-rows E w cap t d spills seen)) (St.head-flipped W (abs b) (boxes p) e (new-of P heads))
       by-place (At i) y = head-does i (rw y at (first-in d t heads))
-      by-place Seen y = rows-does true (sym (first-seen d t heads ∙ ap isSeen y))
-      by-place Absent y = rows-does false (sym (first-seen d t heads ∙ ap isSeen y))
+      by-place Seen y = rows-does true (sym (first-seen d t heads ∙ ap is-seen y))
+      by-place Absent y = rows-does false (sym (first-seen d t heads ∙ ap is-seen y))
 
-      order-does : Does (in-order E w cap t d spills heads) (St.flipHead W (abs b) (boxes p) e (flipFirst e heads))
+      order-does : Does (in-order E w cap t d spills heads) (St.head-flipped W (abs b) (boxes p) e (flip-first e heads))
       unfolding in-order
-      order-does = to (by-place (position d t heads 0 false) refl) (ap (St.flipHead W (abs b) (boxes p) e) (sym (first-new d t heads)))
+      order-does = to (by-place (position d t heads 0 false) refl) (ap (St.head-flipped W (abs b) (boxes p) e) (sym (first-new d t heads)))
 
     module _ (z : ℤ) (d : Direction) where
       abbrev e₁ : ℤ
-      e₁ = copyOf (spends d) (natAbs z)
+      e₁ = copy-of (spends d) (natAbs z)
 
-      by-order : (u : Bool) → Does (cond u (in-order E w cap (natAbs z) (spends d) spills heads) (refuse 10)) (whenB u (St.flipHead W (abs b) (boxes p) e₁ (flipFirst e₁ heads)) (refused 10))
+      by-order : (u : Bool) → Does (cond u (in-order E w cap (natAbs z) (spends d) spills heads) (refuse 10)) (when-b u (St.head-flipped W (abs b) (boxes p) e₁ (flip-first e₁ heads)) (refused 10))
       by-order true = order-does (natAbs z) (spends d)
       by-order false = no 10
 
@@ -362,13 +362,13 @@ module _ (E : Edition) (L : EditionLaws E) (ids : Parent → List ℕ) (caps : C
       by-large true y Y D = no 9
       by-large false y Y D = D
 
-      effect-does : Does (flip-effect E w cap d z (q .head .spills) heads) (ite (decLe 9223372036854775808 (natAbs z)) (refused 9) (St.doFlip W (abs b) (boxes p) e₁))
+      effect-does : Does (flip-effect E w cap d z (q .head .spills) heads) (ite (decLe 9223372036854775808 (natAbs z)) (refused 9) (St.flip-store W (abs b) (boxes p) e₁))
       unfolding flip-effect
       effect-does =
           rw (I .not-below (boxes p))
-          (to (by-large (leb 9223372036854775808 (natAbs z)) (cond (order-ok heads) (in-order E w cap (natAbs z) (spends d) spills heads) (refuse 10)) (St.doFlip W (abs b) (boxes p) e₁)
-          (to (by-order (order-ok heads)) (ap (λ (u : Bool). whenB u (St.flipHead W (abs b) (boxes p) e₁ (flipFirst e₁ heads)) (refused 10)) (order-same 0 heads small))))
-          (sym (ite-le 9223372036854775808 (natAbs z) (decLe 9223372036854775808 (natAbs z)) (refused 9) (St.doFlip W (abs b) (boxes p) e₁))))
+          (to (by-large (leb 9223372036854775808 (natAbs z)) (cond (order-ok heads) (in-order E w cap (natAbs z) (spends d) spills heads) (refuse 10)) (St.flip-store W (abs b) (boxes p) e₁)
+          (to (by-order (order-ok heads)) (ap (λ (u : Bool). when-b u (St.head-flipped W (abs b) (boxes p) e₁ (flip-first e₁ heads)) (refused 10)) (order-same 0 heads small))))
+          (sym (ite-le 9223372036854775808 (natAbs z) (decLe 9223372036854775808 (natAbs z)) (refused 9) (St.flip-store W (abs b) (boxes p) e₁))))
 
     ok : flip-ok E (q .head) c (x .staged) (x .table-counts) (x .table) (q .places) ≡ true
     unfolding flip-ok
@@ -376,15 +376,15 @@ module _ (E : Edition) (L : EditionLaws E) (ids : Parent → List ℕ) (caps : C
         (and-true (records-ok (E .size) (E .limit) c (x .staged)) (records-ok (E .size) (E .limit) (x .table-counts) (x .table)) (records-ok-test _ _ _ _ (lf .in-staged)) (records-ok-test _ _ _ _ (lf .in-table)))
 
     pub record FlipDoes (X : Res Index) (Y : Res (St.Store W)) : Type 0 where
-      pub same : mapRes abs X ≡ Y
+      pub same : map-res abs X ≡ Y
       pub keeps : (d : Index) → X ≡ done d → S.Inv E ids caps d
 
-    flip-does : (d : Direction) (z : ℤ) → FlipDoes (result-of (do-flip E ids d b p z)) (ite (decLe 9223372036854775808 (natAbs z)) (refused 9) (St.doFlip W (abs b) (boxes p) (copyOf (spends d) (natAbs z))))
+    flip-does : (d : Direction) (z : ℤ) → FlipDoes (result-of (do-flip E ids d b p z)) (ite (decLe 9223372036854775808 (natAbs z)) (refused 9) (St.flip-store W (abs b) (boxes p) (copy-of (spends d) (natAbs z))))
     unfolding flip-of flip-core
     flip-does d z = rw ok (record { same = effect-does z d .same; keeps = effect-does z d .keeps })
 
-    pub spend-does : (z : ℤ) → FlipDoes (result-of (do-flip E ids Spend b p z)) (St.doSpend W (abs b) p z)
+    pub spend-does : (z : ℤ) → FlipDoes (result-of (do-flip E ids Spend b p z)) (St.spend-store W (abs b) p z)
     spend-does z = flip-does Spend z
 
-    pub unspend-does : (z : ℤ) → FlipDoes (result-of (do-flip E ids Unspend b p z)) (St.doUnspend W (abs b) p z)
+    pub unspend-does : (z : ℤ) → FlipDoes (result-of (do-flip E ids Unspend b p z)) (St.unspend-store W (abs b) p z)
     unspend-does z = flip-does Unspend z

@@ -13,7 +13,7 @@ use lib.IntN.{ℤ, natAbs}
 use borrow.Author.Tests.{leb-true, leb-false, lt-leb}
 use Rattle.records.specs.declared.Found.{Found}
 use Rattle.records.specs.declared.Found.the-variants.{At, Nothing}
-use Rattle.records.specs.declared.ListCounts.{ListCounts}
+use Rattle.index_types.specs.declared.ListCounts.{ListCounts}
 use Rattle.records.specs.Records.{records, keys, key-of, stored-row, stored-length, record-of}
 use Rattle.records.specs.Find.{find-key, is-found}
 use Rattle.records.specs.Changes.{count-after, with-count, put-record, full-for, clear-records}
@@ -26,18 +26,19 @@ use Rattle.records.proofs.TurnLaws.{length-records}
 use Rattle.records.proofs.RecordLaws.{record-sized, row-room, record-length, record-key}
 use Rattle.records.proofs.PutLaws.{keys-after-put, slot-room}
 use Rattle.records.proofs.CheckLaws.{and-right, records-ok-after-put, records-ok-after-clear, keys-ok-after-clear, lengths-at}
-use Rattle.buffer_core.specs.declared.Flushed.the-variants.{Done, Refused}
+use Rattle.index_types.specs.declared.Flushed.the-variants.{Done, Refused}
 use Rattle.buffer_core.specs.Edition.{Edition}
 use Rattle.buffer_core.specs.Pop.{Lists, lists, lists-ok, count-without, bytes-without}
-use Rattle.buffer_core.specs.Flush.{Flushing, flushing, one-if, new-count, Listed, listed, found-in, put-staged, put-undeleted, remove-key, remove-keys, deleted-keys, table-after, flushed, new-keys, flush-core, flush-of}
+use Rattle.buffer_core.specs.Flush.{Flushing, flushing, new-count, Listed, listed, found-in, put-staged, put-undeleted, remove-key, remove-keys, deleted-keys, table-after, flushed, new-keys, flush-core, flush-of}
+use Rattle.entries.specs.Tally.{one-if}
 use Rattle.buffer_core.proofs.ListLaws.{ListsFit, lists-fit, fit-lists}
 use Rattle.ledger.specs.Ledger.{Parent, Series, ite}
 use Rattle.ledger.specs.Run.{Res, done, refused}
 use Rattle.fork_model.proofs.Store as St
 use Rattle.fork_model.proofs.Search.{done≢refused}
-use Rattle.fork_model.proofs.Results.{mapRes, result-of}
+use Rattle.fork_model.proofs.Results.{map-res, result-of}
 use Rattle.history.specs.Index.{Index, index, after-flush, do-flush}
-use Rattle.history.proofs.Tables.{Bytes, Table, tab, put, remove, in-dec, ite-in, writeAll, removeAll, fresh, fresh-is}
+use Rattle.history.proofs.Tables.{Bytes, Table, tab, put, remove, in-dec, ite-in, write-all, remove-all, fresh, fresh-is}
 use Rattle.history.proofs.State as S
 use Rattle.history.proofs.State.{EditionLaws, Capacities}
 use Rattle.history.proofs.Lists.{put-table, remove-table, remove-keeps, capacity-without, length-table}
@@ -136,7 +137,7 @@ module _ (E : Edition) (L : EditionLaws E) (dels : List (List ℕ)) where
 
   -- ---- all staged records that are not deleted
   pub record AllDoes (rs : List (List ℕ)) (t u : Listed) : Type 0 where
-    pub same : tabled u ≡ writeAll (tab rs) dels (tabled t)
+    pub same : tabled u ≡ write-all (tab rs) dels (tabled t)
     pub keeps : Ok u
     pub cap : u .counts .capacity ≡ t .counts .capacity
 
@@ -152,20 +153,20 @@ module _ (E : Edition) (L : EditionLaws E) (dels : List (List ℕ)) where
           → AllDoes (r ∷ rs) t (put-undeleted E dels rs (cond d t (put-staged E r t)))
       by-test true d ih =
           let a = ih t ok (omega (arith, rw d at h)) in
-          record { same = a .same ∙ ap (writeAll (tab rs) dels) (sym (ite-in (key-of r) dels (in-dec (key-of r) dels) (tabled t) (put (tabled t) (key-of r) (stored-row r)) ∙ rw d)); keeps = a .keeps; cap = a .cap }
+          record { same = a .same ∙ ap (write-all (tab rs) dels) (sym (ite-in (key-of r) dels (in-dec (key-of r) dels) (tabled t) (put (tabled t) (key-of r) (stored-row r)) ∙ rw d)); keeps = a .keeps; cap = a .cap }
       by-test false d ih =
           let h′ = rw d at h in
           let p = put-does r t (s .0) ok (omega arith) in
           let a = ih (put-staged E r t) (p .keeps) (omega (arith, p .room (map key-of rs), p .cap)) in
           record {
-            same = a .same ∙ ap (writeAll (tab rs) dels) (p .same ∙ sym (ite-in (key-of r) dels (in-dec (key-of r) dels) (tabled t) (put (tabled t) (key-of r) (stored-row r)) ∙ rw d));
+            same = a .same ∙ ap (write-all (tab rs) dels) (p .same ∙ sym (ite-in (key-of r) dels (in-dec (key-of r) dels) (tabled t) (put (tabled t) (key-of r) (stored-row r)) ∙ rw d));
             keeps = a .keeps;
             cap = a .cap ∙ p .cap;
           }
 
   -- ---- all deleted keys
   pub record GoneDoes (ks : List Bytes) (t u : Listed) : Type 0 where
-    pub same : tabled u ≡ removeAll ks (tabled t)
+    pub same : tabled u ≡ remove-all ks (tabled t)
     pub keeps : Ok u
     pub cap : u .counts .capacity ≡ t .counts .capacity
 
@@ -177,7 +178,7 @@ module _ (E : Edition) (L : EditionLaws E) (dels : List (List ℕ)) where
       let u : Listed = listed (count-without f (t .counts)) (bytes-without (E .size) f (t .counts) (t .bytes)) in
       let a = remove-all-does ks u (remove-keeps (E .size) (E .limit) (t .counts) k (t .bytes) ok) in
       record {
-        same = a .same ∙ ap (removeAll ks) (remove-table (E .size) (E .limit) (t .counts) k (t .bytes) ok);
+        same = a .same ∙ ap (remove-all ks) (remove-table (E .size) (E .limit) (t .counts) k (t .bytes) ok);
         keeps = a .keeps;
         cap = a .cap ∙ capacity-without f (t .counts);
       }
@@ -227,13 +228,13 @@ module _ (E : Edition) (L : EditionLaws E) (ids : Parent → List ℕ) (caps : C
     unfolding table-after
     gone h = remove-all-does E L (deleted-keys E x) (deleted-keys E x) (put-undeleted E (deleted-keys E x) rs (listed (x .table-counts) (x .table))) (puts h .keeps)
 
-    done-same : new ≤ x .table-counts .capacity - x .table-counts .count → mapRes abs (end (flushed E x)) ≡ done (St.flushed W (abs b))
+    done-same : new ≤ x .table-counts .capacity - x .table-counts .count → map-res abs (end (flushed E x)) ≡ done (St.flushed W (abs b))
     unfolding flushed records
     done-same h =
-        let e = gone h .same ∙ ap (removeAll (deleted-keys E x)) (puts h .same) in
+        let e = gone h .same ∙ ap (remove-all (deleted-keys E x)) (puts h .same) in
         ap (λ (t : Table). done (record { heads = abs b .heads; counts = abs b .counts; staging = []; table = t; deletion = [] })) e
 
-    by-room : (t : Bool) → leb new (x .table-counts .capacity - x .table-counts .count) ≡ t → mapRes abs (end (cond t (flushed E x) refuse)) ≡ St.doFlush W (abs b)
+    by-room : (t : Bool) → leb new (x .table-counts .capacity - x .table-counts .count) ≡ t → map-res abs (end (cond t (flushed E x) refuse)) ≡ St.flush-store W (abs b)
     by-room true e =
         let h = leb-true new (x .table-counts .capacity - x .table-counts .count) e in
         done-same h ∙ sym (ite-no (decLt (caps .table) (length (abs b .table) + fresh (abs b .staging) (abs b .deletion) (abs b .table))) (refused 22) (done (St.flushed W (abs b)))
@@ -243,7 +244,7 @@ module _ (E : Edition) (L : EditionLaws E) (ids : Parent → List ℕ) (caps : C
         sym (ite-yes (decLt (caps .table) (length (abs b .table) + fresh (abs b .staging) (abs b .deletion) (abs b .table))) (refused 22) (done (St.flushed W (abs b)))
         (omega (arith, fresh-same, I .table-at, lf .in-table .bounds .counted)))
 
-    pub flush-same : mapRes abs (result-of (do-flush E ids b)) ≡ St.doFlush W (abs b)
+    pub flush-same : map-res abs (result-of (do-flush E ids b)) ≡ St.flush-store W (abs b)
     unfolding flush-of flush-core
     flush-same = rw (I .lists-in) (by-room (leb new (x .table-counts .capacity - x .table-counts .count)) refl)
 

@@ -75,7 +75,7 @@ module _ (E : Edition) (L : EditionLaws E) (ids : Parent → List ℕ) (B : Borr
   abbrev pub M : Mc.Machine
   M = Wh.machine W Q
 
-  start-same : abs begin ≡ St.noStore W
+  start-same : abs begin ≡ St.no-store W
   unfolding records
   start-same = refl
 
@@ -103,21 +103,21 @@ module _ (E : Edition) (L : EditionLaws E) (ids : Parent → List ℕ) (B : Borr
     staging-full = λ b I h. omega (arith, length-table (E .size) (b .lists .staged-counts .count) (b .lists .staged), I .staged-at);
     deletion-full = λ b I h. omega (arith, length-keys 32 (b .lists .deleted-counts .count) (b .lists .deleted), I .deleted-at);
     append = λ b ch n I G. record {
-      same = Ap.append-same E L ids caps b ch I (G .small ch) n ∙ sym (result-keeping (abs b) (St.doAppend W (abs b) ch n));
+      same = Ap.append-same E L ids caps b ch I (G .small ch) n ∙ sym (result-keeping (abs b) (St.append-store W (abs b) ch n));
       keeps = λ d e. Ap.append-inv E L ids caps b ch I (G .small ch) n d e;
     };
     pop = λ b ch I G. record {
-      same = Po.pop-same E L ids caps b ch I ∙ sym (result-keeping (abs b) (St.doPop W (abs b) ch));
+      same = Po.pop-same E L ids caps b ch I ∙ sym (result-keeping (abs b) (St.pop-store W (abs b) ch));
       keeps = λ d e. Po.pop-inv E L ids caps b ch I d e;
     };
     spend = λ b p t I G.
         let D = Fp.spend-does E L ids caps b p I (G .small (boxes p)) (G .full (boxes p)) t in
-        record { same = D .same ∙ sym (result-keeping (abs b) (St.doSpend W (abs b) p t)); keeps = D .keeps };
+        record { same = D .same ∙ sym (result-keeping (abs b) (St.spend-store W (abs b) p t)); keeps = D .keeps };
     unspend = λ b p t I G.
         let D = Fp.unspend-does E L ids caps b p I (G .small (boxes p)) (G .full (boxes p)) t in
-        record { same = D .same ∙ sym (result-keeping (abs b) (St.doUnspend W (abs b) p t)); keeps = D .keeps };
+        record { same = D .same ∙ sym (result-keeping (abs b) (St.unspend-store W (abs b) p t)); keeps = D .keeps };
     flush = λ b I G. record {
-      same = Fu.flush-same E L ids caps b I ∙ sym (result-keeping (abs b) (St.doFlush W (abs b)));
+      same = Fu.flush-same E L ids caps b I ∙ sym (result-keeping (abs b) (St.flush-store W (abs b)));
       keeps = λ d e. Fu.flush-inv E L ids caps b I d e;
     };
   }
@@ -126,7 +126,7 @@ module _ (E : Edition) (L : EditionLaws E) (ids : Parent → List ℕ) (B : Borr
   pub flush-deletes : (U : Series → ℕ → Type 0) → Mc.KeysApart M U → (b d : Index) → Inv b → Gs.Good W code U (abs b) → result-of (do-flush E ids b) ≡ done d
       → (k : List ℕ) → Gs.In W code k (abs b .deletion) → Tb.Absent (List ℕ) (List ℕ) id-dec k (abs d .table)
   flush-deletes U apart b d I G e k h =
-      Fl.flush-deletes W code U apart (abs b) (abs d) G (Sm.map-keeps-done abs (result-of (do-flush E ids b)) d (St.doFlush W (abs b)) (Fu.flush-same E L ids caps b I) e) k h
+      Fl.flush-deletes W code U apart (abs b) (abs d) G (Sm.map-keeps-done abs (result-of (do-flush E ids b)) d (St.flush-store W (abs b)) (Fu.flush-same E L ids caps b I) e) k h
 
   -- the index in bytes, with balances
   abbrev pub machine : Mc.Machine

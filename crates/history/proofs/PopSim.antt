@@ -1,5 +1,5 @@
 -- A row as inspection shows it, and a pop: of the bytes, as of the tables; and a pop keeps what holds between calls.
-use Rattle.ledger.specs.Run.{flat, rowOr}
+use Rattle.ledger.specs.Run.{flat, row-or}
 use mathlib.Core.Path.{_≡_, refl, sym, _∙_, ap}
 use mathlib.Core.List.{List, [], _∷_, _++_, map, append-assoc}
 use mathlib.Core.Bool.{Bool, true, false, cond}
@@ -15,7 +15,7 @@ use Rattle.stores.proofs.StoreLaws.{length-write}
 use Rattle.signed.specs.Sign.{is-negative}
 use Rattle.records.specs.declared.Found.{Found}
 use Rattle.records.specs.declared.Found.the-variants.{At, Nothing}
-use Rattle.records.specs.declared.ListCounts.{ListCounts}
+use Rattle.index_types.specs.declared.ListCounts.{ListCounts}
 use Rattle.records.specs.declared.Place.{Place}
 use Rattle.records.specs.declared.Place.the-variants.{Staged, Table, Missing}
 use Rattle.records.specs.Records.{records, keys, stored-row}
@@ -27,8 +27,8 @@ use Rattle.records.proofs.RecordLaws.{record-at}
 use Rattle.records.proofs.CheckLaws.{and-true, keys-ok-after-put}
 use Rattle.segment_id.specs.declared.Kind.{Kind}
 use Rattle.segment_core.specs.Loading.{padded}
-use Rattle.buffer_core.specs.declared.HeadCounts.{HeadCounts}
-use Rattle.buffer_core.specs.declared.Popped.the-variants.{Number, Refused}
+use Rattle.index_types.specs.declared.HeadCounts.{HeadCounts}
+use Rattle.index_types.specs.declared.Popped.the-variants.{Number, Refused}
 use Rattle.buffer_core.specs.Edition.{Edition, RowRead, bad, good}
 use Rattle.buffer_core.specs.Spills.{Sources, place-at, read-placed, spill-read, head-ok}
 use Rattle.buffer_core.specs.Append.{counts-of}
@@ -38,10 +38,10 @@ use Rattle.ledger.specs.Ledger.{Parent, Series, series-dec, ite, id-dec}
 use Rattle.ledger.specs.Run.{Res, done, refused}
 use Rattle.ledger.specs.Run as Mc
 use Rattle.fork_model.proofs.Store as St
-use Rattle.fork_model.proofs.Store.{andThen, Ends, nothing, ends, unsnoc, consEnd}
-use Rattle.fork_model.proofs.Table.{orElse}
+use Rattle.fork_model.proofs.Store.{then-do, Ends, nothing, ends, unsnoc, cons-end}
+use Rattle.fork_model.proofs.Table.{or-else}
 use Rattle.fork_model.proofs.Search.{done≢refused}
-use Rattle.fork_model.proofs.Results.{mapRes, mapPop, result-of}
+use Rattle.fork_model.proofs.Results.{map-res, map-pop, result-of}
 use Rattle.history.specs.Index.{Part, part, Index, index, kind-of, set-part, after-pop, to-res, id-of, do-pop, sources-of, row-of-spill, entries-of}
 use Rattle.history.proofs.Tables.{Bytes, tab, remove, lookup-is, row-opt, in-dec}
 use Rattle.history.proofs.State as S
@@ -65,34 +65,34 @@ module _ (E : Edition) (ids : Parent → List ℕ) (caps : Capacities) where
 
     by-found : (f g : Found) → f ≡ find-key k₁ (keys (E .size) m₁ (b .lists .staged)) → g ≡ find-key k₁ (keys (E .size) n₁ (b .lists .table))
         → to-res (read-placed E (kind-of ch) (sources-of E ids b ch) (place-of f g))
-        ≡ St.decoded W₁ ch (orElse (row-opt f (records (E .size) m₁ (b .lists .staged))) (row-opt g (records (E .size) n₁ (b .lists .table))))
+        ≡ St.decoded W₁ ch (or-else (row-opt f (records (E .size) m₁ (b .lists .staged))) (row-opt g (records (E .size) n₁ (b .lists .table))))
     by-found (At i) g e d =
         ap (λ (r : List ℕ). to-res (E .decode (kind-of ch) (stored-row r))) (sym (record-at (E .size) m₁ i (b .lists .staged) (found-in k₁ (E .size) m₁ (b .lists .staged) i (At i) e refl)))
     by-found Nothing (At j) e d =
         ap (λ (r : List ℕ). to-res (E .decode (kind-of ch) (stored-row r))) (sym (record-at (E .size) n₁ j (b .lists .table) (found-in k₁ (E .size) n₁ (b .lists .table) j (At j) d refl)))
     by-found Nothing Nothing e d = refl
 
-    pub read-same : row-of-spill E ids b ch s ≡ St.rowAt W₁ (S.abs E ids caps b) ch s
+    pub read-same : row-of-spill E ids b ch s ≡ St.store-row W₁ (S.abs E ids caps b) ch s
     unfolding spill-read place-at
     read-same =
         by-found (find-key k₁ (keys (E .size) m₁ (b .lists .staged))) (find-key k₁ (keys (E .size) n₁ (b .lists .table))) refl refl
-        ∙ sym (λ i. St.decoded W₁ ch (orElse (lookup-is (records (E .size) m₁ (b .lists .staged)) k₁ i) (lookup-is (records (E .size) n₁ (b .lists .table)) k₁ i)))
+        ∙ sym (λ i. St.decoded W₁ ch (or-else (lookup-is (records (E .size) m₁ (b .lists .staged)) k₁ i) (lookup-is (records (E .size) n₁ (b .lists .table)) k₁ i)))
 
   flat-same : (f g : ℕ → Res (List ℤ)) (n : ℕ) → ((s : ℕ) → f s ≡ g s) → flat f n ≡ flat g n
   unfolding flat
   flat-same f g zero h = refl
-  flat-same f g (suc n) h = λ i. flat-same f g n h i ++ rowOr (h n i)
+  flat-same f g (suc n) h = λ i. flat-same f g n h i ++ row-or (h n i)
 
   -- what inspection shows is what the tables hold
   pub shows : (b : Index) (ch : Series) → entries-of E ids b ch ≡ St.entries W₁ (S.abs E ids caps b) ch
   shows b ch = ap (λ (l : List ℤ). l ++ take (b .parts ch .head .len) (b .parts ch .places))
-      (flat-same (row-of-spill E ids b ch) (St.rowAt W₁ (S.abs E ids caps b) ch) (natAbs (b .parts ch .head .spills)) (read-same b ch))
+      (flat-same (row-of-spill E ids b ch) (St.store-row W₁ (S.abs E ids caps b) ch) (natAbs (b .parts ch .head .spills)) (read-same b ch))
 
 -- ---- the last of a list
 unsnoc-last : (l : List ℤ) (x : ℤ) → unsnoc (l ++ x ∷ []) ≡ ends l x
 unfolding unsnoc
 unsnoc-last [] x = refl
-unsnoc-last (y ∷ l) x = ap (consEnd y) (unsnoc-last l x)
+unsnoc-last (y ∷ l) x = ap (cons-end y) (unsnoc-last l x)
 
 pub unsnoc-take : (l : List ℤ) (n : ℕ) → 0 < n → n ≤ length l → unsnoc (take n l) ≡ ends (take (n - 1) l) (getD l (n - 1) (pos 0))
 unsnoc-take l n h k =
@@ -156,14 +156,14 @@ module _ (E : Edition) (L : EditionLaws E) (ids : Parent → List ℕ) (caps : C
     abbrev last : Popping
     last = popping (Number (last-of len (p .places)) (counts-of (len - 1) (p .head .spills)) (x .staged-counts) (x .deleted-counts)) (without-last len (p .places)) (x .staged) (x .deleted)
 
-    last-same : 0 < len → mapRes (mapPop abs) (end last) ≡ St.doPop W (abs b) ch
+    last-same : 0 < len → map-res (map-pop abs) (end last) ≡ St.pop-store W (abs b) ch
     last-same h =
         let v : Part = part (counts-of (len - 1) (p .head .spills)) (without-last len (p .places)) in
         let heads = push-to head-of (b .parts) ch v (take (len - 1) (p .places)) (take-set-le (len - 1) (p .places) (len - 1) (pos 0) (omega arith)) in
         let counts = same-set spills-of (b .parts) ch v refl in
-        let whole : mapRes (mapPop abs) (end last) ≡ St.popFrom W (abs b) ch (ends (take (len - 1) (p .places)) (getD (p .places) (len - 1) (pos 0)))
+        let whole : map-res (map-pop abs) (end last) ≡ St.pop-out W (abs b) ch (ends (take (len - 1) (p .places)) (getD (p .places) (len - 1) (pos 0)))
         = λ i. done (record { left = record { heads = heads i; counts = counts i; staging = abs b .staging; table = abs b .table; deletion = abs b .deletion }; value = getD (p .places) (len - 1) (pos 0) }) in
-        whole ∙ ap (St.popFrom W (abs b) ch) (sym (unsnoc-take (p .places) len h (omega (arith, hf .len-in, hf .places-in))))
+        whole ∙ ap (St.pop-out W (abs b) ch) (sym (unsnoc-take (p .places) len h (omega (arith, hf .len-in, hf .places-in))))
 
     abbrev Keeps : Popping → Type 0
     Keeps o = (d : Mc.Popped Index) → end o ≡ done d → S.Inv E ids caps (d .left)
@@ -196,7 +196,7 @@ module _ (E : Edition) (L : EditionLaws E) (ids : Parent → List ℕ) (caps : C
       full = full-for 32 (x .deleted-counts) key (x .deleted)
 
       restore-same : (zs : List ℤ) → 0 < length zs → length zs ≤ 512 → full ≡ false
-          → mapRes (mapPop abs) (end (restore zs)) ≡ done (record { left = St.merged W (abs b) ch s (take (length zs - 1) zs); value = getD zs (length zs - 1) (pos 0) })
+          → map-res (map-pop abs) (end (restore zs)) ≡ done (record { left = St.merged W (abs b) ch s (take (length zs - 1) zs); value = getD zs (length zs - 1) (pos 0) })
       unfolding merged
       restore-same zs h m f =
           let n : ℕ = length zs in
@@ -210,21 +210,21 @@ module _ (E : Edition) (L : EditionLaws E) (ids : Parent → List ℕ) (caps : C
           λ i. done (record { left = record { heads = heads i; counts = counts i; staging = rows i; table = abs b .table; deletion = dels i }; value = value i })
 
       by-full : (zs : List ℤ) → 0 < length zs → length zs ≤ 512 → (t : Bool) → full ≡ t
-          → mapRes (mapPop abs) (end (cond t (no-pop 21) (restore zs)))
+          → map-res (map-pop abs) (end (cond t (no-pop 21) (restore zs)))
           ≡ cond t (refused 21) (done (record { left = St.merged W (abs b) ch s (take (length zs - 1) zs); value = getD zs (length zs - 1) (pos 0) }))
       by-full zs h m true f = refl
       by-full zs h m false f = restore-same zs h m f
 
-      some-same : (zs : List ℤ) → 0 < length zs → length zs ≤ 512 → mapRes (mapPop abs) (end (cond full (no-pop 21) (restore zs))) ≡ St.popMerged W (abs b) ch s (unsnoc zs)
+      some-same : (zs : List ℤ) → 0 < length zs → length zs ≤ 512 → map-res (map-pop abs) (end (cond full (no-pop 21) (restore zs))) ≡ St.merged-out W (abs b) ch s (unsnoc zs)
       some-same zs h m =
           let y : Res (Mc.Popped (St.Store W)) = done (record { left = St.merged W (abs b) ch s (take (length zs - 1) zs); value = getD zs (length zs - 1) (pos 0) }) in
-          let q : St.popMerged W (abs b) ch s (ends (take (length zs - 1) zs) (getD zs (length zs - 1) (pos 0))) ≡ cond full (refused 21) y
+          let q : St.merged-out W (abs b) ch s (ends (take (length zs - 1) zs) (getD zs (length zs - 1) (pos 0))) ≡ cond full (refused 21) y
           = full-keys (x .deleted-counts) (caps .deleted) key (x .deleted) (refused 21) y (I .deleted-at) in
           let u : unsnoc zs ≡ ends (take (length zs - 1) zs) (getD zs (length zs - 1) (pos 0)) = ap unsnoc (sym (take-all (length zs) zs (omega arith))) ∙ unsnoc-take zs (length zs) h (omega arith) in
-          by-full zs h m full refl ∙ sym q ∙ ap (St.popMerged W (abs b) ch s) (sym u)
+          by-full zs h m full refl ∙ sym q ∙ ap (St.merged-out W (abs b) ch s) (sym u)
 
       taken-same : (r : RowRead) → ((zs : List ℤ) → r ≡ good zs → length zs ≤ 512)
-          → mapRes (mapPop abs) (end (merge-of E r key s x (p .places))) ≡ St.popMerge W (abs b) ch s (to-res r)
+          → map-res (map-pop abs) (end (merge-of E r key s x (p .places))) ≡ St.merge-out W (abs b) ch s (to-res r)
       unfolding merge-of unsnoc
       taken-same (bad k) m = refl
       taken-same (good []) m = refl
@@ -239,9 +239,9 @@ module _ (E : Edition) (L : EditionLaws E) (ids : Parent → List ℕ) (caps : C
       unfolding spill-read
       read-few zs e = few (place-at E kind (sources-of E ids b ch) s) zs e
 
-      row-same : mapRes (mapPop abs) (end (unspill-of E kind (id-of E ids ch) s x (p .places))) ≡ St.popRow W (abs b) ch (suc s)
+      row-same : map-res (map-pop abs) (end (unspill-of E kind (id-of E ids ch) s x (p .places))) ≡ St.row-out W (abs b) ch (suc s)
       unfolding unspill-of
-      row-same = taken-same (spill-read E kind (sources-of E ids b ch) s) read-few ∙ ap (St.popMerge W (abs b) ch s) (read-same E ids caps b ch s)
+      row-same = taken-same (spill-read E kind (sources-of E ids b ch) s) read-few ∙ ap (St.merge-out W (abs b) ch s) (read-same E ids caps b ch s)
 
       restore-keeps : (zs : List ℤ) → s ≤ 2147483647 → length zs ≤ 512 → full ≡ false → Keeps (restore zs)
       unfolding merged
@@ -274,20 +274,20 @@ module _ (E : Edition) (L : EditionLaws E) (ids : Parent → List ℕ) (caps : C
     abbrev unspill : ℕ → Popping
     unspill n = unspill-of E kind (id-of E ids ch) (n - 1) x (p .places)
 
-    by-spills : (n : ℕ) (t : Bool) → eqb n 0 ≡ t → mapRes (mapPop abs) (end (cond t (no-pop 19) (unspill n))) ≡ St.popRow W (abs b) ch n
+    by-spills : (n : ℕ) (t : Bool) → eqb n 0 ≡ t → map-res (map-pop abs) (end (cond t (no-pop 19) (unspill n))) ≡ St.row-out W (abs b) ch n
     by-spills zero true e = refl
     by-spills zero false e = absurd (eqb-false 0 0 e refl)
     by-spills (suc s) true e = absurd (let z : suc s ≡ 0 = eqb-true (suc s) 0 e in omega arith)
     by-spills (suc s) false e = let z : suc s - 1 ≡ s = omega arith in rw z (row-same s)
 
-    by-len : (t : Bool) → ltb 0 len ≡ t → mapRes (mapPop abs) (end (cond t last (cond (eqb (natAbs (p .head .spills)) 0) (no-pop 19) (unspill (natAbs (p .head .spills)))))) ≡ St.doPop W (abs b) ch
+    by-len : (t : Bool) → ltb 0 len ≡ t → map-res (map-pop abs) (end (cond t last (cond (eqb (natAbs (p .head .spills)) 0) (no-pop 19) (unspill (natAbs (p .head .spills)))))) ≡ St.pop-store W (abs b) ch
     unfolding unsnoc
     by-len true e = last-same (ltb-true 0 len e)
     by-len false e =
         let z : 0 ≡ len = omega (arith, ltb-false 0 len e) in
-        by-spills (natAbs (p .head .spills)) (eqb (natAbs (p .head .spills)) 0) refl ∙ ap (λ (n : ℕ). St.popFrom W (abs b) ch (unsnoc (take n (p .places)))) z
+        by-spills (natAbs (p .head .spills)) (eqb (natAbs (p .head .spills)) 0) refl ∙ ap (λ (n : ℕ). St.pop-out W (abs b) ch (unsnoc (take n (p .places)))) z
 
-    pub pop-same : mapRes (mapPop abs) (result-of (do-pop E ids b ch)) ≡ St.doPop W (abs b) ch
+    pub pop-same : map-res (map-pop abs) (result-of (do-pop E ids b ch)) ≡ St.pop-store W (abs b) ch
     unfolding pop-of pop-core
     pop-same = rw (ok, I .not-below ch) (by-len (ltb 0 len) refl)
 

@@ -8,13 +8,13 @@ use Rattle.ledger.specs.Run.{Res, done, refused, Made, Popped, Machine, Refusal
 use Rattle.ledger.specs.Run as Mc
 use Rattle.fork_model.proofs.OperationLaws as Op
 use Rattle.fork_model.proofs.History as Hi
-use Rattle.fork_model.proofs.Results.{mapRes, mapPop, result-of}
+use Rattle.fork_model.proofs.Results.{map-res, map-pop, result-of}
 
-pub map-keeps-done : {A B : Type 0} (f : A → B) (X : Res A) (a : A) (Y : Res B) → mapRes f X ≡ Y → X ≡ done a → Y ≡ done (f a)
-map-keeps-done f X a Y e q = sym e ∙ ap (mapRes f) q
+pub map-keeps-done : {A B : Type 0} (f : A → B) (X : Res A) (a : A) (Y : Res B) → map-res f X ≡ Y → X ≡ done a → Y ≡ done (f a)
+map-keeps-done f X a Y e q = sym e ∙ ap (map-res f) q
 
-map-keeps-refused : {A B : Type 0} (f : A → B) (X : Res A) (k : ℕ) (Y : Res B) → mapRes f X ≡ Y → X ≡ refused k → Y ≡ refused k
-map-keeps-refused f X k Y e q = sym e ∙ ap (mapRes f) q
+map-keeps-refused : {A B : Type 0} (f : A → B) (X : Res A) (k : ℕ) (Y : Res B) → map-res f X ≡ Y → X ≡ refused k → Y ≡ refused k
+map-keeps-refused f X k Y e q = sym e ∙ ap (map-res f) q
 
 -- the stores of N and their operations, the balances of M
 module _ (M N : Machine) where
@@ -22,21 +22,21 @@ module _ (M N : Machine) where
   lower = record {
     Store = N .Store;
     empty = N .empty;
-    doAppend = N .doAppend;
-    doPop = N .doPop;
-    doSpend = N .doSpend;
-    doUnspend = N .doUnspend;
-    doFlush = N .doFlush;
+    append-store = N .append-store;
+    pop-store = N .pop-store;
+    spend-store = N .spend-store;
+    unspend-store = N .unspend-store;
+    flush-store = N .flush-store;
     entries = N .entries;
     StagingFull = N .StagingFull;
     DeletionFull = N .DeletionFull;
     Bal = M .Bal;
-    noBal = M .noBal;
+    no-balance = M .no-balance;
     add = M .add;
     sub = M .sub;
-    nanoOf = M .nanoOf;
-    amountOf = M .amountOf;
-    rowSize = M .rowSize;
+    nano-of = M .nano-of;
+    amount-of = M .amount-of;
+    row-size = M .row-size;
     limit = M .limit;
     Key = M .Key;
     key = M .key;
@@ -45,11 +45,11 @@ module _ (M N : Machine) where
   module _ (abs : N .Store → M .Store) (Inv : N .Store → Type 0) (Good : M .Store → Type 0) where
     -- an operation does what that of M does, and keeps Inv
     pub record Does (X : Made (N .Store) (N .Store)) (Y : Made (M .Store) (M .Store)) : Type 0 where
-      pub same : mapRes abs (result-of X) ≡ result-of Y
+      pub same : map-res abs (result-of X) ≡ result-of Y
       pub keeps : (c : N .Store) → result-of X ≡ done c → Inv c
 
     pub record DoesPop (X : Made (N .Store) (Popped (N .Store))) (Y : Made (M .Store) (Popped (M .Store))) : Type 0 where
-      pub same : mapRes (mapPop abs) (result-of X) ≡ result-of Y
+      pub same : map-res (map-pop abs) (result-of X) ≡ result-of Y
       pub keeps : (c : Popped (N .Store)) → result-of X ≡ done c → Inv (c .left)
 
     pub record Sims : Type 0 where
@@ -59,11 +59,11 @@ module _ (M N : Machine) where
       pub shows : (b : N .Store) → Inv b → (ch : Series) → N .entries b ch ≡ M .entries (abs b) ch
       pub staging-full : (b : N .Store) → Inv b → M .StagingFull (abs b) → N .StagingFull b
       pub deletion-full : (b : N .Store) → Inv b → M .DeletionFull (abs b) → N .DeletionFull b
-      pub append : (b : N .Store) (ch : Series) (n : ℤ) → Inv b → Good (abs b) → Does (N .doAppend b ch n) (M .doAppend (abs b) ch n)
-      pub pop : (b : N .Store) (ch : Series) → Inv b → Good (abs b) → DoesPop (N .doPop b ch) (M .doPop (abs b) ch)
-      pub spend : (b : N .Store) (p : Parent) (t : ℤ) → Inv b → Good (abs b) → Does (N .doSpend b p t) (M .doSpend (abs b) p t)
-      pub unspend : (b : N .Store) (p : Parent) (t : ℤ) → Inv b → Good (abs b) → Does (N .doUnspend b p t) (M .doUnspend (abs b) p t)
-      pub flush : (b : N .Store) → Inv b → Good (abs b) → Does (N .doFlush b) (M .doFlush (abs b))
+      pub append : (b : N .Store) (ch : Series) (n : ℤ) → Inv b → Good (abs b) → Does (N .append-store b ch n) (M .append-store (abs b) ch n)
+      pub pop : (b : N .Store) (ch : Series) → Inv b → Good (abs b) → DoesPop (N .pop-store b ch) (M .pop-store (abs b) ch)
+      pub spend : (b : N .Store) (p : Parent) (t : ℤ) → Inv b → Good (abs b) → Does (N .spend-store b p t) (M .spend-store (abs b) p t)
+      pub unspend : (b : N .Store) (p : Parent) (t : ℤ) → Inv b → Good (abs b) → Does (N .unspend-store b p t) (M .unspend-store (abs b) p t)
+      pub flush : (b : N .Store) → Inv b → Good (abs b) → Does (N .flush-store b) (M .flush-store (abs b))
 
     abbrev pub Fine : N .Store → Type 0
     Fine b = Inv b × Good (abs b)
@@ -88,49 +88,49 @@ module _ (M N : Machine) where
             let I = s .keeps c e in
             let f = S .shows b (G .0) in
             let g = S .shows c I in
-            let a = L .append-ok (abs b) ch n (abs c) (G .1) t v (map-keeps-done abs (result-of (N .doAppend b ch n)) c (result-of (M .doAppend (abs b) ch n)) (s .same) e) (rw (← f ch) u) in
+            let a = L .append-ok (abs b) ch n (abs c) (G .1) t v (map-keeps-done abs (result-of (N .append-store b ch n)) c (result-of (M .append-store (abs b) ch n)) (s .same) e) (rw (← f ch) u) in
             record { good = (I, a .good); tidy = a .tidy; nonneg = a .nonneg; grown = g ch ∙ a .grown ∙ ap (λ l. l ++ (n ∷ [])) (sym (f ch)); beside = λ d q. g d ∙ a .beside d q ∙ sym (f d) };
         pop-ok = λ b ch c G e.
             let s = S .pop b ch (G .0) (G .1) in
             let I = s .keeps c e in
             let f = S .shows b (G .0) in
             let g = S .shows (c .left) I in
-            let a = L .pop-ok (abs b) ch (mapPop abs c) (G .1) (map-keeps-done (mapPop abs) (result-of (N .doPop b ch)) c (result-of (M .doPop (abs b) ch)) (s .same) e) in
+            let a = L .pop-ok (abs b) ch (map-pop abs c) (G .1) (map-keeps-done (map-pop abs) (result-of (N .pop-store b ch)) c (result-of (M .pop-store (abs b) ch)) (s .same) e) in
             record { good = (I, a .good); last = f ch ∙ a .last ∙ ap (λ l. l ++ (c .value ∷ [])) (sym (g ch)); beside = λ d q. g d ∙ a .beside d q ∙ sym (f d) };
         pop-no = λ b ch k G n e.
             let s = S .pop b ch (G .0) (G .1) in
-            let a = L .pop-no (abs b) ch k (G .1) (λ q. n (S .shows b (G .0) ch ∙ q)) (map-keeps-refused (mapPop abs) (result-of (N .doPop b ch)) k (result-of (M .doPop (abs b) ch)) (s .same) e) in
+            let a = L .pop-no (abs b) ch k (G .1) (λ q. n (S .shows b (G .0) ch ∙ q)) (map-keeps-refused (map-pop abs) (result-of (N .pop-store b ch)) k (result-of (M .pop-store (abs b) ch)) (s .same) e) in
             (a .0, S .deletion-full b (G .0) (a .1));
         spend-ok = λ b p t c G e.
             let s = S .spend b p t (G .0) (G .1) in
             let I = s .keeps c e in
             let f = S .shows b (G .0) in
             let g = S .shows c I in
-            let a = L .spend-ok (abs b) p t (abs c) (G .1) (map-keeps-done abs (result-of (N .doSpend b p t)) c (result-of (M .doSpend (abs b) p t)) (s .same) e) in
+            let a = L .spend-ok (abs b) p t (abs c) (G .1) (map-keeps-done abs (result-of (N .spend-store b p t)) c (result-of (M .spend-store (abs b) p t)) (s .same) e) in
             record { good = (I, a .good); tidy = a .tidy; flip = rw (f (boxes p), g (boxes p)) (a .flip); beside = λ d q. g d ∙ a .beside d q ∙ sym (f d) };
         unspend-ok = λ b p t c G e.
             let s = S .unspend b p t (G .0) (G .1) in
             let I = s .keeps c e in
             let f = S .shows b (G .0) in
             let g = S .shows c I in
-            let a = L .unspend-ok (abs b) p t (abs c) (G .1) (map-keeps-done abs (result-of (N .doUnspend b p t)) c (result-of (M .doUnspend (abs b) p t)) (s .same) e) in
+            let a = L .unspend-ok (abs b) p t (abs c) (G .1) (map-keeps-done abs (result-of (N .unspend-store b p t)) c (result-of (M .unspend-store (abs b) p t)) (s .same) e) in
             record { good = (I, a .good); flip = rw (f (boxes p), g (boxes p)) (a .flip); beside = λ d q. g d ∙ a .beside d q ∙ sym (f d) };
         unspend-no = λ b p t k G T m e.
             let s = S .unspend b p t (G .0) (G .1) in
             let f = S .shows b (G .0) (boxes p) in
-            let a = L .unspend-no (abs b) p t k (G .1) (rw (← f) T) (rw (← f) m) (map-keeps-refused abs (result-of (N .doUnspend b p t)) k (result-of (M .doUnspend (abs b) p t)) (s .same) e) in
+            let a = L .unspend-no (abs b) p t k (G .1) (rw (← f) T) (rw (← f) m) (map-keeps-refused abs (result-of (N .unspend-store b p t)) k (result-of (M .unspend-store (abs b) p t)) (s .same) e) in
             (a .0, S .staging-full b (G .0) (a .1));
         flush-ok = λ b c G e.
             let s = S .flush b (G .0) (G .1) in
             let I = s .keeps c e in
-            let a = L .flush-ok (abs b) (abs c) (G .1) (map-keeps-done abs (result-of (N .doFlush b)) c (result-of (M .doFlush (abs b))) (s .same) e) in
+            let a = L .flush-ok (abs b) (abs c) (G .1) (map-keeps-done abs (result-of (N .flush-store b)) c (result-of (M .flush-store (abs b))) (s .same) e) in
             record { good = (I, a .good); tidy = a .tidy; same = λ ch. S .shows c I ch ∙ a .same ch ∙ sym (S .shows b (G .0) ch) };
         append-25 = λ b ch n G e.
-            L .append-25 (abs b) ch n (G .1) (map-keeps-refused abs (result-of (N .doAppend b ch n)) 25 (result-of (M .doAppend (abs b) ch n)) (S .append b ch n (G .0) (G .1) .same) e);
+            L .append-25 (abs b) ch n (G .1) (map-keeps-refused abs (result-of (N .append-store b ch n)) 25 (result-of (M .append-store (abs b) ch n)) (S .append b ch n (G .0) (G .1) .same) e);
         spend-25 = λ b p t G e.
-            L .spend-25 (abs b) p t (G .1) (map-keeps-refused abs (result-of (N .doSpend b p t)) 25 (result-of (M .doSpend (abs b) p t)) (S .spend b p t (G .0) (G .1) .same) e);
+            L .spend-25 (abs b) p t (G .1) (map-keeps-refused abs (result-of (N .spend-store b p t)) 25 (result-of (M .spend-store (abs b) p t)) (S .spend b p t (G .0) (G .1) .same) e);
         flush-25 = λ b G e.
-            L .flush-25 (abs b) (G .1) (map-keeps-refused abs (result-of (N .doFlush b)) 25 (result-of (M .doFlush (abs b))) (S .flush b (G .0) (G .1) .same) e);
+            L .flush-25 (abs b) (G .1) (map-keeps-refused abs (result-of (N .flush-store b)) 25 (result-of (M .flush-store (abs b))) (S .flush b (G .0) (G .1) .same) e);
         add-25 = L .add-25;
         sub-25 = L .sub-25;
         no-good = L .no-good;
@@ -162,4 +162,4 @@ module _ (M N : Machine) (abs : N .Store → M .Store) (Inv : N .Store → Type 
 
   pub balances-after : (ss : List Mc.Step) → Mc.Legal (lower M N) (Mc.start (lower M N)) ss → Mc.KeysApart (lower M N) (Mc.InUse (lower M N) (Mc.start (lower M N)) ss)
       → (p : Parent) → GoodB (Mc.run (lower M N) (Mc.start (lower M N)) ss .now .bals p)
-  balances-after ss l k = Hi.held-after (lower M N) (λ b. Tidy (abs b)) (λ U. Fine M N abs Inv (Good U)) GoodB lowered ss l k .holds .goodB
+  balances-after ss l k = Hi.held-after (lower M N) (λ b. Tidy (abs b)) (λ U. Fine M N abs Inv (Good U)) GoodB lowered ss l k .holds .good-balance

@@ -22,7 +22,7 @@ use Rattle.buffer_core.specs.Flip.{flip-of, flip-ok, flip-core, flip-effect, in
 use Rattle.buffer_core.specs.Flush.{flush-of, flush-core, flushed, table-after, put-undeleted, put-staged, remove-key, remove-keys, new-count}
 use Rattle.buffer_core.proofs.SmallCalls.{short-records, staged-row-lists, marked-rows, marked-row}
 use Rattle.ledger.specs.Ledger.{Parent, boxes, ite, series-dec, Call}
-use Rattle.ledger.specs.Run.{Made, accepted, refused-leaving, Machine, Step, undo, flush, State, Undone, start, run, runUndo, StepsOk, flat}
+use Rattle.ledger.specs.Run.{Made, accepted, refused-leaving, Machine, Step, undo, flush, State, Undone, start, run, run-undo, StepsOk, flat}
 use Rattle.fork_model.proofs.SmallHistories.{append-box, spend-box, boxes-after}
 use Rattle.history.specs.Index.{Index, index, part, do-flip, do-flush, entries-of}
 use Rattle.history.specs.Machine.{Borrowed}
@@ -55,7 +55,7 @@ module _ (s : Parent → Places) where
 
   abbrev answer-to : State M → List Call → List ℤ
   answer-to σ [] = []
-  answer-to σ (a ∷ cs) = answer-of (runUndo M σ a)
+  answer-to σ (a ∷ cs) = answer-of (run-undo M σ a)
 
   abbrev undo-answer : List Step → List ℤ
   undo-answer ss = answer-to (run M (start M) ss .now) (run M (start M) ss .standing)

@@ -9,16 +9,16 @@ use lib.IntN.{ℤ, pos, natAbs}
 use lib.ListN.{length, take}
 use borrow.Author.Tests.{leb-true, le-leb}
 use Rattle.signed.specs.Sign.{is-negative}
-use Rattle.records.specs.declared.ListCounts.{ListCounts}
+use Rattle.index_types.specs.declared.ListCounts.{ListCounts}
 use Rattle.records.specs.Records.{records, keys}
 use Rattle.records.proofs.CheckLaws.{and-left, and-right, and-true}
 use Rattle.segment_id.specs.declared.Kind.{Kind}
 use Rattle.segment_id.specs.declared.Kind.the-variants.{Box, Tx}
-use Rattle.buffer_core.specs.declared.HeadCounts.{HeadCounts}
+use Rattle.index_types.specs.declared.HeadCounts.{HeadCounts}
 use Rattle.buffer_core.specs.Edition.{Edition, RowRead, bad, good}
 use Rattle.buffer_core.specs.Spills.{head-ok}
 use Rattle.buffer_core.specs.Pop.{lists-ok}
-use Rattle.ledger.specs.Ledger.{Parent, Series, boxes, txs, parentOf, series-dec, ite, id-dec}
+use Rattle.ledger.specs.Ledger.{Parent, Series, boxes, txs, parent-of, series-dec, ite, id-dec}
 use Rattle.fork_model.proofs.Store as St
 use Rattle.history.specs.Index.{Part, part, Index, kind-of, set-part, to-res, id-of}
 use Rattle.history.proofs.Tables.{Bytes, Table, tab}
@@ -84,10 +84,10 @@ module _ (E : Edition) (ids : Parent → List ℕ) (caps : Capacities) where
     enc = λ ch l. E .encode (kind-of ch) l;
     dec = λ ch row. to-res (E .decode (kind-of ch) row);
     redo = redone;
-    tableCap = caps .table;
-    stagCap = caps .staged;
-    delCap = caps .deleted;
-    maxCount = 2147483647;
+    table-cap = caps .table;
+    staged-cap = caps .staged;
+    deleted-cap = caps .deleted;
+    max-count = 2147483647;
   }
 
   abbrev pub abs : Index → St.Store env

@@ -14,7 +14,8 @@ use Rattle.records.specs.Find.{find-from, find-key, is-found}
 use Rattle.records.proofs.Views.{put-at, remove-at}
 use Rattle.stores.proofs.EqualLaws.{same-true}
 use Rattle.records.proofs.KeyLaws.{same-eq, same-false, PutCase, put-cases, replaced, added}
-use Rattle.buffer_core.specs.Flush.{one-if, new-count}
+use Rattle.buffer_core.specs.Flush.{new-count}
+use Rattle.entries.specs.Tally.{one-if}
 use Rattle.ledger.specs.Ledger.{ite, id-dec}
 use Rattle.fork_model.proofs.Table as Tb
 use Rattle.fork_model.proofs.Table.{missing, found}
@@ -110,7 +111,7 @@ abbrev pub remove-found : Found → List Bytes → List Bytes
 remove-found (At i) rs = remove-at [] i rs
 remove-found Nothing rs = rs
 
-last-first : (y : Bytes) (t : List Bytes) → Tb.lastFirst Bytes Bytes id-dec (rec-of y) (tab t) ≡ tab (getD (y ∷ t) (length t) [] ∷ take (length t) (y ∷ t))
+last-first : (y : Bytes) (t : List Bytes) → Tb.newest-first Bytes Bytes id-dec (rec-of y) (tab t) ≡ tab (getD (y ∷ t) (length t) [] ∷ take (length t) (y ∷ t))
 last-first y [] = refl
 last-first y (z ∷ t) = ap (Tb.second Bytes Bytes id-dec (rec-of y)) (last-first z t)
 
@@ -202,11 +203,11 @@ add-is k ks = ite-in k ks (in-dec k ks) ks (ks ++ k ∷ []) ∙ by-case (put-cas
     by-case (added a c d) = rw (d, c)
 
 -- ---- what a flush does
-abbrev pub writeAll : Table → List Bytes → Table → Table
-writeAll t ks table = Tb.writeAll Bytes Bytes id-dec t ks table
+abbrev pub write-all : Table → List Bytes → Table → Table
+write-all t ks table = Tb.write-all Bytes Bytes id-dec t ks table
 
-abbrev pub removeAll : List Bytes → Table → Table
-removeAll ks t = Tb.removeAll Bytes Bytes id-dec ks t
+abbrev pub remove-all : List Bytes → Table → Table
+remove-all ks t = Tb.remove-all Bytes Bytes id-dec ks t
 
 abbrev pub fresh : Table → List Bytes → Table → ℕ
 fresh t ks table = Tb.fresh Bytes Bytes id-dec t ks table

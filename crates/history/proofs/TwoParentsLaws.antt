@@ -53,13 +53,13 @@ unfolding answers run ite series-dec ℕ-discrete append-of append-ok append-cor
 two-parents-answers = refl
 
 -- before the fork the second parent holds what the credit and the debit give, the refused credit nothing, and the spent number is marked
-pub before-nanos : M .nanoOf (run M (start M) (before-the-fork []) .now .bals 1) ≡ pos 6
+pub before-nanos : M .nano-of (run M (start M) (before-the-fork []) .now .bals 1) ≡ pos 6
 unfolding run ite series-dec ℕ-discrete append-of append-ok append-core spill-of records-ok lengths-ok distinct records no-tokens
     flip-of flip-ok flip-core flip-effect in-order in-rows search-by walk-from flush-of flush-core flushed table-after put-undeleted remove-keys new-count lists-ok keys-ok clear-records write
     buffers-ok change-box place-from add-token subtract-token change-tokens closed-up checked same-bytes
 before-nanos = refl
 
-pub before-amount : M .amountOf (run M (start M) (before-the-fork []) .now .bals 1) token-of-sevens ≡ pos 3
+pub before-amount : M .amount-of (run M (start M) (before-the-fork []) .now .bals 1) token-of-sevens ≡ pos 3
 unfolding run ite series-dec id-dec ℕ-discrete append-of append-ok append-core spill-of records-ok lengths-ok distinct records no-tokens
     flip-of flip-ok flip-core flip-effect in-order in-rows search-by walk-from flush-of flush-core flushed table-after put-undeleted remove-keys new-count lists-ok keys-ok clear-records write
     buffers-ok change-box place-from add-token subtract-token change-tokens closed-up checked same-bytes

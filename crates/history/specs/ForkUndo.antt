@@ -8,6 +8,7 @@ use mathlib.Core.List.{List}
 use Prim.Native.Nat.{ℕ, _≤_}
 use lib.IntN.{ℤ, pos}
 use lib.ListN.{length}
+use Rattle.index_types.specs.Limits.{segment-threshold, token-limit, token-id-bytes}
 use Rattle.balance.specs.declared.Balance.{Balance}
 use Rattle.buffer_core.specs.declared.Direction.the-variants.{Spend, Unspend}
 use Rattle.buffer_core.specs.Edition.{Edition, edition-1}
@@ -22,8 +23,8 @@ use Rattle.history.specs.Machine.{Borrowed, start}
 pub record Places : Type 0 where
   pub ids : List ℕ
   pub amounts : List ℤ
-  pub ids-in : length ids ≡ 4096
-  pub amounts-in : length amounts ≡ 128
+  pub ids-in : length ids ≡ token-id-bytes
+  pub amounts-in : length amounts ≡ token-limit
 
 abbrev pub empty-balance : Places → Balance
 empty-balance s = record { ids = s .ids; amounts = s .amounts; count = 0; nanos = pos 0 }
@@ -35,11 +36,11 @@ module _ (E : Edition) (ids : Parent → List ℕ) (B : Borrowed E) (s : Parent 
     empty = start E B;
     -- "append, spend, .. their undos and flush". "Undo means pop, unspend, ..":
     -- append_box_entry and append_tx_entry, pop_box_entry and pop_tx_entry, flip_box_segment_entry, unflip_box_segment_entry, flush_staged_spills
-    doAppend = do-append E ids;
-    doPop = do-pop E ids;
-    doSpend = do-flip E ids Spend;
-    doUnspend = do-flip E ids Unspend;
-    doFlush = do-flush E ids;
+    append-store = do-append E ids;
+    pop-store = do-pop E ids;
+    spend-store = do-flip E ids Spend;
+    unspend-store = do-flip E ids Unspend;
+    flush-store = do-flush E ids;
     -- "spill 0 up with rows as inspection shows them, then the head"
     entries = entries-of E ids;
     -- 16 and 21 name a list that is full: as many records as its capacity
@@ -47,14 +48,14 @@ module _ (E : Edition) (ids : Parent → List ℕ) (B : Borrowed E) (s : Parent 
     DeletionFull = λ b. b .lists .deleted-counts .capacity ≤ b .lists .deleted-counts .count;
     -- "credit, debit" and their undos, "`subtract_box` or `add_box` with the same arguments"
     Bal = Balance;
-    noBal = λ p. empty-balance (s p);
+    no-balance = λ p. empty-balance (s p);
     add = credited;
     sub = debited;
-    nanoOf = λ b. b .nanos;
+    nano-of = λ b. b .nanos;
     -- "an amount per token id (0 if absent)"
-    amountOf = λ b t. amount-in (tokens-in b) t;
+    amount-of = λ b t. amount-in (tokens-in b) t;
     -- a row holds 512 numbers; arguments are signed 64-bit numbers
-    rowSize = 512;
+    row-size = segment-threshold;
     limit = 9223372036854775808;
     -- "Row keys in use": by BLAKE2b of the parent's id, kind and spill number; two parents may have one id
     Key = List ℕ;

@@ -5,26 +5,26 @@ use mathlib.Core.List.{List, [], _++_}
 use Prim.Native.Nat.{ℕ}
 use lib.IntN.{ℤ, pos, natAbs}
 use lib.ListN.{take}
-use Rattle.records.specs.declared.ListCounts.{ListCounts}
+use Rattle.index_types.specs.declared.ListCounts.{ListCounts}
 use Rattle.segment_id.specs.declared.Kind.{Kind}
 use Rattle.segment_id.specs.declared.Kind.the-variants.{Box, Tx}
-use Rattle.buffer_core.specs.declared.HeadCounts.{HeadCounts}
+use Rattle.index_types.specs.declared.HeadCounts.{HeadCounts}
 use Rattle.buffer_core.specs.declared.Direction.{Direction}
-use Rattle.buffer_core.specs.declared.Appended.{Appended}
-use Rattle.buffer_core.specs.declared.Appended.the-variants as appended
-use Rattle.buffer_core.specs.declared.Popped.{Popped}
-use Rattle.buffer_core.specs.declared.Popped.the-variants as popped
-use Rattle.buffer_core.specs.declared.Flipped.{Flipped}
-use Rattle.buffer_core.specs.declared.Flipped.the-variants as flipped
-use Rattle.buffer_core.specs.declared.Flushed.{Flushed}
-use Rattle.buffer_core.specs.declared.Flushed.the-variants as flushed
+use Rattle.index_types.specs.declared.Appended.{Appended}
+use Rattle.index_types.specs.declared.Appended.the-variants as appended
+use Rattle.index_types.specs.declared.Popped.{Popped}
+use Rattle.index_types.specs.declared.Popped.the-variants as popped
+use Rattle.index_types.specs.declared.Flipped.{Flipped}
+use Rattle.index_types.specs.declared.Flipped.the-variants as flipped
+use Rattle.index_types.specs.declared.Flushed.{Flushed}
+use Rattle.index_types.specs.declared.Flushed.the-variants as flushed
 use Rattle.buffer_core.specs.Edition.{Edition, RowRead, bad, good}
 use Rattle.buffer_core.specs.Spills.{Sources, sources, spill-read}
 use Rattle.buffer_core.specs.Append.{Appending, append-of}
 use Rattle.buffer_core.specs.Pop.{Popping, Lists, lists, pop-of}
 use Rattle.buffer_core.specs.Flip.{Flipping, flip-of}
 use Rattle.buffer_core.specs.Flush.{Flushing, flush-of}
-use Rattle.ledger.specs.Ledger.{Parent, Series, boxes, txs, parentOf, series-dec, ite}
+use Rattle.ledger.specs.Ledger.{Parent, Series, boxes, txs, parent-of, series-dec, ite}
 use Rattle.ledger.specs.Run.{Res, done, refused, Made, accepted, refused-leaving}
 use Rattle.ledger.specs.Run as Mc
 
@@ -87,7 +87,7 @@ to-res (good zs) = done zs
 
 module _ (E : Edition) (ids : Parent → List ℕ) where
   abbrev pub id-of : Series → List ℕ
-  id-of ch = ids (parentOf ch)
+  id-of ch = ids (parent-of ch)
 
   abbrev pub appending-to : Index → Series → ℤ → Appending
   appending-to b ch n = append-of E (kind-of ch) (id-of ch) (b .parts ch .head) n (b .lists .staged-counts) (b .parts ch .places) (b .lists .staged)

@@ -3,7 +3,8 @@ use mathlib.Core.List.{List}
 use Prim.Native.Nat.{ℕ, _*_, _≤_}
 use lib.IntN.{ℤ, pos}
 use lib.ListN.{length}
-use Rattle.records.specs.declared.ListCounts.{ListCounts}
+use Rattle.index_types.specs.Limits.{segment-threshold}
+use Rattle.index_types.specs.declared.ListCounts.{ListCounts}
 use Rattle.buffer_core.specs.Edition.{Edition}
 use Rattle.buffer_core.specs.Append.{counts-of}
 use Rattle.buffer_core.specs.Pop.{lists}
@@ -19,7 +20,7 @@ pub record Borrowed (E : Edition) : Type 0 where
   pub table : List ℕ
   pub staged : List ℕ
   pub deleted : List ℕ
-  pub places-in : (ch : Series) → 512 ≤ length (places ch)
+  pub places-in : (ch : Series) → segment-threshold ≤ length (places ch)
   pub table-in : table-cap * E .size ≤ length table
   pub staged-in : staged-cap * E .size ≤ length staged
   pub deleted-in : deleted-cap * 32 ≤ length deleted

@@ -5,6 +5,7 @@ use mathlib.Core.List.{List}
 use Prim.Native.Nat.{ℕ, _≤_, _<_}
 use lib.IntN.{ℤ, natAbs}
 use lib.ListN.{length}
+use Rattle.index_types.specs.Limits.{segment-threshold, token-limit, token-id-bytes}
 use Rattle.signed.specs.Sign.{is-negative}
 use Rattle.balance.specs.declared.Balance.{Balance}
 use Rattle.buffer_core.specs.Edition.{Edition, edition-1}
@@ -28,13 +29,13 @@ pub record Sound (E : Edition) (ids : Parent → List ℕ) (b : Index) : Type 0 
   -- "11 its spill count negative" does not arise
   pub counts : (ch : Series) → is-negative (b .parts ch .head .spills) ≡ false
   -- every row below the spill count can be read, and is full: 12, 1 to 6, 8, 13 for its length and 20 do not arise
-  pub rows : (ch : Series) (n : ℕ) → n < natAbs (b .parts ch .head .spills) → (zs : List ℤ) × (row-of-spill E ids b ch n ≡ done zs) × (length zs ≡ 512)
+  pub rows : (ch : Series) (n : ℕ) → n < natAbs (b .parts ch .head .spills) → (zs : List ℤ) × (row-of-spill E ids b ch n ≡ done zs) × (length zs ≡ segment-threshold)
 
 -- 25 of a credit or a debit: no more tokens than 128 places hold
 pub record SoundBalance (b : Balance) : Type 0 where
-  pub ids : length (b .ids) ≡ 4096
-  pub amounts : length (b .amounts) ≡ 128
-  pub count : b .count ≤ 128
+  pub ids : length (b .ids) ≡ token-id-bytes
+  pub amounts : length (b .amounts) ≡ token-limit
+  pub count : b .count ≤ token-limit
 
 module _ (ids : Parent → List ℕ) (B : Borrowed edition-1) (s : Parent → Places) where
   abbrev pub after : List Step → Run.State (index-machine edition-1 ids B s)

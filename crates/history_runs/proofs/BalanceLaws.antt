@@ -30,7 +30,7 @@ use Rattle.call_steps.specs.Steps.{changed-by, change-of, of-change, step-of}
 use Rattle.call_steps.proofs.StateLaws.{kind-few}
 use Rattle.buffer_core.proofs.RefusedLaws.{both}
 use Rattle.call_steps.proofs.KeepLaws.{within}
-use Rattle.ledger.specs.Ledger.{Parent, parent-dec, Series, parentOf, ite, Tokens, Typed}
+use Rattle.ledger.specs.Ledger.{Parent, parent-dec, Series, parent-of, ite, Tokens, Typed}
 use Rattle.ledger.specs.Run.{Made}
 use Rattle.balance_laws.specs.Calls.{ids-of, amounts-of, answered, outcome-of}
 use Rattle.balance_laws.proofs.Turns.{Fits}
@@ -142,11 +142,11 @@ module _ (s : State) (p : ℕ) (w : Within p (s .ids) (s .numbers) (s .lengths) 
     put-view =
         λ x.
         index (λ d.
-        part (counts-of (getD-set-other (s .lengths) (p * 3 + 2) (length-at (kind-of d) (parentOf d)) (c .count) 0 (apart d) x)
-        (getD (s .spills) (spills-at (kind-of d) (parentOf d)) (pos 0)))
-        (numbers-part (head-at (kind-of d) (parentOf d)) 512 (amounts-head (kind-of d) p (parentOf d)) x)) (s .lists)
+        part (counts-of (getD-set-other (s .lengths) (p * 3 + 2) (length-at (kind-of d) (parent-of d)) (c .count) 0 (apart d) x)
+        (getD (s .spills) (spills-at (kind-of d) (parent-of d)) (pos 0)))
+        (numbers-part (head-at (kind-of d) (parent-of d)) 512 (amounts-head (kind-of d) p (parent-of d)) x)) (s .lists)
       where
-        apart : (d : Series) → length-at (kind-of d) (parentOf d) ≡ p * 3 + 2 → ⊥
+        apart : (d : Series) → length-at (kind-of d) (parent-of d) ≡ p * 3 + 2 → ⊥
         apart d e = omega (arith, kind-few (kind-of d), e)
 
     put-ids : ids-in (put c) ≡ ids-in s

@@ -18,7 +18,7 @@ use Rattle.call_steps.specs.State.{State, Ready}
 use Rattle.call_steps.specs.Steps.{Stepping, number-popped, step-of}
 use Rattle.call_steps.specs.Steps as steps
 use Rattle.call_steps.proofs.KeepLaws.{step-kept}
-use Rattle.ledger.specs.Ledger.{Parent, parent-dec, Series, boxes, parentOf, Tokens, ite, append, spend, credit, debit, absℤ, amount-in}
+use Rattle.ledger.specs.Ledger.{Parent, parent-dec, Series, boxes, parent-of, Tokens, ite, append, spend, credit, debit, absℤ, amount-in}
 use Rattle.ledger.specs.Ledger as ledger
 use Rattle.ledger.specs.Run.{Made, accepted, refused-leaving, Leaves, RefusalsLeave, Step, call, undo, flush, flat, negs}
 use Rattle.ledger.specs.Run as Run
@@ -71,7 +71,7 @@ module _ (parents : ℕ) (ids : Parent → List ℕ) (B : Borrowed edition-1) (p
     left : (t : State) (τ : Run.State W) → t ≡ s → τ ≡ σ → H τ t
     left t τ e q = subst (λ (x : Run.State W). H x t) (sym q) (subst (H σ) (sym e) h)
 
-    store-after : (x : Stepping) → Ready parents (x .after) → (R Q : Made Index Index) → Same s x R → NearRes parents R Q → Leaves (σ .store) Q → After x (Run.withStore W σ Q)
+    store-after : (x : Stepping) → Ready parents (x .after) → (R Q : Made Index Index) → Same s x R → NearRes parents R Q → Leaves (σ .store) Q → After x (Run.with-store W σ Q)
     store-after x r (accepted b) (accepted c) e n z =
         let v : view (x .after) ≡ b = e .1 in
         let w : balance-in (x .after) ≡ balance-in s = e .2 in
@@ -107,7 +107,7 @@ module _ (parents : ℕ) (ids : Parent → List ℕ) (B : Borrowed edition-1) (p
     pop-after x r (refused-leaving j b) (accepted c) e n z = absurd n
     pop-after x r (refused-leaving j b) (refused-leaving k c) e n z = (e .0 ∙ ap steps.refused n, left (x .after) (Run.stored W σ c) (e .1) (ap (Run.stored W σ) z))
 
-    balance-after : (p : Parent) (x : Stepping) → Ready parents (x .after) → (R : Made Balance Balance) → SameBalance s p x R → Leaves (σ .bals p) R → After x (Run.withBal W σ p R)
+    balance-after : (p : Parent) (x : Stepping) → Ready parents (x .after) → (R : Made Balance Balance) → SameBalance s p x R → Leaves (σ .bals p) R → After x (Run.with-balance W σ p R)
     balance-after p x r (accepted b) e z =
         let w = e .1 in
         let v : view (x .after) ≡ view s = e .2 in
@@ -124,81 +124,81 @@ module _ (parents : ℕ) (ids : Parent → List ℕ) (B : Borrowed edition-1) (p
     balance-after p x r (refused-leaving k b) e z = (e .0, left (x .after) (Run.paid W σ p b) (e .1) (ap (Run.paid W σ p) z ∙ paid-back W σ p))
 
     changes : (adding : Bool) (p : Parent) (n : ℤ) (ts : Tokens) (x : Call) → Changes parents adding p n ts x
-        → After (step-of edition-1 x s) (Run.withBal W σ p (changed adding (σ .bals p) n ts))
+        → After (step-of edition-1 x s) (Run.with-balance W σ p (changed adding (σ .bals p) n ts))
     changes adding p n ts x c =
         let y = Change adding p n (c .token) (c .amount) in
         let a = balance-after p (step-of edition-1 y s) (step-kept parents s (h .ready) y (c .among)) (changed adding (balance-in s p) n (one-token (c .token) (c .amount)))
         (change-same parents s (h .ready) adding p (c .among) n (c .token) (c .amount) (c .small)) (subst (λ (z : Balance). Leaves z (changed adding (balance-in s p) n (one-token (c .token) (c .amount)))) (h .balances p (c .among))
         (changed-leaves adding (balance-in s p) n (one-token (c .token) (c .amount)))) in
-        subst (λ (z : Call). After (step-of edition-1 z s) (Run.withBal W σ p (changed adding (σ .bals p) n ts))) (sym (c .is))
-        (subst (λ (R : Made Balance Balance). After (step-of edition-1 y s) (Run.withBal W σ p R)) (λ i. changed adding (h .balances p (c .among) i) n (sym (c .one) i)) a)
+        subst (λ (z : Call). After (step-of edition-1 z s) (Run.with-balance W σ p (changed adding (σ .bals p) n ts))) (sym (c .is))
+        (subst (λ (R : Made Balance Balance). After (step-of edition-1 y s) (Run.with-balance W σ p R)) (λ i. changed adding (h .balances p (c .among) i) n (sym (c .one) i)) a)
 
     abbrev did : Call → Stepping
     did x = step-of edition-1 x s
 
-    appends : (ch : Series) → parentOf ch < parents → (n : ℤ) → After (did (Append (kind-of ch) (parentOf ch) n)) (Run.runCall W σ (append ch n))
+    appends : (ch : Series) → parent-of ch < parents → (n : ℤ) → After (did (Append (kind-of ch) (parent-of ch) n)) (Run.run-call W σ (append ch n))
     appends ch l n =
-        let x = Append (kind-of ch) (parentOf ch) n in
+        let x = Append (kind-of ch) (parent-of ch) n in
         store-after (did x) (step-kept parents s (h .ready) x l) (do-append edition-1 (ids-in s) (view s) ch n) (do-append edition-1 ids (σ .store) ch n)
-        (append-same parents s (h .ready) ch l n) (append-near parents (ids-in s) ids (view s) (σ .store) near ch l (h .names (parentOf ch) l) n) (leaves .appends (σ .store) ch n)
+        (append-same parents s (h .ready) ch l n) (append-near parents (ids-in s) ids (view s) (σ .store) near ch l (h .names (parent-of ch) l) n) (leaves .appends (σ .store) ch n)
 
-    flips : (d : Direction) (p : Parent) → p < parents → (t : ℤ) → After (did (Flip d p t)) (Run.withStore W σ (do-flip edition-1 ids d (σ .store) p t))
+    flips : (d : Direction) (p : Parent) → p < parents → (t : ℤ) → After (did (Flip d p t)) (Run.with-store W σ (do-flip edition-1 ids d (σ .store) p t))
     flips d p l t =
         store-after (did (Flip d p t)) (step-kept parents s (h .ready) (Flip d p t) l) (do-flip edition-1 (ids-in s) d (view s) p t)
         (do-flip edition-1 ids d (σ .store) p t) (flip-same parents s (h .ready) d p l t)
         (flip-near parents (ids-in s) ids (view s) (σ .store) near p l (h .names p l) d t) (flip-leaves edition-1 ids (σ .store) p d t)
 
-    pops : (ch : Series) → parentOf ch < parents → (n : ℤ) → AfterUndo (did (Pop (kind-of ch) (parentOf ch))) (Run.runUndo W σ (append ch n))
+    pops : (ch : Series) → parent-of ch < parents → (n : ℤ) → AfterUndo (did (Pop (kind-of ch) (parent-of ch))) (Run.run-undo W σ (append ch n))
     pops ch l n =
-        let x = Pop (kind-of ch) (parentOf ch) in
+        let x = Pop (kind-of ch) (parent-of ch) in
         pop-after (did x) (step-kept parents s (h .ready) x l) (do-pop edition-1 (ids-in s) (view s) ch) (do-pop edition-1 ids (σ .store) ch)
-        (pop-same parents s (h .ready) ch l) (pop-near parents (ids-in s) ids (view s) (σ .store) near ch l (h .names (parentOf ch) l)) (leaves .pops (σ .store) ch)
+        (pop-same parents s (h .ready) ch l) (pop-near parents (ids-in s) ids (view s) (σ .store) near ch l (h .names (parent-of ch) l)) (leaves .pops (σ .store) ch)
 
-    pub call-after : (a : ledger.Call) (x : Call) → Makes parents a x → After (did x) (Run.runCall W σ a)
-    call-after (append ch n) x m = subst (λ (z : Call). After (did z) (Run.runCall W σ (append ch n))) (sym (m .1)) (appends ch (m .0) n)
-    call-after (spend p t) x m = subst (λ (z : Call). After (did z) (Run.runCall W σ (spend p t))) (sym (m .1)) (flips Spend p (m .0) t)
+    pub call-after : (a : ledger.Call) (x : Call) → Makes parents a x → After (did x) (Run.run-call W σ a)
+    call-after (append ch n) x m = subst (λ (z : Call). After (did z) (Run.run-call W σ (append ch n))) (sym (m .1)) (appends ch (m .0) n)
+    call-after (spend p t) x m = subst (λ (z : Call). After (did z) (Run.run-call W σ (spend p t))) (sym (m .1)) (flips Spend p (m .0) t)
     call-after (credit p n ts) x m = changes true p n ts x m
     call-after (debit p n ts) x m = changes false p n ts x m
 
-    pub undo-after : (a : ledger.Call) (x : Call) → Unmakes parents a x → AfterUndo (did x) (Run.runUndo W σ a)
-    undo-after (append ch n) x m = subst (λ (z : Call). AfterUndo (did z) (Run.runUndo W σ (append ch n))) (sym (m .1)) (pops ch (m .0) n)
+    pub undo-after : (a : ledger.Call) (x : Call) → Unmakes parents a x → AfterUndo (did x) (Run.run-undo W σ a)
+    undo-after (append ch n) x m = subst (λ (z : Call). AfterUndo (did z) (Run.run-undo W σ (append ch n))) (sym (m .1)) (pops ch (m .0) n)
     undo-after (spend p t) x m =
-        subst (λ (z : Call). AfterUndo (did z) (Run.runUndo W σ (spend p t))) (sym (m .1))
-        (quiet-after (did (Flip Unspend p t)) (Run.withStore W σ (do-flip edition-1 ids Unspend (σ .store) p t)) (flips Unspend p (m .0) t))
-    undo-after (credit p n ts) x m = quiet-after (did x) (Run.withBal W σ p (changed false (σ .bals p) n ts)) (changes false p n ts x m)
-    undo-after (debit p n ts) x m = quiet-after (did x) (Run.withBal W σ p (changed true (σ .bals p) n ts)) (changes true p n ts x m)
+        subst (λ (z : Call). AfterUndo (did z) (Run.run-undo W σ (spend p t))) (sym (m .1))
+        (quiet-after (did (Flip Unspend p t)) (Run.with-store W σ (do-flip edition-1 ids Unspend (σ .store) p t)) (flips Unspend p (m .0) t))
+    undo-after (credit p n ts) x m = quiet-after (did x) (Run.with-balance W σ p (changed false (σ .bals p) n ts)) (changes false p n ts x m)
+    undo-after (debit p n ts) x m = quiet-after (did x) (Run.with-balance W σ p (changed true (σ .bals p) n ts)) (changes true p n ts x m)
 
-    pub flush-after : After (did Flush) (Run.withStore W σ (do-flush edition-1 ids (σ .store)))
+    pub flush-after : After (did Flush) (Run.with-store W σ (do-flush edition-1 ids (σ .store)))
     flush-after =
         store-after (did Flush) (step-kept parents s (h .ready) Flush tt) (do-flush edition-1 (ids-in s) (view s)) (do-flush edition-1 ids (σ .store)) (flush-same s)
         (flush-near parents (ids-in s) ids (view s) (σ .store) near) (leaves .flushes (σ .store))
 
   -- ---- a step of the list
 
-  call-holds : (c : Run.Conf W) (a : ledger.Call) (x : Stepping) (R : Made (Run.State W) (Run.State W)) → After x R → H (Run.afterCall W c a R .now) (x .after)
+  call-holds : (c : Run.Conf W) (a : ledger.Call) (x : Stepping) (R : Made (Run.State W) (Run.State W)) → After x R → H (Run.after-call W c a R .now) (x .after)
   call-holds c a x (accepted τ) e = e .1
   call-holds c a x (refused-leaving k τ) e = e .1
 
-  undo-holds : (c : Run.Conf W) (cs : List ledger.Call) (x : Stepping) (R : Made (Run.State W) (Run.Undone W)) → AfterUndo x R → H (Run.afterUndo W c cs R .now) (x .after)
+  undo-holds : (c : Run.Conf W) (cs : List ledger.Call) (x : Stepping) (R : Made (Run.State W) (Run.Undone W)) → AfterUndo x R → H (Run.after-undo W c cs R .now) (x .after)
   undo-holds c cs x (accepted u) e = e .1
   undo-holds c cs x (refused-leaving k τ) e = e .1
 
-  flush-holds : (c : Run.Conf W) (x : Stepping) (R : Made (Run.State W) (Run.State W)) → After x R → H (Run.afterFlush W c R .now) (x .after)
+  flush-holds : (c : Run.Conf W) (x : Stepping) (R : Made (Run.State W) (Run.State W)) → After x R → H (Run.after-flush W c R .now) (x .after)
   flush-holds c x (accepted τ) e = e .1
   flush-holds c x (refused-leaving k τ) e = e .1
 
   newest-holds : (c : Run.Conf W) (s : State) → H (c .now) s → (l : List ledger.Call) (x : Call) → UnmakesNewest parents l x
-      → H (Run.undoNewest W c l .now) (step-of edition-1 x s .after)
+      → H (Run.newest-undone W c l .now) (step-of edition-1 x s .after)
   newest-holds c s h [] x m = absurd m
-  newest-holds c s h (a ∷ cs) x m = undo-holds c cs (step-of edition-1 x s) (Run.runUndo W (c .now) a) (undo-after (c .now) s h a x m)
+  newest-holds c s h (a ∷ cs) x m = undo-holds c cs (step-of edition-1 x s) (Run.run-undo W (c .now) a) (undo-after (c .now) s h a x m)
 
   pub step-holds : (c : Run.Conf W) (s : State) → H (c .now) s → (t : Step) (x : Call) → Tells parents ids B places c t x
       → H (Run.step W c t .now) (step-of edition-1 x s .after)
-  step-holds c s h (call a) x m = call-holds c a (step-of edition-1 x s) (Run.runCall W (c .now) a) (call-after (c .now) s h a x m)
+  step-holds c s h (call a) x m = call-holds c a (step-of edition-1 x s) (Run.run-call W (c .now) a) (call-after (c .now) s h a x m)
   step-holds c s h undo x m = newest-holds c s h (c .standing) x m
   step-holds c s h flush x m =
       subst (λ (z : Call). H (Run.step W c flush .now) (step-of edition-1 z s .after)) (sym m)
-      (flush-holds c (step-of edition-1 Flush s) (Run.withStore W (c .now) (do-flush edition-1 ids (c .now .store))) (flush-after (c .now) s h))
+      (flush-holds c (step-of edition-1 Flush s) (Run.with-store W (c .now) (do-flush edition-1 ids (c .now .store))) (flush-after (c .now) s h))
 
   -- ---- the list
   pub run-holds : (ts : List Step) (xs : List Call) (c : Run.Conf W) (s : State) → H (c .now) s → Spells parents ids B places c ts xs → H (Run.run W c ts .now) (made xs s)
@@ -213,20 +213,20 @@ module _ (parents : ℕ) (ids : Parent → List ℕ) (B : Borrowed edition-1) (p
   after-said x (accepted τ) e = e .0
   after-said x (refused-leaving k τ) e = e .0
 
-  undone-said : (x : Stepping) (R : Made (Run.State W) (Run.Undone W)) → AfterUndo x R → x .said ≡ says-of (Run.undoSaid W R)
+  undone-said : (x : Stepping) (R : Made (Run.State W) (Run.Undone W)) → AfterUndo x R → x .said ≡ says-of (Run.said-undo W R)
   undone-said x (accepted u) e = e .0
   undone-said x (refused-leaving k τ) e = e .0
 
-  newest-heard : (c : Run.Conf W) (s : State) → H (c .now) s → (l : List ledger.Call) (x : Call) → UnmakesNewest parents l x → step-of edition-1 x s .said ≡ says-of (Run.newestSaid W c l)
+  newest-heard : (c : Run.Conf W) (s : State) → H (c .now) s → (l : List ledger.Call) (x : Call) → UnmakesNewest parents l x → step-of edition-1 x s .said ≡ says-of (Run.said-newest W c l)
   newest-heard c s h [] x m = absurd m
-  newest-heard c s h (a ∷ cs) x m = undone-said (step-of edition-1 x s) (Run.runUndo W (c .now) a) (undo-after (c .now) s h a x m)
+  newest-heard c s h (a ∷ cs) x m = undone-said (step-of edition-1 x s) (Run.run-undo W (c .now) a) (undo-after (c .now) s h a x m)
 
-  step-heard : (c : Run.Conf W) (s : State) → H (c .now) s → (t : Step) (x : Call) → Tells parents ids B places c t x → step-of edition-1 x s .said ≡ says-of (Run.answerTo W c t)
-  step-heard c s h (call a) x m = after-said (step-of edition-1 x s) (Run.runCall W (c .now) a) (call-after (c .now) s h a x m)
+  step-heard : (c : Run.Conf W) (s : State) → H (c .now) s → (t : Step) (x : Call) → Tells parents ids B places c t x → step-of edition-1 x s .said ≡ says-of (Run.answer-to W c t)
+  step-heard c s h (call a) x m = after-said (step-of edition-1 x s) (Run.run-call W (c .now) a) (call-after (c .now) s h a x m)
   step-heard c s h undo x m = newest-heard c s h (c .standing) x m
   step-heard c s h flush x m =
       ap (λ (z : Call). step-of edition-1 z s .said) m
-      ∙ after-said (step-of edition-1 Flush s) (Run.withStore W (c .now) (do-flush edition-1 ids (c .now .store))) (flush-after (c .now) s h)
+      ∙ after-said (step-of edition-1 Flush s) (Run.with-store W (c .now) (do-flush edition-1 ids (c .now .store))) (flush-after (c .now) s h)
 
   -- what the runner says is what the steps answer
   pub run-heard : (ts : List Step) (xs : List Call) (c : Run.Conf W) (s : State) → H (c .now) s → Spells parents ids B places c ts xs → heard xs s ≡ map says-of (Run.answers W c ts)
@@ -249,7 +249,7 @@ module _ (parents : ℕ) (ids : Parent → List ℕ) (B : Borrowed edition-1) (p
   newest-said : (c : Run.Conf W) (s : State) → H (c .now) s → (l : List ledger.Call) (x : Call) → UnmakesNewest parents l x → Run.NewestOk W c l
       → UndoSaid parents ids B places l s (step-of edition-1 x s .said)
   newest-said c s h [] x m k = tt
-  newest-said c s h (a ∷ cs) x m k = undo-said (c .now) s h a cs (step-of edition-1 x s) (Run.runUndo W (c .now) a) (undo-after (c .now) s h a x m) k
+  newest-said c s h (a ∷ cs) x m k = undo-said (c .now) s h a cs (step-of edition-1 x s) (Run.run-undo W (c .now) a) (undo-after (c .now) s h a x m) k
 
   step-said : (c : Run.Conf W) (s : State) → H (c .now) s → (t : Step) (x : Call) → Tells parents ids B places c t x → Run.StepOk W c t
       → StepSaid parents ids B places c t s (step-of edition-1 x s .said)
@@ -266,10 +266,10 @@ module _ (parents : ℕ) (ids : Parent → List ℕ) (B : Borrowed edition-1) (p
       (step-said c s h t x (m .0) (k .0), run-said ts xs (Run.step W c t) (step-of edition-1 x s .after) (step-holds c s h t x (m .0)) (m .1) (k .1))
 
   -- ---- what the state holds
-  entries-same : (σ : Run.State W) (s : State) → H σ s → (ch : Series) → parentOf ch < parents
+  entries-same : (σ : Run.State W) (s : State) → H σ s → (ch : Series) → parent-of ch < parents
       → entries-of edition-1 (ids-in s) (view s) ch ≡ entries-of edition-1 ids (σ .store) ch
   entries-same σ s h ch l =
-      let n = h .names (parentOf ch) l in
+      let n = h .names (parent-of ch) l in
       let q = h .parts ch l in
       let b = h .lists in
       λ i.

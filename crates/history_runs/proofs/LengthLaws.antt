@@ -8,10 +8,10 @@ use lib.IntN.{ℤ, pos, natAbs, negℤ}
 use lib.ListN.{length, take, getD, length-set}
 use Rattle.stores.proofs.StoreLaws.{length-write}
 use Rattle.signed.specs.Sign.{is-negative}
-use Rattle.records.specs.declared.ListCounts.{ListCounts}
+use Rattle.index_types.specs.declared.ListCounts.{ListCounts}
 use Rattle.records.specs.Changes.{full-for}
 use Rattle.segment_id.specs.declared.Kind.{Kind}
-use Rattle.buffer_core.specs.declared.HeadCounts.{HeadCounts}
+use Rattle.index_types.specs.declared.HeadCounts.{HeadCounts}
 use Rattle.buffer_core.specs.Append.{Appending, spilled, spill-of, append-core, append-ok, append-of}
 use Rattle.segment_id.specs.Key.{row-key}
 use Rattle.segment_core.specs.Loading.{padded}

@@ -3,22 +3,22 @@ use mathlib.Core.Path.{_≡_, refl, sym, ap, subst}
 use mathlib.Core.List.{List}
 use Prim.Native.Nat.{ℕ, _<_}
 use lib.IntN.{ℤ}
-use Rattle.records.specs.declared.ListCounts.{ListCounts}
+use Rattle.index_types.specs.declared.ListCounts.{ListCounts}
 use Rattle.buffer_core.specs.declared.Direction.{Direction}
-use Rattle.buffer_core.specs.declared.Appended.{Appended}
-use Rattle.buffer_core.specs.declared.Appended.the-variants as appended
-use Rattle.buffer_core.specs.declared.Popped.{Popped}
-use Rattle.buffer_core.specs.declared.Popped.the-variants as popped
-use Rattle.buffer_core.specs.declared.Flipped.{Flipped}
-use Rattle.buffer_core.specs.declared.Flipped.the-variants as flipped
-use Rattle.buffer_core.specs.declared.Flushed.{Flushed}
-use Rattle.buffer_core.specs.declared.Flushed.the-variants as flushed
+use Rattle.index_types.specs.declared.Appended.{Appended}
+use Rattle.index_types.specs.declared.Appended.the-variants as appended
+use Rattle.index_types.specs.declared.Popped.{Popped}
+use Rattle.index_types.specs.declared.Popped.the-variants as popped
+use Rattle.index_types.specs.declared.Flipped.{Flipped}
+use Rattle.index_types.specs.declared.Flipped.the-variants as flipped
+use Rattle.index_types.specs.declared.Flushed.{Flushed}
+use Rattle.index_types.specs.declared.Flushed.the-variants as flushed
 use Rattle.buffer_core.specs.Edition.{edition-1}
 use Rattle.buffer_core.specs.Append.{Appending, append-of}
 use Rattle.buffer_core.specs.Pop.{Popping, Lists, lists, pop-of}
 use Rattle.buffer_core.specs.Flip.{Flipping, flip-of}
 use Rattle.buffer_core.specs.Flush.{Flushing, flush-of}
-use Rattle.ledger.specs.Ledger.{Parent, Series, boxes, parentOf, series-dec, ite}
+use Rattle.ledger.specs.Ledger.{Parent, Series, boxes, parent-of, series-dec, ite}
 use Rattle.ledger.specs.Run.{Made, accepted, refused-leaving}
 use Rattle.ledger.specs.Run as Run
 use Rattle.history.specs.Index.{Part, part, Index, index, kind-of, set-part, with-staged, after-append, after-pop, after-flip, after-flush, appending-to, popping-from, flipping-in, do-append, do-pop, do-flip, do-flush}
@@ -26,7 +26,7 @@ use Rattle.history.specs.Index.{Part, part, Index, index, kind-of, set-part, wi
 module _ (parents : ℕ) where
   -- the same parts of the first parents, and the same lists
   pub record Near (b c : Index) : Type 0 where
-    pub parts : (ch : Series) → parentOf ch < parents → b .parts ch ≡ c .parts ch
+    pub parts : (ch : Series) → parent-of ch < parents → b .parts ch ≡ c .parts ch
     pub lists : b .lists ≡ c .lists
 
   abbrev pub NearRes : Made Index Index → Made Index Index → Type 0
@@ -48,7 +48,7 @@ module _ (parents : ℕ) where
     near-lists : (x : ListCounts) (staged : List ℕ) → with-staged x staged (b .lists) ≡ with-staged x staged (c .lists)
     near-lists x staged = ap (with-staged x staged) (N .lists)
 
-    module _ (ch : Series) (h : parentOf ch < parents) (named : names (parentOf ch) ≡ ids (parentOf ch)) where
+    module _ (ch : Series) (h : parent-of ch < parents) (named : names (parent-of ch) ≡ ids (parent-of ch)) where
       append-answer : (a : Appended) (head : List ℤ) (staged : List ℕ) → NearRes (after-append b ch a head staged) (after-append c ch a head staged)
       append-answer (appended.Done n x) head staged = near-set ch (part n head) (part n head) _ _ refl (near-lists x staged)
       append-answer (appended.Refused code) head staged = refl

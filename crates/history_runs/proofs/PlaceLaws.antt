@@ -14,7 +14,7 @@ use Rattle.stores.proofs.StoreLaws.{part-at}
 use Rattle.segment_id.specs.declared.Kind.{Kind}
 use Rattle.call_steps.specs.State.{head-at, length-at, spills-at}
 use Rattle.call_steps.proofs.StateLaws.{kind-few}
-use Rattle.ledger.specs.Ledger.{Series, boxes, txs, parentOf}
+use Rattle.ledger.specs.Ledger.{Series, boxes, txs, parent-of}
 use Rattle.history.specs.Index.{kind-of}
 
 -- ---- lists
@@ -81,7 +81,7 @@ module _ {A : Type 0} where
 -- ---- the places of two series
 
 abbrev pub Other : Series → Series → Type 0
-Other ch d = spills-at (kind-of d) (parentOf d) ≡ spills-at (kind-of ch) (parentOf ch) → ⊥
+Other ch d = spills-at (kind-of d) (parent-of d) ≡ spills-at (kind-of ch) (parent-of ch) → ⊥
 
 pub other : (ch d : Series) → (ch ≡ d → ⊥) → Other ch d
 other (boxes p) (boxes q) f e = f (ap boxes (omega (arith, e)))
@@ -90,14 +90,14 @@ other (txs p) (boxes q) f e = omega (arith, e)
 other (txs p) (txs q) f e = f (ap txs (omega (arith, e)))
 
 module _ (ch d : Series) (f : Other ch d) where
-  pub lengths-apart : length-at (kind-of d) (parentOf d) ≡ length-at (kind-of ch) (parentOf ch) → ⊥
+  pub lengths-apart : length-at (kind-of d) (parent-of d) ≡ length-at (kind-of ch) (parent-of ch) → ⊥
   lengths-apart e = f (omega (arith, e, kind-few (kind-of d), kind-few (kind-of ch)))
 
-  pub heads-apart : Clear (head-at (kind-of ch) (parentOf ch)) 512 (head-at (kind-of d) (parentOf d)) 512
-  heads-apart = by-order (decLe (head-at (kind-of d) (parentOf d) + 512) (head-at (kind-of ch) (parentOf ch))) (decLe (head-at (kind-of ch) (parentOf ch) + 512) (head-at (kind-of d) (parentOf d)))
+  pub heads-apart : Clear (head-at (kind-of ch) (parent-of ch)) 512 (head-at (kind-of d) (parent-of d)) 512
+  heads-apart = by-order (decLe (head-at (kind-of d) (parent-of d) + 512) (head-at (kind-of ch) (parent-of ch))) (decLe (head-at (kind-of ch) (parent-of ch) + 512) (head-at (kind-of d) (parent-of d)))
     where
-      by-order : Dec (head-at (kind-of d) (parentOf d) + 512 ≤ head-at (kind-of ch) (parentOf ch)) → Dec (head-at (kind-of ch) (parentOf ch) + 512 ≤ head-at (kind-of d) (parentOf d))
-          → Clear (head-at (kind-of ch) (parentOf ch)) 512 (head-at (kind-of d) (parentOf d)) 512
+      by-order : Dec (head-at (kind-of d) (parent-of d) + 512 ≤ head-at (kind-of ch) (parent-of ch)) → Dec (head-at (kind-of ch) (parent-of ch) + 512 ≤ head-at (kind-of d) (parent-of d))
+          → Clear (head-at (kind-of ch) (parent-of ch)) 512 (head-at (kind-of d) (parent-of d)) 512
       by-order (yes h) x = inl h
       by-order (no h) (yes g) = inr g
       by-order (no h) (no g) = absurd (f (omega (arith, h, g, kind-few (kind-of d), kind-few (kind-of ch))))

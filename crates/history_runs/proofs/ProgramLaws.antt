@@ -26,7 +26,7 @@ use Rattle.runner.proofs.PieceLaws.{call-shifts}
 use Rattle.call_runs.specs.Made.{Stand}
 use Rattle.call_runs.specs.Delivered.{starting, Told}
 use Rattle.call_runs.proofs.AlongLaws.{along-all}
-use Rattle.ledger.specs.Ledger.{Parent, parentOf}
+use Rattle.ledger.specs.Ledger.{Parent, parent-of}
 use Rattle.ledger.specs.Ledger as ledger
 use Rattle.ledger.specs.Run.{Step}
 use Rattle.ledger.specs.Run as Mc
@@ -106,7 +106,7 @@ starting-empty =
               in-deleted = none-keys 2 (replicate 64 0) (omega (arith, deleted));
             });
       };
-      parts = λ ch h. (λ i. counts-of (length-zero (kind-of ch) (parentOf ch) h i) (spills-zero (kind-of ch) (parentOf ch) h i));
+      parts = λ ch h. (λ i. counts-of (length-zero (kind-of ch) (parent-of ch) h i) (spills-zero (kind-of ch) (parent-of ch) h i));
       staged = refl;
       table = refl;
       deleted = refl;

@@ -6,14 +6,14 @@ use native.Mathlib.Omega.{arith}
 use native.Mathlib.Decide.{decLt}
 use lib.IntN.{ℤ, pos}
 use lib.ListN.{length, replicate, length-replicate}
-use Rattle.records.specs.declared.ListCounts.{ListCounts}
+use Rattle.index_types.specs.declared.ListCounts.{ListCounts}
 use Rattle.buffer_core.specs.Edition.{edition-1}
 use Rattle.buffer_core.specs.Pop.{lists}
 use Rattle.buffer_core.proofs.ListLaws.{lists-fit}
 use Rattle.calls.specs.declared.Call.{Call}
 use Rattle.call_steps.specs.State.{State}
 use Rattle.call_steps.proofs.KeepLaws.{within}
-use Rattle.ledger.specs.Ledger.{Parent, Series, parentOf, ite}
+use Rattle.ledger.specs.Ledger.{Parent, Series, parent-of, ite}
 use Rattle.ledger.specs.Run.{Step}
 use Rattle.ledger.specs.Run as Run
 use Rattle.ledger.proofs.TestLaws.{ite-yes}
@@ -29,10 +29,10 @@ use Rattle.history_runs.proofs.HoldLaws.{fork-undo-runs}
 module _ (parents : ℕ) (places : Parent → Places) (s : State) (E : Empty parents places s) where
   pub lent-long : (ch : Series) → 512 ≤ length (lent parents s ch)
   unfolding ite
-  lent-long ch = by-parent (decLt (parentOf ch) parents)
+  lent-long ch = by-parent (decLt (parent-of ch) parents)
     where
-      by-parent : (t : Dec (parentOf ch < parents)) → 512 ≤ length (ite t (part-in s ch .places) (replicate 512 (pos 0)))
-      by-parent (yes h) = omega (arith, head-long s ch (within parents s (E .ready) (parentOf ch) h))
+      by-parent : (t : Dec (parent-of ch < parents)) → 512 ≤ length (ite t (part-in s ch .places) (replicate 512 (pos 0)))
+      by-parent (yes h) = omega (arith, head-long s ch (within parents s (E .ready) (parent-of ch) h))
       by-parent (no h) = omega (arith, length-replicate {A = ℤ} 512 (pos 0))
 
   -- what the machine of the theorem borrows is what the state lends
@@ -63,7 +63,7 @@ module _ (parents : ℕ) (places : Parent → Places) (s : State) (E : Empty par
       record {
         ready = E .ready;
         names = λ p h. refl;
-        parts = λ ch h. (λ i. part (E .parts ch h i) (sym (ite-yes (decLt (parentOf ch) parents) (part-in s ch .places) (replicate 512 (pos 0)) h) i));
+        parts = λ ch h. (λ i. part (E .parts ch h i) (sym (ite-yes (decLt (parent-of ch) parents) (part-in s ch .places) (replicate 512 (pos 0)) h) i));
         lists = λ i. lists (none (b .staged-counts) (E .staged) i) (b .staged) (none (b .table-counts) (E .table) i) (b .table) (none (b .deleted-counts) (E .deleted) i) (b .deleted);
         balances = E .balances;
       }

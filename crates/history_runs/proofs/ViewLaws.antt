@@ -10,16 +10,16 @@ use borrow.Rule.Slice.PartMut.{midOf, put-same}
 use Rattle.stores.proofs.StoreLaws.{length-part}
 use Rattle.segment_id.specs.declared.Kind.{Kind}
 use Rattle.segment_id.specs.declared.Kind.the-variants.{Box}
-use Rattle.buffer_core.specs.declared.HeadCounts.{HeadCounts}
-use Rattle.buffer_core.specs.declared.Appended.{Appended}
-use Rattle.buffer_core.specs.declared.Appended.the-variants as appended
+use Rattle.index_types.specs.declared.HeadCounts.{HeadCounts}
+use Rattle.index_types.specs.declared.Appended.{Appended}
+use Rattle.index_types.specs.declared.Appended.the-variants as appended
 use Rattle.buffer_core.specs.declared.Direction.{Direction}
-use Rattle.buffer_core.specs.declared.Popped.{Popped}
-use Rattle.buffer_core.specs.declared.Popped.the-variants as popped
-use Rattle.buffer_core.specs.declared.Flipped.{Flipped}
-use Rattle.buffer_core.specs.declared.Flipped.the-variants as flipped
-use Rattle.buffer_core.specs.declared.Flushed.{Flushed}
-use Rattle.buffer_core.specs.declared.Flushed.the-variants as flushed
+use Rattle.index_types.specs.declared.Popped.{Popped}
+use Rattle.index_types.specs.declared.Popped.the-variants as popped
+use Rattle.index_types.specs.declared.Flipped.{Flipped}
+use Rattle.index_types.specs.declared.Flipped.the-variants as flipped
+use Rattle.index_types.specs.declared.Flushed.{Flushed}
+use Rattle.index_types.specs.declared.Flushed.the-variants as flushed
 use Rattle.buffer_core.specs.Edition.{edition-1}
 use Rattle.buffer_core.specs.Append.{appending, counts-of, append-ok, append-of}
 use Rattle.buffer_core.specs.Pop.{Lists, lists, lists-ok, popping, pop-ok, pop-of}
@@ -33,18 +33,18 @@ use Rattle.call_steps.proofs.StateLaws.{kind-few}
 use Rattle.buffer_core.proofs.RefusedLaws as refused
 use Rattle.buffer_core.proofs.RefusedLaws.{AppendSame, PopSame, FlipSame, FlushSame}
 use Rattle.call_steps.proofs.KeepLaws.{within}
-use Rattle.ledger.specs.Ledger.{Series, boxes, parentOf, series-dec, ite}
+use Rattle.ledger.specs.Ledger.{Series, boxes, parent-of, series-dec, ite}
 use Rattle.history.specs.Index.{part, index, kind-of, set-part, after-append, after-pop, after-flip, after-flush, do-append, do-pop, do-flip, do-flush}
 use Rattle.history_runs.specs.View.{ids-in, part-in, view, balance-in, Same, SamePop}
 use Rattle.history_runs.proofs.PlaceLaws.{Clear, part-put, part-clear, element, other, lengths-apart, heads-apart, head-amounts, head-nanos}
 use Rattle.history_runs.proofs.LengthLaws.{append-long, pop-long, flip-long}
 
-module _ (s : State) (ch : Series) (w : Within (parentOf ch) (s .ids) (s .numbers) (s .lengths) (s .spills)) where
+module _ (s : State) (ch : Series) (w : Within (parent-of ch) (s .ids) (s .numbers) (s .lengths) (s .spills)) where
   abbrev k : Kind
   k = kind-of ch
 
   abbrev p : ℕ
-  p = parentOf ch
+  p = parent-of ch
 
   abbrev head : List ℤ
   head = head-of k p (s .numbers)
@@ -71,9 +71,9 @@ module _ (s : State) (ch : Series) (w : Within (parentOf ch) (s .ids) (s .number
     put-there : (d : Series) → (ch ≡ d → ⊥) → part-in (put n new b) d ≡ part-in s d
     put-there d f =
         let o = other ch d f in
-        let l = getD-set-other (s .lengths) (length-at k p) (length-at (kind-of d) (parentOf d)) (n .len) 0 (lengths-apart ch d o) in
-        let m = getD-set-other (s .spills) (spills-at k p) (spills-at (kind-of d) (parentOf d)) (n .spills) (pos 0) o in
-        let h = part-clear (head-at k p) 512 (s .numbers) new long head-room (head-at (kind-of d) (parentOf d)) 512 (heads-apart ch d o) in
+        let l = getD-set-other (s .lengths) (length-at k p) (length-at (kind-of d) (parent-of d)) (n .len) 0 (lengths-apart ch d o) in
+        let m = getD-set-other (s .spills) (spills-at k p) (spills-at (kind-of d) (parent-of d)) (n .spills) (pos 0) o in
+        let h = part-clear (head-at k p) 512 (s .numbers) new long head-room (head-at (kind-of d) (parent-of d)) 512 (heads-apart ch d o) in
         λ i. part (counts-of (l i) (m i)) (h i)
 
     put-part : (d : Series) → part-in (put n new b) d ≡ set-part (part-in s) ch (part n new) d
@@ -201,13 +201,13 @@ module _ (s : State) where
 
 -- ---- the calls of a state that refusal 25 passed, on one of its parents
 module _ (parents : ℕ) (s : State) (r : Ready parents s) where
-  pub append-same : (ch : Series) → parentOf ch < parents → (z : ℤ)
-      → Same s (step-of edition-1 (Append (kind-of ch) (parentOf ch) z) s) (do-append edition-1 (ids-in s) (view s) ch z)
-  append-same ch h z = append-in s ch (within parents s r (parentOf ch) h) z
+  pub append-same : (ch : Series) → parent-of ch < parents → (z : ℤ)
+      → Same s (step-of edition-1 (Append (kind-of ch) (parent-of ch) z) s) (do-append edition-1 (ids-in s) (view s) ch z)
+  append-same ch h z = append-in s ch (within parents s r (parent-of ch) h) z
 
-  pub pop-same : (ch : Series) → parentOf ch < parents
-      → SamePop s (step-of edition-1 (Pop (kind-of ch) (parentOf ch)) s) (do-pop edition-1 (ids-in s) (view s) ch)
-  pop-same ch h = pop-in s ch (within parents s r (parentOf ch) h)
+  pub pop-same : (ch : Series) → parent-of ch < parents
+      → SamePop s (step-of edition-1 (Pop (kind-of ch) (parent-of ch)) s) (do-pop edition-1 (ids-in s) (view s) ch)
+  pop-same ch h = pop-in s ch (within parents s r (parent-of ch) h)
 
   pub flip-same : (d : Direction) (p : ℕ) → p < parents → (z : ℤ) → Same s (step-of edition-1 (Flip d p z) s) (do-flip edition-1 (ids-in s) d (view s) p z)
   flip-same d p h z = flip-in s p (within parents s r p h) d z

@@ -8,6 +8,7 @@ use lib.IntN.{ℤ, pos}
 use lib.Signed.{mag}
 use lib.ListN.{length, drop, replicate}
 use native.Mathlib.Decide.{decLt}
+use Rattle.index_types.specs.Limits.{segment-threshold}
 use Rattle.buffer_core.specs.declared.Direction.the-variants.{Spend, Unspend}
 use Rattle.buffer_core.specs.Edition.{edition-1}
 use Rattle.buffer_core.specs.Append.{counts-of}
@@ -18,9 +19,9 @@ use Rattle.call_steps.specs.State.{State, Ready}
 use Rattle.call_steps.specs.Steps.{accepted, number-popped, refused, step-of}
 use Rattle.runner.specs.Run.{run-of}
 use Rattle.balance_laws.specs.Calls.{tokens-in}
-use Rattle.ledger.specs.Ledger.{TokenId, Parent, Series, boxes, parentOf, ite, Tokens, append, spend, credit, debit, absℤ, amount-in, ledger-numbers, ledger-spent, ledger-nanos, ledger-amount}
+use Rattle.ledger.specs.Ledger.{TokenId, Parent, Series, boxes, parent-of, ite, Tokens, append, spend, credit, debit, absℤ, amount-in, ledger-numbers, ledger-spent, ledger-nanos, ledger-amount}
 use Rattle.ledger.specs.Ledger as ledger
-use Rattle.ledger.specs.Run.{Res, done, Machine, Step, call, undo, flush, negs, answerOf}
+use Rattle.ledger.specs.Run.{Res, done, Machine, Step, call, undo, flush, negs, answer-of}
 use Rattle.ledger.specs.Run as Run
 use Rattle.history.specs.Index.{kind-of, entries-of}
 use Rattle.history.specs.Machine.{Borrowed}
@@ -70,14 +71,14 @@ module _ (parents : ℕ) where
 
   -- the runner's call x makes the history's call
   abbrev pub Makes : ledger.Call → Call → Type 0
-  Makes (append ch n) x = (parentOf ch < parents) × (x ≡ Append (kind-of ch) (parentOf ch) n)
+  Makes (append ch n) x = (parent-of ch < parents) × (x ≡ Append (kind-of ch) (parent-of ch) n)
   Makes (spend p t) x = (p < parents) × (x ≡ Flip Spend p t)
   Makes (credit p n ts) x = Changes true p n ts x
   Makes (debit p n ts) x = Changes false p n ts x
 
   -- "Undo means pop, unspend, `subtract_box` or `add_box` with the same arguments"
   abbrev pub Unmakes : ledger.Call → Call → Type 0
-  Unmakes (append ch n) x = (parentOf ch < parents) × (x ≡ Pop (kind-of ch) (parentOf ch))
+  Unmakes (append ch n) x = (parent-of ch < parents) × (x ≡ Pop (kind-of ch) (parent-of ch))
   Unmakes (spend p t) x = (p < parents) × (x ≡ Flip Unspend p t)
   Unmakes (credit p n ts) x = Changes false p n ts x
   Unmakes (debit p n ts) x = Changes true p n ts x
@@ -94,7 +95,7 @@ module _ (parents : ℕ) where
     pub record Holds (σ : Run.State M) (s : State) : Type 0 where
       pub ready : Ready parents s
       pub names : (p : Parent) → p < parents → ids-in s p ≡ ids p
-      pub parts : (ch : Series) → parentOf ch < parents → part-in s ch ≡ σ .store .parts ch
+      pub parts : (ch : Series) → parent-of ch < parents → part-in s ch ≡ σ .store .parts ch
       pub lists : s .lists ≡ σ .store .lists
       pub balances : (p : Parent) → p < parents → balance-in s p ≡ σ .bals p
 
@@ -114,7 +115,7 @@ module _ (parents : ℕ) where
     abbrev pub UndoSaid : List ledger.Call → State → Said → Type 0
     UndoSaid [] s a = Unit {0}
     UndoSaid (n ∷ cs) s a =
-        (a ≡ says (answerOf n))
+        (a ≡ says (answer-of n))
         ⊎ (((a ≡ refused 16) × (s .lists .staged-counts .capacity ≤ s .lists .staged-counts .count))
         ⊎ ((a ≡ refused 21) × (s .lists .deleted-counts .capacity ≤ s .lists .deleted-counts .count)))
 
@@ -131,7 +132,7 @@ module _ (parents : ℕ) where
 
   -- of each of so many parents, the runner's state holds exactly what the standing calls alone give
   pub record Agrees (cs : List ledger.Call) (s : State) : Type 0 where
-    pub numbers : (ch : Series) → parentOf ch < parents → map absℤ (entries-of edition-1 (ids-in s) (view s) ch) ≡ ledger-numbers cs ch
+    pub numbers : (ch : Series) → parent-of ch < parents → map absℤ (entries-of edition-1 (ids-in s) (view s) ch) ≡ ledger-numbers cs ch
     pub copies : (p : Parent) → p < parents → (n : ℕ) → 0 < n → negs n (entries-of edition-1 (ids-in s) (view s) (boxes p)) ≡ ledger-spent cs p n
     pub nanoErgs : (p : Parent) → p < parents → balance-in s p .nanos ≡ ledger-nanos cs p
     pub amounts : (p : Parent) → p < parents → (t : TokenId) → amount-in (tokens-in (balance-in s p)) t ≡ ledger-amount cs p t
@@ -139,7 +140,7 @@ module _ (parents : ℕ) where
   -- "Empty: each count, length and nanoErgs 0": the state that a history starts from, of each of so many parents, whatever each balance has in its places
   pub record Empty (places : Parent → Places) (s : State) : Type 0 where
     pub ready : Ready parents s
-    pub parts : (ch : Series) → parentOf ch < parents → part-in s ch .head ≡ counts-of 0 (pos 0)
+    pub parts : (ch : Series) → parent-of ch < parents → part-in s ch .head ≡ counts-of 0 (pos 0)
     pub staged : s .lists .staged-counts .count ≡ 0
     pub table : s .lists .table-counts .count ≡ 0
     pub deleted : s .lists .deleted-counts .count ≡ 0
@@ -147,4 +148,4 @@ module _ (parents : ℕ) where
 
   -- the places that the state lends to a head; 512 of them for a parent that it has not
   abbrev pub lent : State → Series → List ℤ
-  lent s ch = ite (decLt (parentOf ch) parents) (part-in s ch .places) (replicate 512 (pos 0))
+  lent s ch = ite (decLt (parent-of ch) parents) (part-in s ch .places) (replicate segment-threshold (pos 0))

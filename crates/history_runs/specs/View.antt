@@ -9,7 +9,7 @@ use Rattle.balance.specs.declared.Balance.{Balance}
 use Rattle.call_steps.specs.State.{State, parent-id, head-counts, head-of, balance-of}
 use Rattle.call_steps.specs.Steps.{Stepping, number-popped}
 use Rattle.call_steps.specs.Steps as steps
-use Rattle.ledger.specs.Ledger.{Parent, parent-dec, Series, parentOf, ite, Tokens}
+use Rattle.ledger.specs.Ledger.{Parent, parent-dec, Series, parent-of, ite, Tokens}
 use Rattle.ledger.specs.Run.{Made, accepted, refused-leaving, Popped}
 use Rattle.balance_laws.specs.Calls.{credited, debited}
 use Rattle.history.specs.Index.{Part, part, Index, index, kind-of}
@@ -20,7 +20,7 @@ ids-in s p = parent-id p (s .ids)
 
 -- a parent's boxes or transactions: the counts of the head and its 512 places
 abbrev pub part-in : State → Series → Part
-part-in s ch = part (head-counts (kind-of ch) (parentOf ch) (s .lengths) (s .spills)) (head-of (kind-of ch) (parentOf ch) (s .numbers))
+part-in s ch = part (head-counts (kind-of ch) (parent-of ch) (s .lengths) (s .spills)) (head-of (kind-of ch) (parent-of ch) (s .numbers))
 
 abbrev pub view : State → Index
 view s = index (part-in s) (s .lists)

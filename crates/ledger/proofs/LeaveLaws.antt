@@ -6,7 +6,7 @@ use Rattle.ledger.specs.Run.{Made, accepted, refused-leaving, Leaves, Po
 use Rattle.ledger.specs.Run as Mc
 
 module _ (M : Machine) where
-  open Machine M using (Store, doAppend, doPop, doSpend, doUnspend, doFlush, Bal, add, sub)
+  open Machine M using (Store, append-store, pop-store, spend-store, unspend-store, flush-store, Bal, add, sub)
 
   abbrev State : Type 0
   State = Mc.State M
@@ -25,7 +25,7 @@ module _ (M : Machine) where
   pub balance-left : (σ : State) (p : Parent) {A : Type 0} (X : Made Bal A) (k : ℕ) (b : Bal) → Leaves (σ .bals p) X → X ≡ refused-leaving k b → Mc.paid M σ p b ≡ σ
   balance-left σ p X k b l e = ap (Mc.paid M σ p) (subst (Leaves (σ .bals p)) e l) ∙ paid-back σ p
 
-  stores : (σ : State) (X : Made Store Store) → Leaves (σ .store) X → Leaves σ (Mc.withStore M σ X)
+  stores : (σ : State) (X : Made Store Store) → Leaves (σ .store) X → Leaves σ (Mc.with-store M σ X)
   stores σ (accepted τ) l = tt
   stores σ (refused-leaving k τ) l = ap (Mc.stored M σ) l
 
@@ -33,7 +33,7 @@ module _ (M : Machine) where
   pops σ (accepted r) l = tt
   pops σ (refused-leaving k τ) l = ap (Mc.stored M σ) l
 
-  pays : (σ : State) (p : Parent) (X : Made Bal Bal) → Leaves (σ .bals p) X → Leaves σ (Mc.withBal M σ p X)
+  pays : (σ : State) (p : Parent) (X : Made Bal Bal) → Leaves (σ .bals p) X → Leaves σ (Mc.with-balance M σ p X)
   pays σ p (accepted b) l = tt
   pays σ p (refused-leaving k b) l = ap (Mc.paid M σ p) l ∙ paid-back σ p
 
@@ -42,17 +42,17 @@ module _ (M : Machine) where
   quietly σ (refused-leaving k τ) l = l
 
   module _ (L : RefusalsLeave M) where
-    pub call-leaves : (σ : State) (a : Call) → Leaves σ (Mc.runCall M σ a)
-    call-leaves σ (append ch n) = stores σ (doAppend (σ .store) ch n) (L .appends (σ .store) ch n)
-    call-leaves σ (spend p t) = stores σ (doSpend (σ .store) p t) (L .spends (σ .store) p t)
+    pub call-leaves : (σ : State) (a : Call) → Leaves σ (Mc.run-call M σ a)
+    call-leaves σ (append ch n) = stores σ (append-store (σ .store) ch n) (L .appends (σ .store) ch n)
+    call-leaves σ (spend p t) = stores σ (spend-store (σ .store) p t) (L .spends (σ .store) p t)
     call-leaves σ (credit p n ts) = pays σ p (add (σ .bals p) n ts) (L .credits (σ .bals p) n ts)
     call-leaves σ (debit p n ts) = pays σ p (sub (σ .bals p) n ts) (L .debits (σ .bals p) n ts)
 
-    pub undo-leaves : (σ : State) (a : Call) → Leaves σ (Mc.runUndo M σ a)
-    undo-leaves σ (append ch n) = pops σ (doPop (σ .store) ch) (L .pops (σ .store) ch)
-    undo-leaves σ (spend p t) = quietly σ (Mc.withStore M σ (doUnspend (σ .store) p t)) (stores σ (doUnspend (σ .store) p t) (L .unspends (σ .store) p t))
-    undo-leaves σ (credit p n ts) = quietly σ (Mc.withBal M σ p (sub (σ .bals p) n ts)) (pays σ p (sub (σ .bals p) n ts) (L .debits (σ .bals p) n ts))
-    undo-leaves σ (debit p n ts) = quietly σ (Mc.withBal M σ p (add (σ .bals p) n ts)) (pays σ p (add (σ .bals p) n ts) (L .credits (σ .bals p) n ts))
+    pub undo-leaves : (σ : State) (a : Call) → Leaves σ (Mc.run-undo M σ a)
+    undo-leaves σ (append ch n) = pops σ (pop-store (σ .store) ch) (L .pops (σ .store) ch)
+    undo-leaves σ (spend p t) = quietly σ (Mc.with-store M σ (unspend-store (σ .store) p t)) (stores σ (unspend-store (σ .store) p t) (L .unspends (σ .store) p t))
+    undo-leaves σ (credit p n ts) = quietly σ (Mc.with-balance M σ p (sub (σ .bals p) n ts)) (pays σ p (sub (σ .bals p) n ts) (L .debits (σ .bals p) n ts))
+    undo-leaves σ (debit p n ts) = quietly σ (Mc.with-balance M σ p (add (σ .bals p) n ts)) (pays σ p (add (σ .bals p) n ts) (L .credits (σ .bals p) n ts))
 
-    pub flush-leaves : (σ : State) → Leaves σ (Mc.withStore M σ (doFlush (σ .store)))
-    flush-leaves σ = stores σ (doFlush (σ .store)) (L .flushes (σ .store))
+    pub flush-leaves : (σ : State) → Leaves σ (Mc.with-store M σ (flush-store (σ .store)))
+    flush-leaves σ = stores σ (flush-store (σ .store)) (L .flushes (σ .store))

@@ -6,7 +6,7 @@ use Prim.Native.Nat.{ℕ, zero, suc, _+_, _*_, _≤_, _<_}
 use native.Mathlib.Omega.{arith}
 use lib.ListN.{length, length-append}
 use Rattle.ledger.specs.Ledger.{Series, series-dec, ite, Call, append, spend, credit, debit, ledger-numbers}
-use Rattle.ledger.specs.Run.{Made, accepted, refused-leaving, Machine, Step, call, undo, flush, State, Conf, Undone, afterCall, afterUndo, afterFlush, undoNewest, runCall, runUndo, withStore, step, start, Needs, InUse, KeysApart}
+use Rattle.ledger.specs.Run.{Made, accepted, refused-leaving, Machine, Step, call, undo, flush, State, Conf, Undone, after-call, after-undo, after-flush, newest-undone, run-call, run-undo, with-store, step, start, Needs, InUse, KeysApart}
 
 -- no more numbers than standing calls
 numbers-few : (cs : List Call) (ch : Series) → length (ledger-numbers cs ch) ≤ length cs
@@ -23,26 +23,26 @@ numbers-few (debit p n ts ∷ cs) ch = omega (arith, numbers-few cs ch)
 
 module _ (M : Machine) where
   -- a step adds one standing call at most
-  call-adds : (c : Conf M) (a : Call) (r : Made (State M) (State M)) → length (afterCall M c a r .standing) ≤ suc (length (c .standing))
+  call-adds : (c : Conf M) (a : Call) (r : Made (State M) (State M)) → length (after-call M c a r .standing) ≤ suc (length (c .standing))
   call-adds c a (accepted σ) = omega arith
   call-adds c a (refused-leaving n σ) = omega arith
 
-  undo-adds : (c : Conf M) (cs : List Call) (r : Made (State M) (Undone M)) → length cs ≤ length (c .standing) → length (afterUndo M c cs r .standing) ≤ suc (length (c .standing))
+  undo-adds : (c : Conf M) (cs : List Call) (r : Made (State M) (Undone M)) → length cs ≤ length (c .standing) → length (after-undo M c cs r .standing) ≤ suc (length (c .standing))
   undo-adds c cs (accepted u) h = omega arith
   undo-adds c cs (refused-leaving n σ) h = omega arith
 
-  newest-adds : (c : Conf M) (l : List Call) → c .standing ≡ l → length (undoNewest M c l .standing) ≤ suc (length (c .standing))
+  newest-adds : (c : Conf M) (l : List Call) → c .standing ≡ l → length (newest-undone M c l .standing) ≤ suc (length (c .standing))
   newest-adds c [] e = omega arith
-  newest-adds c (a ∷ cs) e = undo-adds c cs (runUndo M (c .now) a) (omega (arith, ap length e))
+  newest-adds c (a ∷ cs) e = undo-adds c cs (run-undo M (c .now) a) (omega (arith, ap length e))
 
-  flush-adds : (c : Conf M) (r : Made (State M) (State M)) → length (afterFlush M c r .standing) ≤ suc (length (c .standing))
+  flush-adds : (c : Conf M) (r : Made (State M) (State M)) → length (after-flush M c r .standing) ≤ suc (length (c .standing))
   flush-adds c (accepted σ) = omega arith
   flush-adds c (refused-leaving n σ) = omega arith
 
   step-adds : (c : Conf M) (x : Step) → length (step M c x .standing) ≤ suc (length (c .standing))
-  step-adds c (call a) = call-adds c a (runCall M (c .now) a)
+  step-adds c (call a) = call-adds c a (run-call M (c .now) a)
   step-adds c undo = newest-adds c (c .standing) refl
-  step-adds c flush = flush-adds c (withStore M (c .now) (M .doFlush (c .now .store)))
+  step-adds c flush = flush-adds c (with-store M (c .now) (M .flush-store (c .now .store)))
 
   fewer : (r s n : ℕ) → r * suc (suc s) < n → r * suc s < n
   fewer r s n h = omega arith
@@ -51,14 +51,14 @@ module _ (M : Machine) where
   no-multiple r zero n m h k l = omega arith
   no-multiple r (suc s) n m h k l = no-multiple r s n m (fewer r s n h) k l
 
-  no-row : (c : Conf M) → length (c .standing) ≤ M .rowSize → (ch : Series) (s : ℕ) → Needs M c ch s → ⊥
-  no-row c h ch s u = no-multiple (M .rowSize) s (length (ledger-numbers (c .standing) ch)) (length (c .standing)) u (numbers-few (c .standing) ch) h
+  no-row : (c : Conf M) → length (c .standing) ≤ M .row-size → (ch : Series) (s : ℕ) → Needs M c ch s → ⊥
+  no-row c h ch s u = no-multiple (M .row-size) s (length (ledger-numbers (c .standing) ch)) (length (c .standing)) u (numbers-few (c .standing) ch) h
 
-  no-rows : (ss : List Step) (c : Conf M) → length (c .standing) + length ss ≤ M .rowSize → (ch : Series) (s : ℕ) → InUse M c ss ch s → ⊥
+  no-rows : (ss : List Step) (c : Conf M) → length (c .standing) + length ss ≤ M .row-size → (ch : Series) (s : ℕ) → InUse M c ss ch s → ⊥
   unfolding InUse
   no-rows [] c h ch s u = no-row c (omega arith) ch s u
   no-rows (x ∷ ss) c h ch s (inl u) = no-row c (omega arith) ch s u
   no-rows (x ∷ ss) c h ch s (inr u) = no-rows ss (step M c x) (omega (arith, step-adds c x)) ch s u
 
-  pub short-apart : (ss : List Step) → length ss ≤ M .rowSize → KeysApart M (InUse M (start M) ss)
+  pub short-apart : (ss : List Step) → length ss ≤ M .row-size → KeysApart M (InUse M (start M) ss)
   short-apart ss h d e s t u v k = absurd (no-rows ss (start M) (omega arith) d s u)

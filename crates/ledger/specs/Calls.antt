@@ -16,9 +16,9 @@ pub data Series : Type 0 where
   boxes : Parent → Series
   txs : Parent → Series
 
-abbrev pub parentOf : Series → Parent
-parentOf (boxes p) = p
-parentOf (txs p) = p
+abbrev pub parent-of : Series → Parent
+parent-of (boxes p) = p
+parent-of (txs p) = p
 
 -- tokens of a credit or debit: ids with amounts, an id may repeat
 abbrev pub Tokens : Type 0

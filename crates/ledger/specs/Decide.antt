@@ -6,7 +6,7 @@ use Prim.Native.Nat.{ℕ, suc}
 use native.Mathlib.Omega.{arith}
 use native.Mathlib.Decide.{ℕ-discrete}
 use lib.IntN.{ℤ, pos, negsuc, natAbs}
-use Rattle.ledger.specs.Calls.{TokenId, Parent, Series, boxes, txs, parentOf}
+use Rattle.ledger.specs.Calls.{TokenId, Parent, Series, boxes, txs, parent-of}
 
 -- the first where the test holds, else the second
 unfoldable pub ite {ℓ} : {P : Type 0} {A : Type ℓ} → Dec P → A → A → A
@@ -45,22 +45,22 @@ abbrev pub parent-dec : Discrete Parent
 parent-dec = ℕ-discrete
 
 pub boxes-inj : {p q : Parent} → boxes p ≡ boxes q → p ≡ q
-boxes-inj e = ap parentOf e
+boxes-inj e = ap parent-of e
 
-onBoxes : {p q : Parent} → Dec (p ≡ q) → Dec (boxes p ≡ boxes q)
-onBoxes (yes e) = yes (ap boxes e)
-onBoxes (no n) = no (λ e. n (boxes-inj e))
+on-boxes : {p q : Parent} → Dec (p ≡ q) → Dec (boxes p ≡ boxes q)
+on-boxes (yes e) = yes (ap boxes e)
+on-boxes (no n) = no (λ e. n (boxes-inj e))
 
-onTxs : {p q : Parent} → Dec (p ≡ q) → Dec (txs p ≡ txs q)
-onTxs (yes e) = yes (ap txs e)
-onTxs (no n) = no (λ e. n (ap parentOf e))
+on-txs : {p q : Parent} → Dec (p ≡ q) → Dec (txs p ≡ txs q)
+on-txs (yes e) = yes (ap txs e)
+on-txs (no n) = no (λ e. n (ap parent-of e))
 
 pub boxes≢txs : {p q : Parent} → boxes p ≡ txs q → ⊥
 boxes≢txs e = let z : _≡_ {A = ℕ} 0 1 = cc in omega arith
 
 unfoldable pub series-dec : Discrete Series
-unfolding onBoxes onTxs ℕ-discrete
-series-dec (boxes p) (boxes q) = onBoxes (ℕ-discrete p q)
+unfolding on-boxes on-txs ℕ-discrete
+series-dec (boxes p) (boxes q) = on-boxes (ℕ-discrete p q)
 series-dec (boxes p) (txs q) = no (λ e. boxes≢txs e)
 series-dec (txs p) (boxes q) = no (λ e. boxes≢txs (sym e))
-series-dec (txs p) (txs q) = onTxs (ℕ-discrete p q)
+series-dec (txs p) (txs q) = on-txs (ℕ-discrete p q)

@@ -7,7 +7,7 @@ use native.Mathlib.Decide.{ℕ-discrete}
 use lib.IntN.{ℤ, pos, natAbs, _+ℤ_, _-ℤ_}
 use lib.Signed.{_≤ℤ_, mag}
 use lib.ListN.{length}
-pub use Rattle.ledger.specs.Calls.{TokenId, Parent, Series, boxes, txs, parentOf, Tokens, Call, append, spend, credit, debit}
+pub use Rattle.ledger.specs.Calls.{TokenId, Parent, Series, boxes, txs, parent-of, Tokens, Call, append, spend, credit, debit}
 pub use Rattle.ledger.specs.Decide.{parent-dec}
 unfoldable pub use Rattle.ledger.specs.Decide.{ite, id-dec, int-dec, series-dec}
 
@@ -16,9 +16,9 @@ abbrev pub absℤ : ℤ → ℤ
 absℤ z = pos (natAbs z)
 
 -- "repeats of an id summed"
-abbrev pub sumOf : TokenId → Tokens → ℤ
-sumOf t [] = pos 0
-sumOf t (x ∷ xs) = ite (id-dec (x .0) t) (x .1 +ℤ sumOf t xs) (sumOf t xs)
+abbrev pub sum-of : TokenId → Tokens → ℤ
+sum-of t [] = pos 0
+sum-of t (x ∷ xs) = ite (id-dec (x .0) t) (x .1 +ℤ sum-of t xs) (sum-of t xs)
 
 -- "an amount per token id (0 if absent)": that of the first token with the id
 abbrev pub amount-in : Tokens → TokenId → ℤ
@@ -57,8 +57,8 @@ abbrev pub ledger-amount : List Call → Parent → TokenId → ℤ
 ledger-amount [] p t = pos 0
 ledger-amount (append d m ∷ cs) p t = ledger-amount cs p t
 ledger-amount (spend q s ∷ cs) p t = ledger-amount cs p t
-ledger-amount (credit q m ts ∷ cs) p t = ite (parent-dec q p) (ledger-amount cs p t +ℤ sumOf t ts) (ledger-amount cs p t)
-ledger-amount (debit q m ts ∷ cs) p t = ite (parent-dec q p) (ledger-amount cs p t -ℤ sumOf t ts) (ledger-amount cs p t)
+ledger-amount (credit q m ts ∷ cs) p t = ite (parent-dec q p) (ledger-amount cs p t +ℤ sum-of t ts) (ledger-amount cs p t)
+ledger-amount (debit q m ts ∷ cs) p t = ite (parent-dec q p) (ledger-amount cs p t -ℤ sum-of t ts) (ledger-amount cs p t)
 
 -- ---- "The history rules, per parent"
 
@@ -90,7 +90,7 @@ pub record DebitRule (cs : List Call) (p : Parent) (n : ℤ) (ts : Tokens) : Typ
   pub allpos : AllPos ts
   -- "no debit exceeds what the record held before it, repeats of an id summed"
   pub within : n ≤ℤ ledger-nanos cs p
-  pub held : (t : TokenId) → sumOf t ts ≤ℤ ledger-amount cs p t
+  pub held : (t : TokenId) → sum-of t ts ≤ℤ ledger-amount cs p t
 
 -- the rule of a call after the standing calls cs; transaction appends and spends have none
 abbrev pub Rule : Call → List Call → Type 0

@@ -28,14 +28,14 @@ Leaves σ (accepted a) = Unit {0}
 Leaves σ (refused-leaving n τ) = τ ≡ σ
 
 -- the numbers of a row that was read; none where it was not
-abbrev pub rowOr : Res (List ℤ) → List ℤ
-rowOr (done l) = l
-rowOr (refused k) = []
+abbrev pub row-or : Res (List ℤ) → List ℤ
+row-or (done l) = l
+row-or (refused k) = []
 
 -- the numbers of the first n rows, "spill 0 up"
 unfoldable pub flat : (ℕ → Res (List ℤ)) → ℕ → List ℤ
 flat f zero = []
-flat f (suc s) = flat f s ++ rowOr (f s)
+flat f (suc s) = flat f s ++ row-or (f s)
 
 -- an accepted pop: what is left, and the number it answers
 pub record Popped (S : Type 0) : Type 0 where
@@ -47,24 +47,24 @@ pub record Machine : Type 1 where
   pub Store : Type 0
   -- "Empty: each count, length and nanoErgs 0"
   pub empty : Store
-  pub doAppend : Store → Series → ℤ → Made Store Store
-  pub doPop : Store → Series → Made Store (Popped Store)
-  pub doSpend : Store → Parent → ℤ → Made Store Store
-  pub doUnspend : Store → Parent → ℤ → Made Store Store
-  pub doFlush : Store → Made Store Store
+  pub append-store : Store → Series → ℤ → Made Store Store
+  pub pop-store : Store → Series → Made Store (Popped Store)
+  pub spend-store : Store → Parent → ℤ → Made Store Store
+  pub unspend-store : Store → Parent → ℤ → Made Store Store
+  pub flush-store : Store → Made Store Store
   -- "spill 0 up with rows as inspection shows them, then the head"
   pub entries : Store → Series → List ℤ
   -- refusals 16 and 21 of document 01's table: "staging full", "list full"
   pub StagingFull : Store → Type 0
   pub DeletionFull : Store → Type 0
   pub Bal : Type 0
-  pub noBal : Parent → Bal
+  pub no-balance : Parent → Bal
   pub add : Bal → ℤ → Tokens → Made Bal Bal
   pub sub : Bal → ℤ → Tokens → Made Bal Bal
-  pub nanoOf : Bal → ℤ
-  pub amountOf : Bal → TokenId → ℤ
+  pub nano-of : Bal → ℤ
+  pub amount-of : Bal → TokenId → ℤ
   -- numbers of a row; arguments have a size below the limit; the key of a row
-  pub rowSize : ℕ
+  pub row-size : ℕ
   pub limit : ℕ
   pub Key : Type 0
   pub key : Series → ℕ → Key
@@ -98,38 +98,38 @@ MayUndo calls = ⊥
 MayUndo undos = Unit {0}
 
 -- "a spent copy is a negative entry, and how many there are of a number"
-abbrev pub negAt : ℕ → ℤ → ℕ
-negAt n (pos m) = 0
-negAt n (negsuc k) = ite (ℕ-discrete (suc k) n) 1 0
+abbrev pub negated-at : ℕ → ℤ → ℕ
+negated-at n (pos m) = 0
+negated-at n (negsuc k) = ite (ℕ-discrete (suc k) n) 1 0
 
 abbrev pub negs : ℕ → List ℤ → ℕ
 negs n [] = 0
-negs n (e ∷ l) = negAt n e + negs n l
+negs n (e ∷ l) = negated-at n e + negs n l
 
 -- what an undo answers: the number of an append, nothing else
-abbrev pub answerOf : Call → List ℤ
-answerOf (append ch n) = n ∷ []
-answerOf (spend p t) = []
-answerOf (credit p n ts) = []
-answerOf (debit p n ts) = []
+abbrev pub answer-of : Call → List ℤ
+answer-of (append ch n) = n ∷ []
+answer-of (spend p t) = []
+answer-of (credit p n ts) = []
+answer-of (debit p n ts) = []
 
 -- the standing calls as the answers tell them: "An accepted call becomes the newest standing call, an accepted undo removes that one; flushes and refusals
 -- change nothing"
-abbrev pub standsAfter : Step → Res (List ℤ) → List Call → List Call
-standsAfter (call a) (done l) cs = a ∷ cs
-standsAfter (call a) (refused k) cs = cs
-standsAfter undo (done l) [] = []
-standsAfter undo (done l) (a ∷ cs) = cs
-standsAfter undo (refused k) cs = cs
-standsAfter flush r cs = cs
+abbrev pub stands-after : Step → Res (List ℤ) → List Call → List Call
+stands-after (call a) (done l) cs = a ∷ cs
+stands-after (call a) (refused k) cs = cs
+stands-after undo (done l) [] = []
+stands-after undo (done l) (a ∷ cs) = cs
+stands-after undo (refused k) cs = cs
+stands-after flush r cs = cs
 
 unfoldable pub told : List Call → List Step → List (Res (List ℤ)) → List Call
 told cs [] rs = cs
 told cs (s ∷ ss) [] = cs
-told cs (s ∷ ss) (r ∷ rs) = told (standsAfter s r cs) ss rs
+told cs (s ∷ ss) (r ∷ rs) = told (stands-after s r cs) ss rs
 
 module _ (M : Machine) where
-  open Machine M using (Store, empty, doAppend, doPop, doSpend, doUnspend, doFlush, entries, StagingFull, DeletionFull, Bal, noBal, add, sub, nanoOf, amountOf, rowSize, limit, Key, key)
+  open Machine M using (Store, empty, append-store, pop-store, spend-store, unspend-store, flush-store, entries, StagingFull, DeletionFull, Bal, no-balance, add, sub, nano-of, amount-of, row-size, limit, Key, key)
 
   -- the index: stores and each parent's balance. "Only the list writes parents and buffers": nothing but the steps changes it
   pub record State : Type 0 where
@@ -150,26 +150,26 @@ module _ (M : Machine) where
   abbrev pub stored : State → Store → State
   stored σ s = record { store = s; bals = σ .bals }
 
-  abbrev pub withStore : State → Made Store Store → Made State State
-  withStore σ (accepted s) = accepted (stored σ s)
-  withStore σ (refused-leaving n s) = refused-leaving n (stored σ s)
+  abbrev pub with-store : State → Made Store Store → Made State State
+  with-store σ (accepted s) = accepted (stored σ s)
+  with-store σ (refused-leaving n s) = refused-leaving n (stored σ s)
 
-  abbrev pub setBal : (Parent → Bal) → Parent → Bal → Parent → Bal
-  setBal f p b q = ite (parent-dec p q) b (f q)
+  abbrev pub set-balance : (Parent → Bal) → Parent → Bal → Parent → Bal
+  set-balance f p b q = ite (parent-dec p q) b (f q)
 
   abbrev pub paid : State → Parent → Bal → State
-  paid σ p b = record { store = σ .store; bals = setBal (σ .bals) p b }
+  paid σ p b = record { store = σ .store; bals = set-balance (σ .bals) p b }
 
-  abbrev pub withBal : State → Parent → Made Bal Bal → Made State State
-  withBal σ p (accepted b) = accepted (paid σ p b)
-  withBal σ p (refused-leaving n b) = refused-leaving n (paid σ p b)
+  abbrev pub with-balance : State → Parent → Made Bal Bal → Made State State
+  with-balance σ p (accepted b) = accepted (paid σ p b)
+  with-balance σ p (refused-leaving n b) = refused-leaving n (paid σ p b)
 
   -- a call of the list runs the operation with its arguments
-  abbrev pub runCall : State → Call → Made State State
-  runCall σ (append ch n) = withStore σ (doAppend (σ .store) ch n)
-  runCall σ (spend p t) = withStore σ (doSpend (σ .store) p t)
-  runCall σ (credit p n ts) = withBal σ p (add (σ .bals p) n ts)
-  runCall σ (debit p n ts) = withBal σ p (sub (σ .bals p) n ts)
+  abbrev pub run-call : State → Call → Made State State
+  run-call σ (append ch n) = with-store σ (append-store (σ .store) ch n)
+  run-call σ (spend p t) = with-store σ (spend-store (σ .store) p t)
+  run-call σ (credit p n ts) = with-balance σ p (add (σ .bals p) n ts)
+  run-call σ (debit p n ts) = with-balance σ p (sub (σ .bals p) n ts)
 
   abbrev pub quiet : Made State State → Made State Undone
   quiet (accepted σ) = accepted (record { after = σ; answer = [] })
@@ -180,41 +180,41 @@ module _ (M : Machine) where
   popped σ (refused-leaving n s) = refused-leaving n (stored σ s)
 
   -- "Undo means pop, unspend, `subtract_box` or `add_box` with the same arguments"
-  abbrev pub runUndo : State → Call → Made State Undone
-  runUndo σ (append ch n) = popped σ (doPop (σ .store) ch)
-  runUndo σ (spend p t) = quiet (withStore σ (doUnspend (σ .store) p t))
-  runUndo σ (credit p n ts) = quiet (withBal σ p (sub (σ .bals p) n ts))
-  runUndo σ (debit p n ts) = quiet (withBal σ p (add (σ .bals p) n ts))
+  abbrev pub run-undo : State → Call → Made State Undone
+  run-undo σ (append ch n) = popped σ (pop-store (σ .store) ch)
+  run-undo σ (spend p t) = quiet (with-store σ (unspend-store (σ .store) p t))
+  run-undo σ (credit p n ts) = quiet (with-balance σ p (sub (σ .bals p) n ts))
+  run-undo σ (debit p n ts) = quiet (with-balance σ p (add (σ .bals p) n ts))
 
   -- "An accepted call becomes the newest standing call"; "flushes and refusals change nothing" of the standing calls.
   -- The next step starts "from what the one before left", accepted or refused
-  abbrev pub afterCall : Conf → Call → Made State State → Conf
-  afterCall c a (accepted σ) = record { now = σ; standing = a ∷ c .standing; phase = calls }
-  afterCall c a (refused-leaving n σ) = record { now = σ; standing = c .standing; phase = calls }
+  abbrev pub after-call : Conf → Call → Made State State → Conf
+  after-call c a (accepted σ) = record { now = σ; standing = a ∷ c .standing; phase = calls }
+  after-call c a (refused-leaving n σ) = record { now = σ; standing = c .standing; phase = calls }
 
   -- "an accepted undo removes that one": the calls cs that stood before it are left
-  abbrev pub afterUndo : Conf → List Call → Made State Undone → Conf
-  afterUndo c cs (accepted u) = record { now = u .after; standing = cs; phase = undos }
-  afterUndo c cs (refused-leaving n σ) = record { now = σ; standing = c .standing; phase = undos }
+  abbrev pub after-undo : Conf → List Call → Made State Undone → Conf
+  after-undo c cs (accepted u) = record { now = u .after; standing = cs; phase = undos }
+  after-undo c cs (refused-leaving n σ) = record { now = σ; standing = c .standing; phase = undos }
 
-  abbrev pub undoNewest : Conf → List Call → Conf
-  undoNewest c [] = c
-  undoNewest c (a ∷ cs) = afterUndo c cs (runUndo (c .now) a)
+  abbrev pub newest-undone : Conf → List Call → Conf
+  newest-undone c [] = c
+  newest-undone c (a ∷ cs) = after-undo c cs (run-undo (c .now) a)
 
   -- an accepted flush lets the other side follow; a refused one (22) does not
-  abbrev pub afterFlush : Conf → Made State State → Conf
-  afterFlush c (accepted σ) = record { now = σ; standing = c .standing; phase = clean }
-  afterFlush c (refused-leaving n σ) = record { now = σ; standing = c .standing; phase = c .phase }
+  abbrev pub after-flush : Conf → Made State State → Conf
+  after-flush c (accepted σ) = record { now = σ; standing = c .standing; phase = clean }
+  after-flush c (refused-leaving n σ) = record { now = σ; standing = c .standing; phase = c .phase }
 
   -- one step of the list; an undo is that of the newest standing call
   abbrev pub step : Conf → Step → Conf
-  step c (call a) = afterCall c a (runCall (c .now) a)
-  step c undo = undoNewest c (c .standing)
-  step c flush = afterFlush c (withStore (c .now) (doFlush (c .now .store)))
+  step c (call a) = after-call c a (run-call (c .now) a)
+  step c undo = newest-undone c (c .standing)
+  step c flush = after-flush c (with-store (c .now) (flush-store (c .now .store)))
 
   -- "all empty or 0 at first": no call stands, every parent and every list is empty
   abbrev pub start : Conf
-  start = record { now = record { store = empty; bals = noBal }; standing = []; phase = clean }
+  start = record { now = record { store = empty; bals = no-balance }; standing = []; phase = clean }
 
   unfoldable pub run : Conf → List Step → Conf
   run c [] = c
@@ -225,23 +225,23 @@ module _ (M : Machine) where
   said (accepted σ) = done []
   said (refused-leaving n σ) = refused n
 
-  abbrev pub undoSaid : Made State Undone → Res (List ℤ)
-  undoSaid (accepted u) = done (u .answer)
-  undoSaid (refused-leaving n σ) = refused n
+  abbrev pub said-undo : Made State Undone → Res (List ℤ)
+  said-undo (accepted u) = done (u .answer)
+  said-undo (refused-leaving n σ) = refused n
 
-  abbrev pub newestSaid : Conf → List Call → Res (List ℤ)
-  newestSaid c [] = done []
-  newestSaid c (a ∷ cs) = undoSaid (runUndo (c .now) a)
+  abbrev pub said-newest : Conf → List Call → Res (List ℤ)
+  said-newest c [] = done []
+  said-newest c (a ∷ cs) = said-undo (run-undo (c .now) a)
 
-  abbrev pub answerTo : Conf → Step → Res (List ℤ)
-  answerTo c (call a) = said (runCall (c .now) a)
-  answerTo c undo = newestSaid c (c .standing)
-  answerTo c flush = said (withStore (c .now) (doFlush (c .now .store)))
+  abbrev pub answer-to : Conf → Step → Res (List ℤ)
+  answer-to c (call a) = said (run-call (c .now) a)
+  answer-to c undo = said-newest c (c .standing)
+  answer-to c flush = said (with-store (c .now) (flush-store (c .now .store)))
 
   -- of each step of the list
   unfoldable pub answers : Conf → List Step → List (Res (List ℤ))
   answers c [] = []
-  answers c (s ∷ ss) = answerTo c s ∷ answers (step c s) ss
+  answers c (s ∷ ss) = answer-to c s ∷ answers (step c s) ss
 
   -- a step may come: at each change an accepted flush came before it, and an undo comes only while a call stands
   abbrev pub Allowed : Conf → Step → Type 0
@@ -256,7 +256,7 @@ module _ (M : Machine) where
 
   -- "Row keys in use: of each parent, kind and spill number s where more than 512 (s + 1) numbers of that kind once stood together": they do now
   abbrev pub Needs : Conf → Series → ℕ → Type 0
-  Needs c ch s = rowSize * suc s < length (ledger-numbers (c .standing) ch)
+  Needs c ch s = row-size * suc s < length (ledger-numbers (c .standing) ch)
 
   -- or they once did: before or after some step of the list
   unfoldable pub InUse : Conf → List Step → Series → ℕ → Type 0
@@ -269,12 +269,12 @@ module _ (M : Machine) where
 
   -- an accepted undo answers the number of its append; a refused one has 16 or 21, and that list is full
   abbrev pub UndoAnswer : State → Call → Made State Undone → Type 0
-  UndoAnswer σ a (accepted u) = u .answer ≡ answerOf a
+  UndoAnswer σ a (accepted u) = u .answer ≡ answer-of a
   UndoAnswer σ a (refused-leaving n τ) = ((n ≡ 16) × StagingFull (σ .store)) ⊎ ((n ≡ 21) × DeletionFull (σ .store))
 
   abbrev pub NewestOk : Conf → List Call → Type 0
   NewestOk c [] = Unit {0}
-  NewestOk c (a ∷ cs) = UndoAnswer (c .now) a (runUndo (c .now) a)
+  NewestOk c (a ∷ cs) = UndoAnswer (c .now) a (run-undo (c .now) a)
 
   -- nothing is owed of what a call or a flush answers
   abbrev pub StepOk : Conf → Step → Type 0
@@ -294,16 +294,16 @@ module _ (M : Machine) where
     -- "a spent copy is a negative entry, and how many there are of a number is compared with its spent count"; a spent 0 stays 0, so 0 is left out
     pub copies : (p : Parent) (n : ℕ) → 0 < n → negs n (entries (c .now .store) (boxes p)) ≡ ledger-spent (c .standing) p n
     -- nanoErgs, and the amount of every token id, 0 if absent. "Places of copies and tokens are not compared"
-    pub nanoErgs : (p : Parent) → nanoOf (c .now .bals p) ≡ ledger-nanos (c .standing) p
-    pub amounts : (p : Parent) (t : TokenId) → amountOf (c .now .bals p) t ≡ ledger-amount (c .standing) p t
+    pub nanoErgs : (p : Parent) → nano-of (c .now .bals p) ≡ ledger-nanos (c .standing) p
+    pub amounts : (p : Parent) (t : TokenId) → amount-of (c .now .bals p) t ≡ ledger-amount (c .standing) p t
 
   -- "A refusal .. changes nothing": what each operation leaves where it refuses is what was there, whatever that was
   pub record RefusalsLeave : Type 0 where
-    pub appends : (σ : Store) (ch : Series) (n : ℤ) → Leaves σ (doAppend σ ch n)
-    pub pops : (σ : Store) (ch : Series) → Leaves σ (doPop σ ch)
-    pub spends : (σ : Store) (p : Parent) (t : ℤ) → Leaves σ (doSpend σ p t)
-    pub unspends : (σ : Store) (p : Parent) (t : ℤ) → Leaves σ (doUnspend σ p t)
-    pub flushes : (σ : Store) → Leaves σ (doFlush σ)
+    pub appends : (σ : Store) (ch : Series) (n : ℤ) → Leaves σ (append-store σ ch n)
+    pub pops : (σ : Store) (ch : Series) → Leaves σ (pop-store σ ch)
+    pub spends : (σ : Store) (p : Parent) (t : ℤ) → Leaves σ (spend-store σ p t)
+    pub unspends : (σ : Store) (p : Parent) (t : ℤ) → Leaves σ (unspend-store σ p t)
+    pub flushes : (σ : Store) → Leaves σ (flush-store σ)
     pub credits : (b : Bal) (n : ℤ) (ts : Tokens) → Leaves b (add b n ts)
     pub debits : (b : Bal) (n : ℤ) (ts : Tokens) → Leaves b (sub b n ts)
 

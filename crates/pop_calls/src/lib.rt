@@ -4,13 +4,13 @@ ghost use Rattle.segment_id.specs.declared.Kind.the-variants.{Box, Tx};
 ghost use Rattle.buffer_core.specs.Edition.{edition-1};
 ghost use Rattle.buffer_core.specs.Pop.{popping, lists, pop-of};
 ghost use Rattle.buffer_checks.specs.Answers.{as-popped-box, as-popped-tx};
-use buffer_checks::BoxNumber;
-use buffer_checks::PoppedBox;
-use buffer_checks::PoppedTx;
-use buffer_checks::TxNumber;
-use buffer_core::HeadCounts;
-use buffer_core::Popped;
-use records::ListCounts;
+use index_types::BoxNumber;
+use index_types::HeadCounts;
+use index_types::ListCounts;
+use index_types::Popped;
+use index_types::PoppedBox;
+use index_types::PoppedTx;
+use index_types::TxNumber;
 use segment_id::Kind;
 
 // A pop of either kind.

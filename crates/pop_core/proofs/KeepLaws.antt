@@ -9,15 +9,15 @@ use lib.IntN.{ℤ, pos, natAbs}
 use lib.ListN.{length, length-set}
 use Rattle.stores.proofs.StoreLaws.{length-write}
 use Rattle.signed.specs.Sign.{is-negative}
-use Rattle.records.specs.declared.ListCounts.{ListCounts}
+use Rattle.index_types.specs.declared.ListCounts.{ListCounts}
 use Rattle.records.specs.Changes.{count-after, with-count, put-record, full-for}
 use Rattle.records.proofs.CheckLaws.{and-left, and-right, and-true, keys-ok-after-put}
 use Rattle.segment_id.specs.Key.{row-key}
 use Rattle.segment_id.specs.declared.Kind.{Kind}
 use Rattle.segment_id.proofs.KeyLaws.{row-key-length}
 use Rattle.segment_core.specs.Loading.{padded}
-use Rattle.buffer_core.specs.declared.HeadCounts.{HeadCounts}
-use Rattle.buffer_core.specs.declared.Popped.the-variants.{Number, Refused}
+use Rattle.index_types.specs.declared.HeadCounts.{HeadCounts}
+use Rattle.index_types.specs.declared.Popped.the-variants.{Number, Refused}
 use Rattle.buffer_core.specs.Edition.{edition-1, RowRead, bad, good}
 use Rattle.buffer_core.specs.Spills.{sources, spill-read, head-ok}
 use Rattle.buffer_core.specs.Append.{counts-of}

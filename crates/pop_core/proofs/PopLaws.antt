@@ -13,7 +13,7 @@ use Rattle.stores.specs.Stores.{write}
 use Rattle.signed.specs.Sign.{is-negative}
 use Rattle.records.specs.declared.Found.{Found}
 use Rattle.records.specs.declared.Found.the-variants.{At, Nothing}
-use Rattle.records.specs.declared.ListCounts.{ListCounts}
+use Rattle.index_types.specs.declared.ListCounts.{ListCounts}
 use Rattle.records.specs.Records.{keys}
 use Rattle.records.specs.Find.{find-key}
 use Rattle.records.specs.Changes.{count-after, with-count, put-record, remove-record, full-for}
@@ -21,8 +21,8 @@ use Rattle.records.proofs.PutLaws.{slot-room}
 use Rattle.segment_id.specs.Key.{row-key}
 use Rattle.segment_id.specs.declared.Kind.{Kind}
 use Rattle.segment_core.specs.Loading.{padded}
-use Rattle.buffer_core.specs.declared.HeadCounts.{HeadCounts}
-use Rattle.buffer_core.specs.declared.Popped.the-variants.{Number, Refused}
+use Rattle.index_types.specs.declared.HeadCounts.{HeadCounts}
+use Rattle.index_types.specs.declared.Popped.the-variants.{Number, Refused}
 use Rattle.buffer_core.specs.Edition.{edition-1, RowRead, bad, good}
 use Rattle.buffer_core.specs.Append.{counts-of}
 use Rattle.buffer_core.specs.Pop.{Popping, popping, Lists, lists, count-without, bytes-without, last-of, without-last, merged, merge-of, unspill-of, pop-core}

@@ -5,7 +5,8 @@ use mathlib.Core.Bool.{true}
 use mathlib.Core.List.{List}
 use lib.IntN.{ℤ}
 use lib.ListN.{length}
-use Rattle.records.specs.declared.ListCounts.{ListCounts}
+use Rattle.index_types.specs.Limits.{segment-threshold}
+use Rattle.index_types.specs.declared.ListCounts.{ListCounts}
 use Rattle.records.specs.Records.{keys}
 use Rattle.records.specs.Find.{find-key, distinct}
 use Rattle.records.specs.Changes.{slot}
@@ -16,7 +17,7 @@ use Rattle.buffer_core.specs.Pop.{Popping, Lists, lists, merged}
 
 -- the bounds of the head's places and of the three lists, and that no key of the table stands twice
 pub record PopReady (b : Lists) (head : List ℤ) : Type 0 where
-  pub long : 512 ≤ length head
+  pub long : segment-threshold ≤ length head
   pub in-staged : InBounds 10288 (b .staged-counts) (b .staged)
   pub in-table : InBounds 10288 (b .table-counts) (b .table)
   pub in-deleted : InBounds 32 (b .deleted-counts) (b .deleted)
@@ -25,10 +26,10 @@ pub record PopReady (b : Lists) (head : List ℤ) : Type 0 where
 -- n numbers at the front of a list of 512 can become the head, and the key can leave the staged spills and join the deleted ones
 pub record MergeReady (list : List ℤ) (n spills : ℕ) (key : List ℕ) (c : ListCounts) (staged : List ℕ) (e : ListCounts) (deleted : List ℕ) (head : List ℤ)
     : Type 0 where
-  pub long : 512 ≤ length head
-  pub listed : length list ≡ 512
+  pub long : segment-threshold ≤ length head
+  pub listed : length list ≡ segment-threshold
   pub some : 0 < n
-  pub few : n ≤ 512
+  pub few : n ≤ segment-threshold
   pub below : spills < 2147483648
   pub keyed : length key ≡ 32
   pub within-staged : c .count * 10288 ≤ length staged

@@ -2,15 +2,17 @@
 ghost use mathlib.Core.Path.{_≡_};
 ghost use Prim.Native.Nat.{_*_, _≤_, _<_};
 ghost use lib.ListN.{length};
+ghost use Rattle.index_types.specs.Limits.{segment-threshold};
 ghost use Rattle.records.specs.Records.{keys};
 ghost use Rattle.records.specs.Find.{find-key};
 ghost use Rattle.buffer_core.specs.Edition.{edition-1};
 ghost use Rattle.buffer_core.specs.Pop.{popping, lists, count-without, bytes-without, last-of, without-last, unspill-of, pop-core};
 ghost use Rattle.pop_core.specs.Ready.{PopReady, MergeReady, Merges};
-use buffer_core::HeadCounts;
-use buffer_core::Popped;
+use index_types::HeadCounts;
+use index_types::ListCounts;
+use index_types::Popped;
+use index_types::SEGMENT_THRESHOLD;
 use records::Found;
-use records::ListCounts;
 use segment_id::Kind;
 use spill_rows::SpillRead;
 
@@ -100,7 +102,7 @@ fn unspill(
 {
     let key = spill_rows::spill_key(kind, parent, spills);
     let none = [0u16; 1];
-    let mut list = [0i64; 512];
+    let mut list = [0i64; SEGMENT_THRESHOLD];
     let read = spill_rows::read_under(
         kind,
         &key,
@@ -148,7 +150,7 @@ pub fn pop(
     deleted_counts: ListCounts,
     deleted: &mut [u8],
 ) -> Popped
-    requires { ⌜ (counts .len ≤ 512) × PopReady (lists «staged_counts» (now staged) «table_counts» (now table) «deleted_counts» (now deleted)) (now head) ⌝ }
+    requires { ⌜ (counts .len ≤ segment-threshold) × PopReady (lists «staged_counts» (now staged) «table_counts» (now table) «deleted_counts» (now deleted)) (now head) ⌝ }
     ensures { λ r. ⌜ popping r (now (head .exit)) (now (staged .exit)) (now (deleted .exit))
         ≡ pop-core edition-1 kind (now (parent .entry)) counts
         (lists «staged_counts» (now (staged .entry)) «table_counts» (now (table .entry)) «deleted_counts» (now (deleted .entry))) (now (head .entry)) ⌝ }

@@ -7,8 +7,8 @@ ghost use Rattle.stores.specs.Stores.{write};
 ghost use Rattle.records.specs.Records.{keys, record-of};
 ghost use Rattle.records.specs.Find.{find-key};
 ghost use Rattle.records.specs.Changes.{slot, count-after, put-record, remove-record, clear-records, full-for};
+use index_types::ListCounts;
 use records::Found;
-use records::ListCounts;
 
 // Writes a length at a position, in two bytes, the high one first.
 fn put_length(dst: &mut [u8], at: usize, n: usize)

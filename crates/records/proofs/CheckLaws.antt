@@ -11,7 +11,7 @@ use borrow.Author.Tests.{leb-true, le-leb}
 use Rattle.stores.proofs.StoreLaws.{length-write}
 use Rattle.records.specs.declared.Found.{Found}
 use Rattle.records.specs.declared.Found.the-variants.{At, Nothing}
-use Rattle.records.specs.declared.ListCounts.{ListCounts}
+use Rattle.index_types.specs.declared.ListCounts.{ListCounts}
 use Rattle.records.specs.Records.{records, keys, key-of, stored-length, record-of}
 use Rattle.records.specs.Find.{find-key, distinct}
 use Rattle.records.specs.Changes.{count-after, with-count, put-record, remove-record, clear-records, full-for}

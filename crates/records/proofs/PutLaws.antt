@@ -12,7 +12,7 @@ use Rattle.stores.specs.Stores.{write}
 use Rattle.stores.proofs.StoreLaws.{length-write}
 use Rattle.records.specs.declared.Found.{Found}
 use Rattle.records.specs.declared.Found.the-variants.{At, Nothing}
-use Rattle.records.specs.declared.ListCounts.{ListCounts}
+use Rattle.index_types.specs.declared.ListCounts.{ListCounts}
 use Rattle.records.specs.Records.{records, keys, key-of, stored-row}
 use Rattle.records.specs.Find.{find-key, is-found, distinct}
 use Rattle.records.specs.Changes.{slot, count-after, put-record, full-for}

@@ -8,7 +8,7 @@ use lib.ListN.{take, drop, replicate}
 use Rattle.stores.specs.Stores.{write}
 use Rattle.records.specs.declared.Found.{Found}
 use Rattle.records.specs.declared.Found.the-variants.{At, Nothing}
-use Rattle.records.specs.declared.ListCounts.{ListCounts}
+use Rattle.index_types.specs.declared.ListCounts.{ListCounts}
 use Rattle.records.specs.Records.{keys}
 use Rattle.records.specs.Find.{find-key, is-found}
 

@@ -7,12 +7,7 @@ ghost use Rattle.stores.specs.Equal.{same-bytes};
 ghost use Rattle.records.specs.Records.{records, keys, stored-row};
 ghost use Rattle.records.specs.Find.{find-key, locate-key};
 ghost use Rattle.records.specs.Checks.{in-bounds, lengths-ok};
-
-// How many records a list holds, and how many it has room for.
-pub struct ListCounts {
-    pub count: usize,
-    pub capacity: usize,
-}
+use index_types::ListCounts;
 
 // Where a search found a key.
 pub enum Found {

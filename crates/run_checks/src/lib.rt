@@ -7,17 +7,21 @@ ghost use Rattle.buffer_core.specs.Pop.{lists-ok};
 ghost use Rattle.call_steps.specs.State.{state, counts-ok, blocks-ok, lengths-ok, state-ok};
 ghost use Rattle.call_steps.specs.Steps.{refused, stepped, lists-with};
 ghost use Rattle.run_checks.specs.Answers.{flag, with-code, with-number, has-room, end-at};
+use call_steps::PARENT_IDS;
+use call_steps::PARENT_NUMBERS;
 use call_steps::Said;
 use call_steps::SpillCounts;
 use call_steps::Stepped;
+use index_types::SEGMENT_THRESHOLD;
+use index_types::TOKEN_LIMIT;
 
 // ---- refusal 25 of the state
 
 fn blocks_ok(parents: usize, ids: &[u8], numbers: &[i64], lengths: &[usize], spills: &[i32]) -> bool
     ensures { λ r. ⌜ r ≡ blocks-ok parents (now (ids .entry)) (now (numbers .entry)) (now (lengths .entry)) (now (spills .entry)) ⌝ }
 {
-    if parents <= ids.len() / 4128 {
-        if parents <= numbers.len() / 1153 {
+    if parents <= ids.len() / PARENT_IDS {
+        if parents <= numbers.len() / PARENT_NUMBERS {
             if parents <= lengths.len() / 3 {
                 return parents <= spills.len() / 2;
             }
@@ -31,9 +35,9 @@ fn counts_ok(lengths: &[usize], p: usize) -> bool
     requires { ⌜ p * 3 + 3 ≤ length (now lengths) ⌝ }
     ensures { λ r. ⌜ r ≡ counts-ok p (now (lengths .entry)) ⌝ }
 {
-    if lengths[p * 3] <= 512 {
-        if lengths[p * 3 + 1] <= 512 {
-            return lengths[p * 3 + 2] <= 128;
+    if lengths[p * 3] <= SEGMENT_THRESHOLD {
+        if lengths[p * 3 + 1] <= SEGMENT_THRESHOLD {
+            return lengths[p * 3 + 2] <= TOKEN_LIMIT;
         }
     }
     false

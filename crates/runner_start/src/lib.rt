@@ -2,8 +2,9 @@
 ghost use mathlib.Core.Path.{_≡_};
 ghost use lib.ListN.{length};
 ghost use Rattle.runner_start.specs.Start.{lists-empty, two-ids};
+use call_steps::PARENT_IDS;
 use call_steps::SpillCounts;
-use records::ListCounts;
+use index_types::ListCounts;
 
 // The segments table of 2, the staged spills of 1 and the deleted spills of 2, all empty.
 pub fn empty_lists() -> SpillCounts
@@ -33,7 +34,7 @@ pub fn parent_ids() -> [u8; 8256]
     ensures { λ r. ⌜ (8256 ≡ length r) × (r ≡ two-ids) ⌝ }
 {
     let mut ids = [0u8; 8256];
-    for i in 4128..4160 {
+    for i in PARENT_IDS..PARENT_IDS + 32 {
         ids[i] = 1;
     }
     ids

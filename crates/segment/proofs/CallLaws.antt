@@ -10,10 +10,10 @@ use lib.ListN.{length, take, drop}
 use lib.Seq.{take-at, drop-at, length-take-le}
 use borrow.Author.Tests.{le-leb, lt-leb, leb-true}
 use Rattle.stores.specs.Stores.{write}
-use Rattle.vlq_core.specs.declared.Wrote.the-variants as wrote
+use Rattle.index_types.specs.declared.Wrote.the-variants as wrote
 use Rattle.vlq_core.specs.Writing.{written, put-bytes}
 use Rattle.vlq_core.proofs.UniqueLaws.{Bytes}
-use Rattle.segment_core.specs.declared.Loaded.the-variants as loaded
+use Rattle.index_types.specs.declared.Loaded.the-variants as loaded
 use Rattle.segment_core.specs.Row.{row-bytes, row-limit}
 use Rattle.segment_core.specs.Reading.{Seg, seg, no-seg, segment-at, ended, row-of}
 use Rattle.segment_core.specs.Loading.{loading, padded, load}

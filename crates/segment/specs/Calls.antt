@@ -6,7 +6,8 @@ use mathlib.Core.List.{List}
 use lib.Dec.{leb}
 use lib.IntN.{ℤ}
 use lib.ListN.{length, take}
-use Rattle.vlq_core.specs.declared.Wrote.the-variants.{Refused}
+use Rattle.index_types.specs.Limits.{segment-threshold}
+use Rattle.index_types.specs.declared.Wrote.the-variants.{Refused}
 use Rattle.vlq_core.specs.Writing.{Written, written, put-bytes}
 use Rattle.segment_core.specs.Row.{row-bytes}
 use Rattle.segment_core.specs.Reading.{row-of, no-seg}
@@ -16,7 +17,7 @@ use Rattle.segment_core.specs.Loading.{Loading, load}
 
 -- n numbers are within 512, and within a borrowed list of len
 abbrev pub held : ℕ → ℕ → Bool
-held n len = leb n 512 && leb n len
+held n len = leb n segment-threshold && leb n len
 
 -- the first n of ts and the first m of bs, with box spill count b and tx spill count t
 unfoldable pub write-of : (ts : List ℤ) (n : ℕ) (bs : List ℤ) (m : ℕ) → ℤ → ℤ → List ℕ → ℕ → Written
@@ -26,4 +27,4 @@ write-of ts n bs m b t l at = cond (held n (length ts) && held m (length bs)) (p
 
 -- the row s of at most `limit` bytes, read into the lists l and m
 unfoldable pub read-of : ℕ → List ℕ → List ℤ → List ℤ → Loading
-read-of limit s l m = load (cond (leb 512 (length l) && leb 512 (length m)) (row-of limit s) (no-seg 25)) l m
+read-of limit s l m = load (cond (leb segment-threshold (length l) && leb segment-threshold (length m)) (row-of limit s) (no-seg 25)) l m

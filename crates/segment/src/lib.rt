@@ -4,13 +4,13 @@ ghost use Rattle.vlq_core.specs.Writing.{written};
 ghost use Rattle.segment_core.specs.Row.{row-limit};
 ghost use Rattle.segment_core.specs.Loading.{loading};
 ghost use Rattle.segment.specs.Calls.{held, write-of, read-of};
-use segment_core::Loaded;
+use index_types::Loaded;
+use index_types::SEGMENT_THRESHOLD;
+use index_types::Wrote;
 use segment_core::ROW_LIMIT;
-use segment_core::SEGMENT_THRESHOLD;
-use vlq_core::Wrote;
 
 // Whether n numbers are within 512 and within a borrowed list of len.
-fn is_held(n: usize, len: usize) -> bool
+pub fn is_held(n: usize, len: usize) -> bool
     ensures { λ r. ⌜ r ≡ held n len ⌝ }
 {
     if SEGMENT_THRESHOLD < n {

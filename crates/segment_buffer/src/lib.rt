@@ -2,8 +2,8 @@
 // segments table and the deleted spills, all borrowed. Every call tests refusal 25 of what it borrows first; a refusal changes nothing.
 
 // The number of a box and the number of a transaction; neither takes the other's place.
-pub use buffer_checks::BoxNumber;
-pub use buffer_checks::TxNumber;
+pub use index_types::BoxNumber;
+pub use index_types::TxNumber;
 
 // ---- append
 
@@ -12,8 +12,8 @@ pub use append_calls::append_tx_entry;
 
 // ---- pop
 
-pub use buffer_checks::PoppedBox;
-pub use buffer_checks::PoppedTx;
+pub use index_types::PoppedBox;
+pub use index_types::PoppedTx;
 pub use pop_calls::pop_box_entry;
 pub use pop_calls::pop_tx_entry;
 

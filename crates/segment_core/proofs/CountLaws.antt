@@ -5,7 +5,7 @@ use mathlib.Core.Bool.{true, false}
 use mathlib.Core.List.{List}
 use lib.IntN.{ℤ}
 use Rattle.signed.specs.Sign.{is-negative}
-use Rattle.vlq_core.specs.declared.Int.the-variants as int
+use Rattle.index_types.specs.declared.Int.the-variants as int
 use Rattle.vlq_core.specs.Reading.{read-at, signed-of, int-of}
 use Rattle.vlq_core.proofs.ReadLaws.{int-number, int-refused}
 use Rattle.segment_core.specs.declared.Counts.{Counts}

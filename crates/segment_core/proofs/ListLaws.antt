@@ -14,8 +14,8 @@ use Rattle.stores.proofs.PutLaws.{sets-front}
 use Rattle.signed.specs.Sign.{is-negative}
 use Rattle.vlq_core.specs.declared.Got.{Got}
 use Rattle.vlq_core.specs.declared.Got.the-variants as got
-use Rattle.vlq_core.specs.declared.Long.the-variants as long
-use Rattle.vlq_core.specs.declared.Int.the-variants as int
+use Rattle.index_types.specs.declared.Long.the-variants as long
+use Rattle.index_types.specs.declared.Int.the-variants as int
 use Rattle.vlq_core.specs.Zigzag.{zag}
 use Rattle.vlq_core.specs.Reading.{read-at, signed-of, long-of, int-of}
 use Rattle.vlq_core.proofs.ReadLaws.{read-next, long-number, long-refused, int-number, int-refused}

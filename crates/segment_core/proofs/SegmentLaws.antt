@@ -8,7 +8,7 @@ use lib.IntN.{ℤ}
 use lib.ListN.{length}
 use Rattle.stores.specs.Stores.{write}
 use Rattle.segment_core.specs.declared.Counts.the-variants as counts
-use Rattle.segment_core.specs.declared.Loaded.the-variants.{Read, Refused}
+use Rattle.index_types.specs.declared.Loaded.the-variants.{Read, Refused}
 use Rattle.segment_core.specs.Reading.{nums, bad, list-at, counts-at, Seg, seg, no-seg, list-then, counts-then, segment-at, ended}
 use Rattle.segment_core.specs.Loading.{loading, load, padded}
 

@@ -4,9 +4,10 @@ use Prim.Native.Nat.{_-_}
 use mathlib.Core.List.{List, _++_}
 use lib.IntN.{ℤ, pos}
 use lib.ListN.{length, replicate}
+use Rattle.index_types.specs.Limits.{segment-threshold}
 use Rattle.stores.specs.Stores.{write}
-use Rattle.segment_core.specs.declared.Loaded.{Loaded}
-use Rattle.segment_core.specs.declared.Loaded.the-variants.{Read, Refused}
+use Rattle.index_types.specs.declared.Loaded.{Loaded}
+use Rattle.index_types.specs.declared.Loaded.the-variants.{Read, Refused}
 use Rattle.segment_core.specs.Reading.{Seg, seg, no-seg}
 
 -- the answer, and both lists at exit
@@ -19,7 +20,7 @@ abbrev pub loading : Loaded → List ℤ → List ℤ → Loading
 loading r l m = record { answer = r; txs = l; boxes = m }
 
 abbrev pub padded : List ℤ → List ℤ
-padded zs = zs ++ replicate (512 - length zs) (pos 0)
+padded zs = zs ++ replicate (segment-threshold - length zs) (pos 0)
 
 -- a segment that was read, put into the lists l and m
 abbrev pub load : Seg → List ℤ → List ℤ → Loading

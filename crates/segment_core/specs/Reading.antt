@@ -8,6 +8,7 @@ use mathlib.Core.List.{List, [], _∷_}
 use lib.Dec.{leb, ltb, eqb}
 use lib.IntN.{ℤ, pos, negsuc}
 use lib.ListN.{length}
+use Rattle.index_types.specs.Limits.{segment-threshold}
 use Rattle.signed.specs.Sign.{is-negative}
 use Rattle.vlq_core.specs.declared.Got.{Got}
 use Rattle.vlq_core.specs.declared.Got.the-variants.{Value, Refused}
@@ -19,7 +20,7 @@ use Rattle.segment_core.specs.Row.{row-bytes}
 -- ---- a length: 3, then 4, then 5, which counts the bytes of s behind the length
 
 abbrev pub length-of : List ℕ → ℤ → ℕ → Got
-length-of s (pos k) n = cond (ltb 512 k) (Refused 4) (cond (ltb (length s - n) k) (Refused 5) (Value k n))
+length-of s (pos k) n = cond (ltb segment-threshold k) (Refused 4) (cond (ltb (length s - n) k) (Refused 5) (Value k n))
 length-of s (negsuc k) n = Refused 3
 
 unfoldable pub length-at : List ℕ → ℕ → Got

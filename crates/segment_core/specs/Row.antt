@@ -5,6 +5,7 @@ use mathlib.Core.Logic.{_⊎_}
 use mathlib.Core.List.{List, [], _∷_, _++_}
 use lib.IntN.{ℤ, pos}
 use lib.ListN.{length}
+use Rattle.index_types.specs.Limits.{segment-threshold}
 use Rattle.vlq_core.specs.Zigzag.{zig}
 use Rattle.vlq_core.specs.Groups.{enc}
 
@@ -31,7 +32,7 @@ row-limit = 10254
 
 -- the first n numbers of xs are a list that a row may hold
 abbrev pub Held : ℕ → List ℤ → Type 0
-Held n xs = (n ≤ 512) × (n ≤ length xs)
+Held n xs = (n ≤ segment-threshold) × (n ≤ length xs)
 
 -- room for the bytes s from position `at` on in len places: for s itself, or for the most bytes that such a part can have
 abbrev pub Room : ℕ → ℕ → List ℕ → ℕ → Type 0

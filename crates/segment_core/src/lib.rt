@@ -5,17 +5,18 @@ ghost use mathlib.Core.Bool.{true, false, not, _||_};
 ghost use Prim.Native.Nat.{_+_, _*_, _<_, _≤_};
 ghost use lib.Dec.{eqb};
 ghost use lib.ListN.{length, take};
+ghost use Rattle.index_types.specs.Limits.{segment-threshold};
 ghost use Rattle.stores.specs.Stores.{write, Put};
 ghost use Rattle.segment_core.specs.Row.{numbers-bytes, list-bytes, counts-bytes, row-bytes, row-limit, Held, Room};
 ghost use Rattle.segment_core.specs.Reading.{length-at, numbers-at, list-at, counts-at, segment-at, ended};
 ghost use Rattle.segment_core.specs.Loading.{loading, load};
 ghost use Rattle.segment_core.specs.Steps.{ReadInto};
+use index_types::Int;
+use index_types::Loaded;
+use index_types::Long;
+use index_types::SEGMENT_THRESHOLD;
 use vlq_core::Got;
-use vlq_core::Int;
-use vlq_core::Long;
 
-// The most numbers of a list in a row, and of a borrowed list that are in use.
-pub const SEGMENT_THRESHOLD: usize = 512;
 // The most bytes of a row.
 pub const ROW_LIMIT: usize = 10254;
 
@@ -28,18 +29,6 @@ pub enum Part {
 // The spill counts, of boxes and of transactions, and the position after them, or the refusal code.
 pub enum Counts {
     Both(i32, i32, usize),
-    Refused(u8),
-}
-
-// A segment that was read: how many transactions and boxes, the spill counts, and the position after it; or the refusal code.
-pub enum Loaded {
-    Read {
-        txs: usize,
-        boxes: usize,
-        box_segment_count: i32,
-        tx_segment_count: i32,
-        next: usize,
-    },
     Refused(u8),
 }
 
@@ -163,8 +152,8 @@ pub fn read_length(row: &[u8], at: usize) -> Got
 }
 
 // k numbers from a position on; most have few groups.
-fn read_numbers(row: &[u8], at: usize, k: usize, buf: &mut [i64; 512]) -> Part
-    requires { ⌜ k ≤ 512 ⌝ }
+fn read_numbers(row: &[u8], at: usize, k: usize, buf: &mut [i64; SEGMENT_THRESHOLD]) -> Part
+    requires { ⌜ k ≤ segment-threshold ⌝ }
     ensures { λ r. ⌜ ReadInto (numbers-at k (now (row .entry)) at) (now (buf .entry)) r (now (buf .exit)) ⌝ }
 {
     let mut next = at;
@@ -192,7 +181,7 @@ fn read_numbers(row: &[u8], at: usize, k: usize, buf: &mut [i64; 512]) -> Part
 }
 
 // A list: a length and its numbers.
-pub fn read_list(row: &[u8], at: usize, buf: &mut [i64; 512]) -> Part
+pub fn read_list(row: &[u8], at: usize, buf: &mut [i64; SEGMENT_THRESHOLD]) -> Part
     ensures { λ r. ⌜ ReadInto (list-at (now (row .entry)) at) (now (buf .entry)) r (now (buf .exit)) ⌝ }
 {
     match read_length(row, at) {
@@ -233,12 +222,12 @@ fn may_end(must: bool, next: usize, len: usize) -> bool
 }
 
 // A buffer, copied to the front of a borrowed list.
-fn copy_out(src: &[i64; 512], dst: &mut [i64])
-    requires { ⌜ (length (now src) ≡ 512) × (512 ≤ length (now dst)) ⌝ }
+fn copy_out(src: &[i64; SEGMENT_THRESHOLD], dst: &mut [i64])
+    requires { ⌜ (length (now src) ≡ segment-threshold) × (segment-threshold ≤ length (now dst)) ⌝ }
     ensures { λ r. ⌜ now (dst .exit) ≡ write 0 (now (src .entry)) (now (dst .entry)) ⌝ }
 {
     let mut i = 0;
-    while i < 512 {
+    while i < SEGMENT_THRESHOLD {
         dst[i] = src[i];
         i = i + 1;
     }
@@ -246,12 +235,12 @@ fn copy_out(src: &[i64; 512], dst: &mut [i64])
 
 // A segment at a position, which must end the bytes or may be followed by others.
 fn load_segment(row: &[u8], at: usize, must_end: bool, txs: &mut [i64], boxes: &mut [i64]) -> Loaded
-    requires { ⌜ (512 ≤ length (now txs)) × (512 ≤ length (now boxes)) ⌝ }
+    requires { ⌜ (segment-threshold ≤ length (now txs)) × (segment-threshold ≤ length (now boxes)) ⌝ }
     ensures { λ r. ⌜ loading r (now (txs .exit)) (now (boxes .exit))
         ≡ load (ended «must_end» (length (now (row .entry))) (segment-at (now (row .entry)) at)) (now (txs .entry)) (now (boxes .entry)) ⌝ }
 {
-    let mut t = [0i64; 512];
-    let mut b = [0i64; 512];
+    let mut t = [0i64; SEGMENT_THRESHOLD];
+    let mut b = [0i64; SEGMENT_THRESHOLD];
     match read_list(row, at, &mut t) {
         Part::Refused(code) => Loaded::Refused(code),
         Part::Listed(n, p) => match read_list(row, p, &mut b) {
@@ -279,7 +268,7 @@ fn load_segment(row: &[u8], at: usize, must_end: bool, txs: &mut [i64], boxes: &
 
 // Reads the segment at a position of a longer record into borrowed lists; other bytes may follow it.
 pub fn read_segment_at(row: &[u8], at: usize, txs: &mut [i64], boxes: &mut [i64]) -> Loaded
-    requires { ⌜ (512 ≤ length (now txs)) × (512 ≤ length (now boxes)) ⌝ }
+    requires { ⌜ (segment-threshold ≤ length (now txs)) × (segment-threshold ≤ length (now boxes)) ⌝ }
     ensures { λ r. ⌜ loading r (now (txs .exit)) (now (boxes .exit)) ≡ load (segment-at (now (row .entry)) at) (now (txs .entry)) (now (boxes .entry)) ⌝ }
 {
     load_segment(row, at, false, txs, boxes)
@@ -287,7 +276,7 @@ pub fn read_segment_at(row: &[u8], at: usize, txs: &mut [i64], boxes: &mut [i64]
 
 // Reads the segment that ends a record, from a position on; 8 where bytes are left over.
 pub fn read_last_segment(row: &[u8], at: usize, txs: &mut [i64], boxes: &mut [i64]) -> Loaded
-    requires { ⌜ (512 ≤ length (now txs)) × (512 ≤ length (now boxes)) ⌝ }
+    requires { ⌜ (segment-threshold ≤ length (now txs)) × (segment-threshold ≤ length (now boxes)) ⌝ }
     ensures { λ r. ⌜ loading r (now (txs .exit)) (now (boxes .exit))
         ≡ load (ended true (length (now (row .entry))) (segment-at (now (row .entry)) at)) (now (txs .entry)) (now (boxes .entry)) ⌝ }
 {

@@ -24,8 +24,8 @@ use Rattle.segment_id.specs.declared.Kind.{Kind}
 use Rattle.segment_id.specs.declared.Kind.the-variants.{Box, Tx}
 use Rattle.segment_core.specs.declared.Counts.{Counts}
 use Rattle.segment_core.specs.declared.Counts.the-variants as counts
-use Rattle.segment_core.specs.declared.Loaded.{Loaded}
-use Rattle.segment_core.specs.declared.Loaded.the-variants as loaded
+use Rattle.index_types.specs.declared.Loaded.{Loaded}
+use Rattle.index_types.specs.declared.Loaded.the-variants as loaded
 use Rattle.segment_core.specs.Reading.{Nums, nums, bad, list-at, counts-at, Seg, seg, no-seg, list-then, counts-then, segment-at, ended, row-of}
 use Rattle.segment_core.specs.Loading.{Loading, loading, load, padded}
 use Rattle.segment_core.proofs.ListLaws.{list-most}

@@ -4,6 +4,7 @@ ghost use mathlib.Core.Bool.{true};
 ghost use Prim.Native.Nat.{_*_, _<_, _≤_};
 ghost use lib.IntN.{pos};
 ghost use lib.ListN.{length};
+ghost use Rattle.index_types.specs.Limits.{segment-threshold};
 ghost use Rattle.records.specs.Records.{keys};
 ghost use Rattle.records.specs.Find.{distinct};
 ghost use Rattle.segment_id.specs.Key.{row-key};
@@ -12,8 +13,9 @@ ghost use Rattle.buffer_core.specs.Edition.{edition-1, numbers-of};
 ghost use Rattle.buffer_core.specs.Spills.{sources, spill-read};
 ghost use Rattle.buffer_core.specs.Flip.{row-checked};
 ghost use Rattle.spill_rows.specs.Steps.{SpillInto, read-under, CheckedInto};
+use index_types::Loaded;
+use index_types::SEGMENT_THRESHOLD;
 use records::Place;
-use segment_core::Loaded;
 use segment_id::Kind;
 
 // How many numbers were read, or the refusal code.
@@ -32,10 +34,10 @@ pub enum Read {
 
 // Reads the boxes of a row.
 fn read_boxes(row: &[u8], out: &mut [i64]) -> SpillRead
-    requires { ⌜ (length (now row) ≤ 10254) × (length (now out) ≡ 512) ⌝ }
+    requires { ⌜ (length (now row) ≤ 10254) × (length (now out) ≡ segment-threshold) ⌝ }
     ensures { λ r. ⌜ SpillInto (numbers-of Kind.Box (row-of 10254 (now (row .entry)))) r (now (out .exit)) ⌝ }
 {
-    let mut txs = [0i64; 512];
+    let mut txs = [0i64; SEGMENT_THRESHOLD];
     match segment_core::read_last_segment(row, 0, &mut txs, out) {
         Loaded::Read { boxes, .. } => SpillRead::Numbers(boxes),
         Loaded::Refused(code) => SpillRead::Refused(code),
@@ -44,10 +46,10 @@ fn read_boxes(row: &[u8], out: &mut [i64]) -> SpillRead
 
 // Reads the transactions of a row.
 fn read_txs(row: &[u8], out: &mut [i64]) -> SpillRead
-    requires { ⌜ (length (now row) ≤ 10254) × (length (now out) ≡ 512) ⌝ }
+    requires { ⌜ (length (now row) ≤ 10254) × (length (now out) ≡ segment-threshold) ⌝ }
     ensures { λ r. ⌜ SpillInto (numbers-of Kind.Tx (row-of 10254 (now (row .entry)))) r (now (out .exit)) ⌝ }
 {
-    let mut boxes = [0i64; 512];
+    let mut boxes = [0i64; SEGMENT_THRESHOLD];
     match segment_core::read_last_segment(row, 0, out, &mut boxes) {
         Loaded::Read { txs, .. } => SpillRead::Numbers(txs),
         Loaded::Refused(code) => SpillRead::Refused(code),
@@ -56,7 +58,7 @@ fn read_txs(row: &[u8], out: &mut [i64]) -> SpillRead
 
 // Reads the numbers of a kind in a row.
 fn read_row(kind: Kind, row: &[u8], out: &mut [i64]) -> SpillRead
-    requires { ⌜ (length (now row) ≤ 10254) × (length (now out) ≡ 512) ⌝ }
+    requires { ⌜ (length (now row) ≤ 10254) × (length (now out) ≡ segment-threshold) ⌝ }
     ensures { λ r. ⌜ SpillInto (numbers-of kind (row-of 10254 (now (row .entry)))) r (now (out .exit)) ⌝ }
 {
     match kind {
@@ -76,7 +78,7 @@ pub fn read_under<'a>(
     hints: &[u16],
     out: &mut [i64],
 ) -> SpillRead
-    requires { ⌜ («staged_count» * 10288 ≤ length (now staged)) × («table_count» * 10288 ≤ length (now table)) × (length (now out) ≡ 512)
+    requires { ⌜ («staged_count» * 10288 ≤ length (now staged)) × («table_count» * 10288 ≤ length (now table)) × (length (now out) ≡ segment-threshold)
         × (length (now key) ≡ 32) × (distinct (keys 10288 «table_count» (now table)) ≡ true) ⌝ }
     ensures { λ r. ⌜ SpillInto (read-under edition-1 kind (now (key .entry)) (now (staged .entry)) «staged_count» (now (table .entry)) «table_count») r (now (out .exit)) ⌝ }
 {
@@ -123,7 +125,7 @@ pub fn read_spill<'a>(
     out: &mut [i64],
 ) -> SpillRead
     requires { ⌜ («staged_count» * 10288 ≤ length (now staged)) × («table_count» * 10288 ≤ length (now table)) × (number < 2147483648)
-        × (length (now out) ≡ 512) × (distinct (keys 10288 «table_count» (now table)) ≡ true) ⌝ }
+        × (length (now out) ≡ segment-threshold) × (distinct (keys 10288 «table_count» (now table)) ≡ true) ⌝ }
     ensures { λ r. ⌜ SpillInto (spill-read edition-1 kind (sources (now (parent .entry)) (now (staged .entry)) «staged_count» (now (table .entry)) «table_count») number)
         r (now (out .exit)) ⌝ }
 {
@@ -152,7 +154,7 @@ pub fn read_checked<'a>(
     out: &mut [i64],
 ) -> Read
     requires { ⌜ («staged_count» * 10288 ≤ length (now staged)) × («table_count» * 10288 ≤ length (now table)) × (number < 2147483648)
-        × (length (now out) ≡ 512) × (distinct (keys 10288 «table_count» (now table)) ≡ true) ⌝ }
+        × (length (now out) ≡ segment-threshold) × (distinct (keys 10288 «table_count» (now table)) ≡ true) ⌝ }
     ensures { λ r. ⌜ CheckedInto (row-checked edition-1 (sources (now (parent .entry)) (now (staged .entry)) «staged_count» (now (table .entry)) «table_count») number)
         r (now (out .exit)) ⌝ }
 {
@@ -169,10 +171,10 @@ pub fn read_checked<'a>(
     );
     match read {
         SpillRead::Numbers(n) => {
-            if n != 512 {
+            if n != SEGMENT_THRESHOLD {
                 return Read::Faulty(refusal::ROW_OUT_OF_ORDER);
             }
-            if entries::order_ok(out, 512) {
+            if entries::order_ok(out, SEGMENT_THRESHOLD) {
                 Read::Good
             } else {
                 Read::Faulty(refusal::ROW_OUT_OF_ORDER)

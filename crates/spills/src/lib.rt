@@ -1,7 +1,7 @@
 // Inspection of spill rows among the staged spills and in the segments table.
 ghost use mathlib.Core.Path.{_≡_};
 ghost use Rattle.spills.specs.Inspection.{spills-ok, locate-row, located-code, located-row, Within, inspect-code, inspect-row};
-use records::ListCounts;
+use index_types::ListCounts;
 use records::Place;
 
 // The bytes of a record: 32 of the key, 2 of the length, and the longest row.

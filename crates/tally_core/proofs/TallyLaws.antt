@@ -10,12 +10,12 @@ use lib.ListN.{length, take}
 use borrow.Author.Tests.{eqb-true}
 use Rattle.signed.specs.Sign.{is-negative}
 use Rattle.records.proofs.CheckLaws.{and-left}
-use Rattle.entries.specs.declared.Tally.{Tally}
+use Rattle.index_types.specs.declared.Tally.{Tally}
 use Rattle.entries.specs.Order.{order-ok}
 use Rattle.entries.specs.Tally.{figures, plus}
 use Rattle.entries.proofs.TallyLaws.{adds-up, figures-append, plus-none, plus-comm, plus-assoc}
-use Rattle.buffer_core.specs.declared.Tallied.{Tallied}
-use Rattle.buffer_core.specs.declared.Tallied.the-variants.{Counts, Refused}
+use Rattle.index_types.specs.declared.Tallied.{Tallied}
+use Rattle.index_types.specs.declared.Tallied.the-variants.{Counts, Refused}
 use Rattle.buffer_core.specs.Edition.{RowRead, good, bad, edition-1}
 use Rattle.buffer_core.specs.Spills.{Sources, spill-read}
 use Rattle.buffer_core.specs.Rows.{then-more, then-rows, rows-up}

@@ -1,9 +1,9 @@
 -- What the steps of a tally answer.
 use Prim.Native.Nat.{ℕ, zero, suc, _+_}
-use Rattle.entries.specs.declared.Tally.{Tally}
+use Rattle.index_types.specs.declared.Tally.{Tally}
 use Rattle.entries.specs.Tally.{figures, plus}
-use Rattle.buffer_core.specs.declared.Tallied.{Tallied}
-use Rattle.buffer_core.specs.declared.Tallied.the-variants.{Counts, Refused}
+use Rattle.index_types.specs.declared.Tallied.{Tallied}
+use Rattle.index_types.specs.declared.Tallied.the-variants.{Counts, Refused}
 use Rattle.buffer_core.specs.Edition.{RowRead, good, bad}
 
 -- the figures of a row, or the row's refusal code

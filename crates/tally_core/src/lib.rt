@@ -3,6 +3,7 @@ ghost use mathlib.Core.Path.{_≡_};
 ghost use mathlib.Core.Bool.{true};
 ghost use Prim.Native.Nat.{_+_, _*_, _≤_, _<_};
 ghost use lib.ListN.{length, take};
+ghost use Rattle.index_types.specs.Limits.{segment-threshold};
 ghost use Rattle.records.specs.Records.{keys};
 ghost use Rattle.records.specs.Find.{distinct};
 ghost use Rattle.buffer_core.specs.Edition.{edition-1};
@@ -12,10 +13,11 @@ ghost use Rattle.buffer_core.specs.Tally.{tally-core};
 ghost use Rattle.flip_core.specs.Ready.{FlipReady};
 ghost use Rattle.entries.specs.Tally.{plus};
 ghost use Rattle.tally_core.specs.Steps.{counted, tally-rows};
-use buffer_core::HeadCounts;
-use buffer_core::Tallied;
-use entries::Tally;
-use records::ListCounts;
+use index_types::HeadCounts;
+use index_types::ListCounts;
+use index_types::SEGMENT_THRESHOLD;
+use index_types::Tallied;
+use index_types::Tally;
 use spill_rows::Read;
 
 // The figures of the row of a spill number, or the row's refusal code.
@@ -32,7 +34,7 @@ fn count_row<'a>(
         × (distinct (keys 10288 «table_count» (now table)) ≡ true) ⌝ }
     ensures { λ r. ⌜ r ≡ counted (row-checked edition-1 (sources (now (parent .entry)) (now (staged .entry)) «staged_count» (now (table .entry)) «table_count») number) ⌝ }
 {
-    let mut row = [0i64; 512];
+    let mut row = [0i64; SEGMENT_THRESHOLD];
     let read = spill_rows::read_checked(
         parent,
         number,
@@ -44,7 +46,7 @@ fn count_row<'a>(
         &mut row,
     );
     match read {
-        Read::Good => Tallied::Counts(entries::tally_entries(&row, 512)),
+        Read::Good => Tallied::Counts(entries::tally_entries(&row, SEGMENT_THRESHOLD)),
         Read::Faulty(code) => Tallied::Refused(code),
     }
 }
@@ -74,7 +76,7 @@ fn count_rows<'a>(
     hints: &[u16],
 ) -> Tallied
     requires { ⌜ («staged_count» * 10288 ≤ length (now staged)) × («table_count» * 10288 ≤ length (now table)) × (spills < 2147483648)
-        × («so_far» .unspent ≤ 512) × («so_far» .spent ≤ 512) × («so_far» .unknown ≤ 512) × (distinct (keys 10288 «table_count» (now table)) ≡ true) ⌝ }
+        × («so_far» .unspent ≤ segment-threshold) × («so_far» .spent ≤ segment-threshold) × («so_far» .unknown ≤ segment-threshold) × (distinct (keys 10288 «table_count» (now table)) ≡ true) ⌝ }
     ensures { λ r. ⌜ r ≡ tally-rows (row-checked edition-1 (sources (now (parent .entry)) (now (staged .entry)) «staged_count» (now (table .entry)) «table_count»)) 0 spills «so_far» ⌝ }
 {
     let mut t = so_far;
@@ -105,7 +107,7 @@ fn count_few<'a>(
     table_count: usize,
 ) -> Tallied
     requires { ⌜ («staged_count» * 10288 ≤ length (now staged)) × («table_count» * 10288 ≤ length (now table)) × (spills < 2147483648)
-        × («so_far» .unspent ≤ 512) × («so_far» .spent ≤ 512) × («so_far» .unknown ≤ 512) × (distinct (keys 10288 «table_count» (now table)) ≡ true) ⌝ }
+        × («so_far» .unspent ≤ segment-threshold) × («so_far» .spent ≤ segment-threshold) × («so_far» .unknown ≤ segment-threshold) × (distinct (keys 10288 «table_count» (now table)) ≡ true) ⌝ }
     ensures { λ r. ⌜ r ≡ tally-rows (row-checked edition-1 (sources (now (parent .entry)) (now (staged .entry)) «staged_count» (now (table .entry)) «table_count»)) 0 spills «so_far» ⌝ }
 {
     let none = [0u16; 1];
@@ -132,7 +134,7 @@ fn count_many<'a>(
     table_count: usize,
 ) -> Tallied
     requires { ⌜ («staged_count» * 10288 ≤ length (now staged)) × («table_count» * 10288 ≤ length (now table)) × (spills < 2147483648)
-        × («so_far» .unspent ≤ 512) × («so_far» .spent ≤ 512) × («so_far» .unknown ≤ 512) × (distinct (keys 10288 «table_count» (now table)) ≡ true) ⌝ }
+        × («so_far» .unspent ≤ segment-threshold) × («so_far» .spent ≤ segment-threshold) × («so_far» .unknown ≤ segment-threshold) × (distinct (keys 10288 «table_count» (now table)) ≡ true) ⌝ }
     ensures { λ r. ⌜ r ≡ tally-rows (row-checked edition-1 (sources (now (parent .entry)) (now (staged .entry)) «staged_count» (now (table .entry)) «table_count»)) 0 spills «so_far» ⌝ }
 {
     let mut hints = [0u16; 16384];
@@ -160,7 +162,7 @@ fn count_spills<'a>(
     table_count: usize,
 ) -> Tallied
     requires { ⌜ («staged_count» * 10288 ≤ length (now staged)) × («table_count» * 10288 ≤ length (now table)) × (spills < 2147483648)
-        × («so_far» .unspent ≤ 512) × («so_far» .spent ≤ 512) × («so_far» .unknown ≤ 512) × (distinct (keys 10288 «table_count» (now table)) ≡ true) ⌝ }
+        × («so_far» .unspent ≤ segment-threshold) × («so_far» .spent ≤ segment-threshold) × («so_far» .unknown ≤ segment-threshold) × (distinct (keys 10288 «table_count» (now table)) ≡ true) ⌝ }
     ensures { λ r. ⌜ r ≡ tally-rows (row-checked edition-1 (sources (now (parent .entry)) (now (staged .entry)) «staged_count» (now (table .entry)) «table_count»)) 0 spills «so_far» ⌝ }
 {
     if table_count <= 128 {

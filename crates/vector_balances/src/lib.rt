@@ -5,6 +5,8 @@ ghost use lib.ListN.{length};
 ghost use Rattle.balance.specs.Boxes.{add-box, subtract-box};
 use balance::Balance;
 use balance::Outcome;
+use index_types::TOKEN_ID_BYTES;
+use index_types::TOKEN_LIMIT;
 
 // How a balance is changed.
 pub enum Change {
@@ -22,8 +24,8 @@ pub struct Held {
 
 // The balance at a position: nanoErgs, ids, amounts and the token count.
 pub fn balance_at(s: &[u8], at: usize) -> Held {
-    let mut ids = [0u8; 4096];
-    let mut amounts = [0i64; 128];
+    let mut ids = [0u8; TOKEN_ID_BYTES];
+    let mut amounts = [0i64; TOKEN_LIMIT];
     let nanos = vector_fields::number_at(s, at);
     let i = vector_fields::bytes_at(s, nanos.next, &mut ids);
     let a = vector_fields::numbers_at(s, i.next, &mut amounts);

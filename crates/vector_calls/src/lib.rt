@@ -5,10 +5,11 @@ mod show;
 ghost use mathlib.Core.Path.{_≡_};
 ghost use Prim.Native.Nat.{_≤_};
 ghost use lib.ListN.{length};
-use buffer_core::HeadCounts;
-use records::ListCounts;
-use segment_buffer::BoxNumber;
-use segment_buffer::TxNumber;
+use index_types::BoxNumber;
+use index_types::HeadCounts;
+use index_types::ListCounts;
+use index_types::SEGMENT_THRESHOLD;
+use index_types::TxNumber;
 use segment_id::Kind;
 
 pub enum Call {
@@ -285,7 +286,7 @@ pub fn replay(name: &[u8], call: Call, s: &[u8]) {
     }
     let byte = s[0];
     let parent = [byte; 32];
-    let mut head = [0i64; 512];
+    let mut head = [0i64; SEGMENT_THRESHOLD];
     let part = vector_fields::numbers_at(s, 1, &mut head);
     let len = part.len;
     with_head(name, call, &parent, s, part.next, &mut head[0..len]);

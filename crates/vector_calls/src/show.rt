@@ -1,12 +1,12 @@
 // The lines for each kind of answer.
-use buffer_core::Appended;
-use buffer_core::Flipped;
-use buffer_core::Flushed;
-use buffer_core::HeadCounts;
-use buffer_core::Tallied;
-use records::ListCounts;
-use segment_buffer::PoppedBox;
-use segment_buffer::PoppedTx;
+use index_types::Appended;
+use index_types::Flipped;
+use index_types::Flushed;
+use index_types::HeadCounts;
+use index_types::ListCounts;
+use index_types::PoppedBox;
+use index_types::PoppedTx;
+use index_types::Tallied;
 use spills::Located;
 
 // The length of the head and its spill count.

@@ -2,8 +2,8 @@
 ghost use mathlib.Core.Path.{_≡_};
 ghost use Prim.Native.Nat.{_≤_};
 ghost use lib.ListN.{length};
+use index_types::Int;
 use segment_id::Kind;
-use vlq_core::Int;
 
 fn line(name: &[u8], digest: &[u8]) {
     vector_line::start(name);

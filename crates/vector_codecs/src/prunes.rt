@@ -1,14 +1,16 @@
 // Heights that pruning keeps, and milliErgs of a statement, a line each.
+ghost use Rattle.index_types.specs.Limits.{segment-threshold};
 ghost use mathlib.Core.Path.{_≡_};
 ghost use Prim.Native.Nat.{_≤_};
 ghost use lib.ListN.{length};
+use index_types::SEGMENT_THRESHOLD;
 use undo::prune::Pruned;
 use undo::prune::Window;
 
-fn heights_of(list: &[i64; 512]) -> [u64; 512]
-    ensures { λ r. ⌜ 512 ≡ length r ⌝ }
+fn heights_of(list: &[i64; SEGMENT_THRESHOLD]) -> [u64; SEGMENT_THRESHOLD]
+    ensures { λ r. ⌜ segment-threshold ≡ length r ⌝ }
 {
-    let mut heights = [0u64; 512];
+    let mut heights = [0u64; SEGMENT_THRESHOLD];
     for i in 0..512 {
         heights[i] = signed::magnitude(list[i]);
     }
@@ -49,7 +51,7 @@ fn prune(
 
 // Prunes heights: the list, the count, the capacity, the current height, whether a window is named, and the window.
 pub fn pruning(name: &[u8], s: &[u8]) {
-    let mut list = [0i64; 512];
+    let mut list = [0i64; SEGMENT_THRESHOLD];
     let part = vector_fields::numbers_at(s, 0, &mut list);
     let len = part.len;
     let count = vector_fields::size_at(s, part.next);

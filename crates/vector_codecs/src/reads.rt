@@ -4,10 +4,11 @@ ghost use Prim.Native.Nat.{_≤_};
 ghost use lib.ListN.{length};
 use address_core::AddressRead;
 use address_core::IndexedAddress;
+use index_types::Int;
+use index_types::Loaded;
+use index_types::Long;
+use index_types::SEGMENT_THRESHOLD;
 use refusal::Answer;
-use segment_core::Loaded;
-use vlq_core::Int;
-use vlq_core::Long;
 use vlq_reader::Span;
 
 // ---- coded numbers: the number, and the position behind it
@@ -120,8 +121,8 @@ fn read_row(name: &[u8], row: &[u8], txs: &mut [i64], boxes: &mut [i64]) {
 
 // A row: the two lists that it is read to, and the row.
 pub fn row(name: &[u8], s: &[u8]) {
-    let mut txs = [0i64; 512];
-    let mut boxes = [0i64; 512];
+    let mut txs = [0i64; SEGMENT_THRESHOLD];
+    let mut boxes = [0i64; SEGMENT_THRESHOLD];
     let mut row = [0u8; 10255];
     let t = vector_fields::numbers_at(s, 0, &mut txs);
     let b = vector_fields::numbers_at(s, t.next, &mut boxes);
@@ -177,8 +178,8 @@ fn read_record(name: &[u8], record: &[u8], txs: &mut [i64], boxes: &mut [i64]) {
 
 // An address record: the two lists that it is read to, and the record.
 pub fn address(name: &[u8], s: &[u8]) {
-    let mut txs = [0i64; 512];
-    let mut boxes = [0i64; 512];
+    let mut txs = [0i64; SEGMENT_THRESHOLD];
+    let mut boxes = [0i64; SEGMENT_THRESHOLD];
     let mut record = [0u8; 15676];
     let t = vector_fields::numbers_at(s, 0, &mut txs);
     let b = vector_fields::numbers_at(s, t.next, &mut boxes);

@@ -3,7 +3,8 @@ ghost use mathlib.Core.Path.{_≡_};
 ghost use Prim.Native.Nat.{_≤_};
 ghost use lib.ListN.{length};
 use balance::Balance;
-use vlq_core::Wrote;
+use index_types::ADDRESS_LIMIT;
+use index_types::Wrote;
 
 fn written(name: &[u8], wrote: Wrote, out: &[u8]) {
     match wrote {
@@ -147,7 +148,7 @@ pub fn address(name: &[u8], s: &[u8]) {
     let shape = shape_at(s, held.next);
     let mut txs = [0i64; 513];
     let mut boxes = [0i64; 513];
-    let mut out = [0u8; 15675];
+    let mut out = [0u8; ADDRESS_LIMIT];
     let t = vector_fields::numbers_at(s, shape.next, &mut txs);
     let b = vector_fields::numbers_at(s, t.next, &mut boxes);
     let o = vector_fields::bytes_at(s, b.next, &mut out);

@@ -4,9 +4,9 @@
 // also stands in all places behind it. Where a field is cut, a number is 0.
 ghost use Prim.Native.Nat.{_<_, _≤_};
 ghost use lib.ListN.{length};
+use index_types::Int;
+use index_types::Long;
 use libc::STDOUT_FILENO;
-use vlq_core::Int;
-use vlq_core::Long;
 
 fn wide(x: u8) -> u64 {
     x as u64

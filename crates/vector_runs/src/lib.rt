@@ -1,6 +1,9 @@
 // Histories, a line each: how many calls were made, the answer of each, which is a code and the number of an accepted
 // pop, and the state of both parents behind them.
 ghost use Prim.Native.Nat.{_<_};
+use call_steps::AMOUNTS_AT;
+use call_steps::NANOS_AT;
+use call_steps::PARENT_NUMBERS;
 
 fn answer(code: u8, popped: bool, number: i64) {
     vector_line::code(code);
@@ -10,7 +13,7 @@ fn answer(code: u8, popped: bool, number: i64) {
 }
 
 // The answers of n calls, at most 1,024.
-fn answers(codes: &[u8; 2048], numbers: &[i64; 1024], n: usize) {
+fn answers(codes: &[u8; 2048], numbers: &[i64; AMOUNTS_AT], n: usize) {
     vector_line::number(n as u64);
     for i in 0..1024 {
         if i < n {
@@ -32,7 +35,7 @@ fn parent(p: usize, numbers: &[i64; 2306], lengths: &[usize; 6], spills: &[i32; 
 {
     head(lengths[p * 3], spills[p * 2]);
     head(lengths[p * 3 + 1], spills[p * 2 + 1]);
-    vector_line::signed_number(numbers[p * 1153 + 1152]);
+    vector_line::signed_number(numbers[p * PARENT_NUMBERS + NANOS_AT]);
     vector_line::number(lengths[p * 3 + 2] as u64);
 }
 
@@ -46,7 +49,7 @@ pub fn run(name: &[u8], s: &[u8]) {
     let mut table = [0u8; 20576];
     let mut deleted = [0u8; 64];
     let mut codes = [0u8; 2048];
-    let mut popped = [0i64; 1024];
+    let mut popped = [0i64; AMOUNTS_AT];
     let counts = runner_start::empty_lists();
     let p = runner::run_calls(
         s,

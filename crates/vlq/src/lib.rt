@@ -4,9 +4,9 @@ ghost use Rattle.vlq_core.specs.Zigzag.{zig};
 ghost use Rattle.vlq_core.specs.Groups.{enc};
 ghost use Rattle.vlq_core.specs.Reading.{read-at, long-of, int-of};
 ghost use Rattle.vlq_core.specs.Writing.{written, put-bytes};
-use vlq_core::Int;
-use vlq_core::Long;
-use vlq_core::Wrote;
+use index_types::Int;
+use index_types::Long;
+use index_types::Wrote;
 
 // Writes a signed 64-bit number from a position on; where it does not fit, nothing changes.
 pub fn put_i64(n: i64, out: &mut [u8], at: usize) -> Wrote

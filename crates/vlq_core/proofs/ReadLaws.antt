@@ -12,8 +12,8 @@ use lib.Pow.{pow-add, pow-mono}
 use borrow.Author.Tests.{lt-ltb, le-ltb, ne-eqb, eq-eqb}
 use Rattle.vlq_core.specs.declared.Got.{Got}
 use Rattle.vlq_core.specs.declared.Got.the-variants.{Value, Refused}
-use Rattle.vlq_core.specs.declared.Long.the-variants as long
-use Rattle.vlq_core.specs.declared.Int.the-variants as int
+use Rattle.index_types.specs.declared.Long.the-variants as long
+use Rattle.index_types.specs.declared.Int.the-variants as int
 use Rattle.vlq_core.specs.Zigzag.{zag}
 use Rattle.vlq_core.specs.Reading.{below, dec, narrow, read-any, padded, shortest, read-at, signed-of, long-of, int-of}
 use Rattle.vlq_core.proofs.Split.{split}

@@ -12,7 +12,7 @@ use borrow.Author.Tests.{le-leb, lt-leb, leb-true, leb-false}
 use Rattle.stores.specs.Stores.{Put}
 use Rattle.stores.proofs.StoreLaws.{sets-write}
 use Rattle.stores.proofs.PutLaws.{put-as}
-use Rattle.vlq_core.specs.declared.Wrote.the-variants.{Next, Refused}
+use Rattle.index_types.specs.declared.Wrote.the-variants.{Next, Refused}
 use Rattle.vlq_core.specs.Groups.{enc}
 use Rattle.vlq_core.specs.Writing.{written, put-bytes}
 use Rattle.vlq_core.proofs.GroupLaws.{enc-small, enc-big}

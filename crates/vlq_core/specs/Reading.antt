@@ -12,10 +12,10 @@ use Rattle.vlq_core.specs.Zigzag.{zag}
 use Rattle.vlq_core.specs.declared.Got.{Got}
 use Rattle.vlq_core.specs.declared.Got.the-variants.{Value, Refused}
 use Rattle.vlq_core.specs.declared.Short.{Short}
-use Rattle.vlq_core.specs.declared.Long.{Long}
-use Rattle.vlq_core.specs.declared.Long.the-variants as long
-use Rattle.vlq_core.specs.declared.Int.{Int}
-use Rattle.vlq_core.specs.declared.Int.the-variants as int
+use Rattle.index_types.specs.declared.Long.{Long}
+use Rattle.index_types.specs.declared.Long.the-variants as long
+use Rattle.index_types.specs.declared.Int.{Int}
+use Rattle.index_types.specs.declared.Int.the-variants as int
 
 -- a group b with the top bit set, below the rest
 abbrev pub below : ℕ → Got → Got

@@ -6,8 +6,8 @@ use mathlib.Core.List.{List}
 use lib.Dec.{leb}
 use lib.ListN.{length}
 use Rattle.stores.specs.Stores.{write}
-use Rattle.vlq_core.specs.declared.Wrote.{Wrote}
-use Rattle.vlq_core.specs.declared.Wrote.the-variants.{Next, Refused}
+use Rattle.index_types.specs.declared.Wrote.{Wrote}
+use Rattle.index_types.specs.declared.Wrote.the-variants.{Next, Refused}
 
 -- the answer, and the output at exit
 pub record Written : Type 0 where

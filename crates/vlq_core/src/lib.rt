@@ -9,6 +9,8 @@ ghost use Rattle.vlq_core.specs.Zigzag.{zig, zag};
 ghost use Rattle.vlq_core.specs.Groups.{enc};
 ghost use Rattle.vlq_core.specs.Reading.{dec, shortest, read-at, short-of, long-of, int-of};
 ghost use Rattle.vlq_core.specs.declared.Got.{Got};
+use index_types::Int;
+use index_types::Long;
 
 // A coded number that was read and the position after it, or the refusal code.
 pub enum Got {
@@ -20,24 +22,6 @@ pub enum Got {
 pub struct Short {
     pub coded: u64,
     pub size: usize,
-}
-
-// A signed 64-bit number that was read and the position after it, or the refusal code.
-pub enum Long {
-    Number(i64, usize),
-    Refused(u8),
-}
-
-// A signed 32-bit number that was read and the position after it, or the refusal code.
-pub enum Int {
-    Number(i32, usize),
-    Refused(u8),
-}
-
-// What a writer answers: the position after the bytes that it wrote, or the refusal code.
-pub enum Wrote {
-    Next(usize),
-    Refused(u8),
 }
 
 // The coded number of a signed one.

@@ -5,10 +5,10 @@ use mathlib.Core.List.{List}
 use lib.Dec.{leb}
 use lib.ListN.{length}
 use denote.Ref.{RefT}
-use Rattle.vlq_core.specs.declared.Long.{Long}
-use Rattle.vlq_core.specs.declared.Long.the-variants as long
-use Rattle.vlq_core.specs.declared.Int.{Int}
-use Rattle.vlq_core.specs.declared.Int.the-variants as int
+use Rattle.index_types.specs.declared.Long.{Long}
+use Rattle.index_types.specs.declared.Long.the-variants as long
+use Rattle.index_types.specs.declared.Int.{Int}
+use Rattle.index_types.specs.declared.Int.the-variants as int
 use Rattle.vlq_reader.specs.declared.Span.{Span}
 use Rattle.vlq_reader.specs.declared.Span.the-variants as span
 use Rattle.vlq_reader.specs.declared.VlqReader.{VlqReader}

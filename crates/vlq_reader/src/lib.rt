@@ -3,8 +3,8 @@
 ghost use mathlib.Core.Path.{_≡_};
 ghost use Rattle.vlq_core.specs.Reading.{read-at, long-of, int-of};
 ghost use Rattle.vlq_reader.specs.Reader.{after-long, after-int, span-at, after-span, started, moved-to};
-use vlq_core::Int;
-use vlq_core::Long;
+use index_types::Int;
+use index_types::Long;
 
 pub struct VlqReader<'a> {
     pub src: &'a [u8],

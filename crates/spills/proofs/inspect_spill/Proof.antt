@@ -43,9 +43,9 @@ use denote.Triple.Spec.{Meets, tripleOf}
 use denote.Triple.Table.{entered, cited}
 use denote.Triple.Walked.{says, Stays, stay-dropped, walkOf, goes-dropped, Walks, ends-at, walked, walk-meets}
 use denote.Exit.{yes}
-use Rattle.records.specs.declared.ListCounts.{ListCounts}
-use Rattle.records.proofs.ListCounts as N
-use Rattle.records.proofs.ListCounts.Laws as N′
+use Rattle.index_types.specs.declared.ListCounts.{ListCounts}
+use Rattle.index_types.proofs.ListCounts as N
+use Rattle.index_types.proofs.ListCounts.Laws as N′
 use Rattle.spills.specs.declared.Located.{Located}
 use Rattle.spills.specs.declared.Inspected.{Inspected}
 use Rattle.spills.specs.Inspection.{locate-row, located-code, located-row, Within}

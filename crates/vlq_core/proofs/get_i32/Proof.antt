@@ -4,7 +4,7 @@ use lib.IntN.{ℤ}
 use mir.Syntax.{w32}
 use mir.Facts.{toZ-ofZ}
 use Rattle.vlq_core.specs.Reading.{int-of}
-use Rattle.vlq_core.specs.declared.Int.the-variants.{Number}
+use Rattle.index_types.specs.declared.Int.the-variants.{Number}
 use Rattle.vlq_core.proofs.ReadLaws.{read-fits}
 use borrow.Author.Needs.{needs}
 use Rattle.vlq_core.proofs.get_i32.Statement.{statement}

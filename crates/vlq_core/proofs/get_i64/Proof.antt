@@ -4,7 +4,7 @@ use lib.IntN.{ℤ}
 use mir.Syntax.{w64}
 use mir.Facts.{toZ-ofZ}
 use Rattle.vlq_core.specs.Reading.{long-of}
-use Rattle.vlq_core.specs.declared.Long.the-variants.{Number}
+use Rattle.index_types.specs.declared.Long.the-variants.{Number}
 use borrow.Author.Needs.{needs}
 use Rattle.vlq_core.proofs.get_i64.Statement.{statement}
 use Rattle.vlq_core.proofs.get_i64.Tie as tie

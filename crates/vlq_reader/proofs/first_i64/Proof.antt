@@ -45,9 +45,9 @@ use denote.Triple.Table.{entered, cited}
 use denote.Triple.Walked.{says, Stays, stay-none-slice, walkOf, goes-none-slice, Walks, ends-at, walked, walk-meets}
 use denote.Exit.{yes}
 use Rattle.vlq_core.specs.Reading.{read-at, long-of}
-use Rattle.vlq_core.specs.declared.Long.{Long}
-use Rattle.vlq_core.proofs.Long as S
-use Rattle.vlq_core.proofs.Long.Laws as S′
+use Rattle.index_types.specs.declared.Long.{Long}
+use Rattle.index_types.proofs.Long as S
+use Rattle.index_types.proofs.Long.Laws as S′
 use Rattle.vlq_reader.specs.Reader.{started, moved-to, after-long}
 use Rattle.vlq_reader.specs.declared.VlqReader.{VlqReader}
 use Rattle.vlq_reader.proofs.VlqReader as T

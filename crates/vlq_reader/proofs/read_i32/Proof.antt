@@ -5,9 +5,9 @@ use contract.Running.{givenOf, tables, tablesOf}
 use denote.Triple.Spec.{tripleOf}
 use denote.Triple.Table.{entered, cited}
 use Rattle.vlq_core.specs.Reading.{read-at, int-of}
-use Rattle.vlq_core.specs.declared.Int.{Int}
-use Rattle.vlq_core.proofs.Int as E
-use Rattle.vlq_core.proofs.Int.Laws as E′
+use Rattle.index_types.specs.declared.Int.{Int}
+use Rattle.index_types.proofs.Int as E
+use Rattle.index_types.proofs.Int.Laws as E′
 use Rattle.vlq.proofs.get_i32.Symbol as get-def
 use Rattle.vlq.proofs.get_i32.Symbol.{name as #vlq·get-i32}
 use Rattle.vlq.proofs.get_i32.Met as get-thm

@@ -5,9 +5,9 @@ use contract.Running.{givenOf, tables, tablesOf}
 use denote.Triple.Spec.{tripleOf}
 use denote.Triple.Table.{entered, cited}
 use Rattle.vlq_core.specs.Reading.{read-at, long-of}
-use Rattle.vlq_core.specs.declared.Long.{Long}
-use Rattle.vlq_core.proofs.Long as E
-use Rattle.vlq_core.proofs.Long.Laws as E′
+use Rattle.index_types.specs.declared.Long.{Long}
+use Rattle.index_types.proofs.Long as E
+use Rattle.index_types.proofs.Long.Laws as E′
 use Rattle.vlq.proofs.get_i64.Symbol as get-def
 use Rattle.vlq.proofs.get_i64.Symbol.{name as #vlq·get-i64}
 use Rattle.vlq.proofs.get_i64.Met as get-thm

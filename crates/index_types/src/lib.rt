@@ -1,0 +1,114 @@
+// The types that the signatures of public calls show. They hold numbers only: what a call borrows stays with its caller.
+
+// ---- limits
+
+// The most numbers of a head, and of a list in a row.
+pub const SEGMENT_THRESHOLD: usize = 512;
+
+// The most spills of a kind that a parent has.
+pub const SPILL_LIMIT: usize = 2147483647;
+
+// The most tokens of a balance, and the bytes of their ids.
+pub const TOKEN_LIMIT: usize = 128;
+
+pub const TOKEN_ID_BYTES: usize = 4096;
+
+// The most bytes of an address record.
+pub const ADDRESS_LIMIT: usize = 15675;
+
+// ---- types
+
+// How many records a list holds, and how many it has room for.
+pub struct ListCounts {
+    pub count: usize,
+    pub capacity: usize,
+}
+
+// How many numbers stand in a head, and how many rows it has spilled.
+pub struct HeadCounts {
+    pub len: usize,
+    pub spills: i32,
+}
+
+// The counts of the head and of the staged spills after an append.
+pub enum Appended {
+    Done(HeadCounts, ListCounts),
+    Refused(u8),
+}
+
+// The number of a box and the number of a transaction; neither takes the other's place.
+pub struct BoxNumber(pub i64);
+
+pub struct TxNumber(pub i64);
+
+// The number that was popped, and the counts of the head, of the staged and of the deleted spills after it.
+pub enum Popped {
+    Number(i64, HeadCounts, ListCounts, ListCounts),
+    Refused(u8),
+}
+
+// The number that was popped, and the counts of the head, of the staged and of the deleted spills after it.
+pub enum PoppedBox {
+    Number(BoxNumber, HeadCounts, ListCounts, ListCounts),
+    Refused(u8),
+}
+
+pub enum PoppedTx {
+    Number(TxNumber, HeadCounts, ListCounts, ListCounts),
+    Refused(u8),
+}
+
+// The counts of the staged spills after a spend or an unspend.
+pub enum Flipped {
+    Done(ListCounts),
+    Refused(u8),
+}
+
+// How many entries are unspent, spent and unknown: above, below and equal to 0.
+pub struct Tally {
+    pub unspent: usize,
+    pub spent: usize,
+    pub unknown: usize,
+}
+
+// The figures of a tally.
+pub enum Tallied {
+    Counts(Tally),
+    Refused(u8),
+}
+
+// The counts of the table, the staged and the deleted spills after a flush.
+pub enum Flushed {
+    Done(ListCounts, ListCounts, ListCounts),
+    Refused(u8),
+}
+
+// A signed 64-bit number that was read and the position after it, or the refusal code.
+pub enum Long {
+    Number(i64, usize),
+    Refused(u8),
+}
+
+// A signed 32-bit number that was read and the position after it, or the refusal code.
+pub enum Int {
+    Number(i32, usize),
+    Refused(u8),
+}
+
+// What a writer answers: the position after the bytes that it wrote, or the refusal code.
+pub enum Wrote {
+    Next(usize),
+    Refused(u8),
+}
+
+// A segment that was read: how many transactions and boxes, the spill counts, and the position after it; or the refusal code.
+pub enum Loaded {
+    Read {
+        txs: usize,
+        boxes: usize,
+        box_segment_count: i32,
+        tx_segment_count: i32,
+        next: usize,
+    },
+    Refused(u8),
+}
