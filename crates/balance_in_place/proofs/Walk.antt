@@ -48,7 +48,7 @@ use Rattle.refusal.proofs.Answer as S
 use Rattle.refusal.proofs.Answer.Laws as S′
 use Rattle.balance.proofs.Outcome as O
 use Rattle.balance.proofs.Outcome.Laws as O′
-use Rattle.balance.proofs.add_box as add-box
+use Rattle.balance_in_place.proofs.added as added
 use Rattle.balance_in_place.specs.InPlace.{left}
 use Rattle.balance_in_place.proofs.add_box as in-place
 
@@ -87,7 +87,7 @@ function key = record {
 }
 
 module _ {M : Type 1} (𝓤 : URA M) (f : Op) where
-  abbrev pub by-value : Clauses 𝓤 add-box.ended
+  abbrev pub by-value : Clauses 𝓤 added.ended
   by-value κs a = record { ghost = Unit {0}; requires = λ _. emp 𝓤; ensures = λ _ r e. fact 𝓤 (r ≡ f (a .0) (a .1 .0) (now (a .1 .1 .0)) (now (a .1 .1 .1 .0)) (a .1 .1 .1 .1 .0)) }
 
   abbrev pub over-borrowed : Clauses 𝓤 in-place.ended
@@ -102,7 +102,7 @@ stayed = (stay-ref (0 ∷ []) tt (plain (λ _. T.the-row)), (stay-dropped slot-z
 
 -- the contract that the proof cites
 abbrev pub ByValue : {M : Type 1} (𝓤 : URA M) (H : Heap 𝓤) (A : Atoms 𝓤) (f : Op) → Contract 𝓤
-ByValue 𝓤 H A f = tripleOf 𝓤 H A add-box.signature (closing 𝓤 H A add-box.ended (by-value 𝓤 f))
+ByValue 𝓤 H A f = tripleOf 𝓤 H A added.signature (closing 𝓤 H A added.ended (by-value 𝓤 f))
 
 module _ {M : Type 1} (𝓤 : URA M) (H : Heap 𝓤) (A : Atoms 𝓤) (W : Given 𝓤 H A) (f : Op) (key : Name) (κ κ₁ κ₂ : Lft) (q q₁ q₂ : Share) (b o : ℕ) (γ : GName) (h : Balance) (z : ℤ) (s : RefT (List ℕ)) (t : RefT (List ℤ)) (n : ℕ) where
   abbrev R : RattleType
@@ -145,8 +145,8 @@ module _ {M : Type 1} (𝓤 : URA M) (H : Heap 𝓤) (A : Atoms 𝓤) (W : Given
   goes = qed W (tokens ∷ ‵ (R .own h (vals h)) ∷ ‵ (owns Rest rest restv) ∷ []) ∵ move ! (1 ∷ 2 ∷ []) $ fjoin ! $ move ! (1 ∷ 0 ∷ []) $ join ! $ frame ! $ done !
 
   -- of the callee's `ensured`, the clause alone
-  said : (r : Outcome) → ent 𝓤 (ensured 𝓤 H A add-box.ended (by-value 𝓤 f) (κ₁, (κ₂, tt)) (h, rest) tt r) (fact 𝓤 (r ≡ is-done))
-  said r = exE 𝓤 _ (λ ws. snd∗ 𝓤 (sem 𝓤 H A (lasts add-box.ended (κ₁, (κ₂, tt)) (h, rest) ws)) (fact 𝓤 (r ≡ is-done)))
+  said : (r : Outcome) → ent 𝓤 (ensured 𝓤 H A added.ended (by-value 𝓤 f) (κ₁, (κ₂, tt)) (h, rest) tt r) (fact 𝓤 (r ≡ is-done))
+  said r = exE 𝓤 _ (λ ws. snd∗ 𝓤 (sem 𝓤 H A (lasts added.ended (κ₁, (κ₂, tt)) (h, rest) ws)) (fact 𝓤 (r ≡ is-done)))
 
   -- the outcome's two fields
   module _ (r : Outcome) (u : Val) (is : Is O.the-row r (u ∷ [])) where
@@ -182,7 +182,7 @@ module _ {M : Type 1} (𝓤 : URA M) (H : Heap 𝓤) (A : Atoms 𝓤) (W : Given
         -- the call
         move ! (5 ∷ 1 ∷ 6 ∷ []) $ use3 W (raw (ByValue 𝓤 H A f .pre to)) goes $
         calls-at ! fm (ByValue 𝓤 H A f) known to (and-then ! (load ! (from ! (stop !)) (look ! 7 refl)) (and-then ! (load ! (from ! (stop !)) (look ! 15 refl)) (and-then ! (load ! (from ! (stop !)) (look ! 13 refl)) (and-then ! (load ! (from ! (stop !)) (look ! 11 refl)) (and-then ! (load ! (from ! (stop !)) (look ! 9 refl)) (no-more !)))))) (λ u.
-        use1 W (later (some (λ (r : Outcome). (tokens ⊛ ‵ (O.the-row .own r (u ∷ []))) ⊛ raw (ensured 𝓤 H A add-box.ended (by-value 𝓤 f) (κ₁, (κ₂, tt)) (h, rest) tt r)))) (id⊢ 𝓤 _) $ await ! tt $ pick ! (λ r.
+        use1 W (later (some (λ (r : Outcome). (tokens ⊛ ‵ (O.the-row .own r (u ∷ []))) ⊛ raw (ensured 𝓤 H A added.ended (by-value 𝓤 f) (κ₁, (κ₂, tt)) (h, rest) tt r)))) (id⊢ 𝓤 _) $ await ! tt $ pick ! (λ r.
         split ! $ move ! (1 ∷ []) $ use1 W (raw (fact 𝓤 (r ≡ is-done))) (said r) $ heard ! (r ≡ is-done) (λ e. split ! $ move ! (1 ∷ []) $
         peeks ! O.the-row (Is O.the-row) (shows 𝓤 H A O.the-row) r (u ∷ []) (λ is.
         -- [what the outcome owns; the tokens; the struct's cell; the open borrow; obs; auth; _7; …; _6; …; _5; …; _4; …; _3; …; _2; …; _1; …; room for _0; …]

@@ -1,7 +1,7 @@
 -- The search for equal keys in trees: the way of a key meets every key that is equal, and a key is put where its way ends.
 use Prim.Native.Nat.{ℕ, zero, suc, _+_, _*_, _-_, _/_, _%_, _^_, _≤_, _<_}
 use mathlib.Core.Path.{_≡_, refl, sym, ap, _∙_}
-use mathlib.Core.List.{List, [], _∷_}
+use mathlib.Core.List.{List}
 use mathlib.Core.Bool.{Bool, true, false, not}
 use native.Mathlib.Omega.{arith}
 use native.Mathlib.Nat.{add-zero, zero-mul, suc-mul, add-mul, mod-lt}
@@ -14,7 +14,7 @@ use Rattle.stores.specs.Equal.{same-bytes}
 use Rattle.stores.proofs.StoreLaws.{part-at}
 use Rattle.distinct_keys.specs.declared.Spot.{Spot}
 use Rattle.distinct_keys.specs.declared.Spot.the-variants.{Free, Taken}
-use Rattle.records.specs.Records.{keys}
+use Rattle.records.specs.Records.{records, keys}
 use Rattle.records.specs.Find.{find-key, is-found, distinct}
 use Rattle.distinct_keys.specs.Trees.{nth-key, half-at, word-at, root-of, turns-of, behind, Meets, AllFree, Grown, Extends, Open, Spotted, NoneAgain}
 use Rattle.distinct_keys.specs.Trees.Meets.{here, later}
@@ -298,6 +298,16 @@ module _ (size : ℕ) (l : List ℕ) (block count : ℕ) (wide : 32 ≤ size) (f
       by-test true u = absurd (clash (differ-all size block l wide (λ a b h k e. differ-of size count l wide u a b h (omega arith) e)) t)
       by-test false u = refl
 
+-- a block of all keys: none stands behind it
+pub whole-block : (size count : ℕ) (l : List ℕ) (r : Bool)
+    → (r ≡ true → distinct (keys size count l) ≡ distinct (keys size (count - count) (drop (count * size) l))) × (r ≡ false → distinct (keys size count l) ≡ false)
+    → r ≡ distinct (keys size count l)
+unfolding records distinct
+whole-block size count l true h =
+    let z : count - count ≡ 0 = omega arith in
+    sym (h .0 refl ∙ ap (λ (k : ℕ). distinct (keys size k (drop (count * size) l))) z)
+whole-block size count l false h = sym (h .1 refl)
+
 -- ---- the root and the turns of the key at a position, from its bytes
 
 half-part : (at j : ℕ) (l : List ℕ) → j + 4 ≤ 32 → half-at (take 32 (drop at l)) j ≡ half-at l (at + j)
@@ -330,30 +340,3 @@ pub zeros : (n b : ℕ) → getD {A = ℕ} (replicate n 0) b 0 ≡ 0
 zeros zero b = refl
 zeros (suc n) zero = refl
 zeros (suc n) (suc b) = zeros n b
-
--- ---- the slots are freed one after the other
-
-getD-past : (links : List ℕ) (i : ℕ) → length links ≤ i → getD links i 0 ≡ 0
-getD-past [] i h = refl
-getD-past (x ∷ links) zero h = absurd (omega arith)
-getD-past (x ∷ links) (suc i) h = getD-past links i (omega arith)
-
-pub cleared-more : (links : List ℕ) (i : ℕ) → ((s : ℕ) → s < i → getD links s 0 ≡ 0) → (s : ℕ) → s < i + 1 → getD (set links i 0) s 0 ≡ 0
-cleared-more links i z s h = by-test (eqb s i) refl
-  where
-    by-room : (t : Bool) → ltb i (length links) ≡ t → getD (set links i 0) i 0 ≡ 0
-    by-room true t = getD-set-same links i 0 0 (ltb-true i (length links) t)
-    by-room false t = getD-past (set links i 0) i (rw (length-set links i 0) (ltb-false i (length links) t))
-
-    by-test : (t : Bool) → eqb s i ≡ t → getD (set links i 0) s 0 ≡ 0
-    by-test true t = rw (eqb-true s i t) (by-room (ltb i (length links)) refl)
-    by-test false t =
-        let n = eqb-false s i t in
-        getD-set-other links i s 0 0 n ∙ z s (omega arith)
-
-pub cleared-all : (links : List ℕ) (i : ℕ) → length links ≤ i → ((s : ℕ) → s < i → getD links s 0 ≡ 0) → AllFree links
-cleared-all links i h z s = by-test (ltb s i) refl
-  where
-    by-test : (t : Bool) → ltb s i ≡ t → getD links s 0 ≡ 0
-    by-test true t = z s (ltb-true s i t)
-    by-test false t = getD-past links s (omega (arith, ltb-false s i t))

@@ -203,17 +203,6 @@ fn none_again(
     true
 }
 
-// Frees all slots.
-fn clear_links(links: &mut [u16])
-    ensures { λ _. ⌜ AllFree (now (links .exit)) ⌝ }
-{
-    let mut i = 0;
-    while i < links.len() {
-        links[i] = 0;
-        i += 1;
-    }
-}
-
 // keys_differ for few records.
 fn keys_differ_few(list: &[u8], size: usize, count: usize) -> bool
     requires { ⌜ (32 ≤ size) × (count * size ≤ length (now list)) × (count ≤ 128) ⌝ }
@@ -232,45 +221,48 @@ fn keys_differ_some(list: &[u8], size: usize, count: usize) -> bool
     grow(list, size, count, &mut links, 4093)
 }
 
-// Whether none of the first 8,192 keys stands twice, neither among them nor behind them. If so, all slots are free again.
-fn block_differs(list: &[u8], size: usize, count: usize, links: &mut [u16]) -> bool
-    requires { ⌜ (32 ≤ size) × (count * size ≤ length (now list)) × (8192 ≤ count) × (40955 ≤ length (now links)) × AllFree (now links) ⌝ }
-    ensures { λ r. ⌜ (r ≡ true → (distinct (keys size count (now (list .entry))) ≡ distinct (keys size (count - 8192) (drop (8192 * size) (now (list .entry)))))
-        × AllFree (now (links .exit))) × (r ≡ false → distinct (keys size count (now (list .entry))) ≡ false) ⌝ }
+// keys_differ for up to 2,048 records. It is called at two places, as `block_differs` is, so that the compiler keeps its trees out of its callers.
+fn keys_differ_short(list: &[u8], size: usize, count: usize) -> bool
+    requires { ⌜ (32 ≤ size) × (count * size ≤ length (now list)) × (count ≤ 2048) ⌝ }
+    ensures { λ r. ⌜ r ≡ distinct (keys size count (now (list .entry))) ⌝ }
 {
-    if grow(list, size, 8192, links, 24571) {
-        if none_again(list, size, count, 8192, links, 24571) {
-            clear_links(links);
-            return true;
-        }
+    if count <= 128 {
+        return keys_differ_few(list, size, count);
+    }
+    keys_differ_some(list, size, count)
+}
+
+// Whether none of the first `block` keys stands twice, neither among them nor behind them.
+fn block_differs(list: &[u8], size: usize, count: usize, block: usize) -> bool
+    requires { ⌜ (32 ≤ size) × (count * size ≤ length (now list)) × (block ≤ count) × (block ≤ 8192) ⌝ }
+    ensures { λ r. ⌜ (r ≡ true → distinct (keys size count (now (list .entry))) ≡ distinct (keys size (count - block) (drop (block * size) (now (list .entry)))))
+        × (r ≡ false → distinct (keys size count (now (list .entry))) ≡ false) ⌝ }
+{
+    let mut links = [0u16; 40955];
+    if grow(list, size, block, &mut links, 24571) {
+        return none_again(list, size, count, block, &links, 24571);
     }
     false
 }
 
-// Whether no key stands twice, a block of 8,192 keys after the other.
-fn blocks_differ(list: &[u8], size: usize, count: usize, links: &mut [u16]) -> bool
-    requires { ⌜ (32 ≤ size) × (count * size ≤ length (now list)) × (40955 ≤ length (now links)) × AllFree (now links) ⌝ }
+// keys_differ for any number of records: a block of 8,192 keys after the other, then the rest.
+fn keys_differ_many(list: &[u8], size: usize, count: usize) -> bool
+    requires { ⌜ (32 ≤ size) × (count * size ≤ length (now list)) ⌝ }
     ensures { λ r. ⌜ r ≡ distinct (keys size count (now (list .entry))) ⌝ }
 {
     let mut left = count;
     let mut at = 0;
     while 8192 < left {
-        if !block_differs(&list[at..], size, left, links) {
+        if !block_differs(&list[at..], size, left, 8192) {
             return false;
         }
         left -= 8192;
         at += 8192 * size;
     }
-    grow(&list[at..], size, left, links, 24571)
-}
-
-// keys_differ for many records.
-fn keys_differ_many(list: &[u8], size: usize, count: usize) -> bool
-    requires { ⌜ (32 ≤ size) × (count * size ≤ length (now list)) ⌝ }
-    ensures { λ r. ⌜ r ≡ distinct (keys size count (now (list .entry))) ⌝ }
-{
-    let mut links = [0u16; 40955];
-    blocks_differ(list, size, count, &mut links)
+    if left <= 2048 {
+        return keys_differ_short(&list[at..], size, left);
+    }
+    block_differs(&list[at..], size, left, left)
 }
 
 // Whether no key stands twice among more than a few. Up to 8,192 records the time is about linear in the count; above, each block takes a pass over the records behind it.
@@ -279,11 +271,8 @@ fn keys_differ(list: &[u8], size: usize, count: usize) -> bool
     requires { ⌜ (32 ≤ size) × (count * size ≤ length (now list)) ⌝ }
     ensures { λ r. ⌜ r ≡ distinct (keys size count (now (list .entry))) ⌝ }
 {
-    if count <= 128 {
-        return keys_differ_few(list, size, count);
-    }
     if count <= 2048 {
-        return keys_differ_some(list, size, count);
+        return keys_differ_short(list, size, count);
     }
     keys_differ_many(list, size, count)
 }

@@ -1,11 +1,11 @@
 -- Small histories, computed by the machine of the theorem: what a wrong undo would break.
 use mathlib.Core.Path.{_≡_, refl}
 use mathlib.Core.List.{List, [], _∷_, _++_}
-use Prim.Native.Nat.{ℕ, zero, suc}
+use Prim.Native.Nat.{ℕ, zero, suc, _<_}
 use native.Mathlib.Omega.{arith}
 use native.Mathlib.Decide.{ℕ-discrete}
 use lib.IntN.{ℤ, pos, negsuc}
-use lib.ListN.{getD, take, replicate, length-replicate}
+use lib.ListN.{length, getD, take, replicate, length-replicate}
 use Rattle.stores.specs.Stores.{write}
 use Rattle.stores.specs.Equal.{same-bytes}
 use Rattle.records.specs.Records.{records, stored-row, record-of}
@@ -21,12 +21,13 @@ use Rattle.buffer_core.specs.Pop.{lists, pop-of, pop-ok, pop-core, lists-ok}
 use Rattle.buffer_core.specs.Flip.{flip-of, flip-ok, flip-core, flip-effect, in-order, in-rows, search-by, walk-from, look-in, stage-at, row-flipped}
 use Rattle.buffer_core.specs.Flush.{flush-of, flush-core, flushed, table-after, put-undeleted, put-staged, remove-key, remove-keys, new-count}
 use Rattle.buffer_core.proofs.SmallCalls.{short-records, staged-row-lists, marked-rows, marked-row}
-use Rattle.ledger.specs.Ledger.{Parent, boxes, ite, series-dec, Call}
-use Rattle.ledger.specs.Run.{Made, accepted, refused-leaving, Machine, Step, undo, flush, State, Undone, start, run, run-undo, StepsOk, flat}
+use Rattle.ledger.specs.Ledger.{Parent, Series, boxes, ite, series-dec, Call}
+use Rattle.ledger.specs.Run.{done, Made, accepted, refused-leaving, Machine, Step, undo, flush, State, Undone, Popped, start, run, run-undo, StepsOk, flat}
 use Rattle.fork_model.proofs.SmallHistories.{append-box, spend-box, boxes-after}
-use Rattle.history.specs.Index.{Index, index, part, do-flip, do-flush, entries-of}
+use Rattle.history.specs.Index.{Index, index, part, do-pop, do-flip, do-flush, row-of-spill, entries-of}
 use Rattle.history.specs.Machine.{Borrowed}
 use Rattle.history.specs.ForkUndo.{Places, index-machine}
+use Rattle.history.specs.Sound.{Sound}
 
 -- heads of 512 places, lists without room
 abbrev pub heads-only : Borrowed edition-1
@@ -144,3 +145,29 @@ spent-in-a-row = refl
 pub unspent-in-a-row : first-after Unspend 1 ≡ pos 5 ∷ []
 unfolding flat ite series-dec ℕ-discrete flip-of flip-ok flip-core flip-effect in-order in-rows search-by walk-from look-in stage-at row-flipped place-at spill-read records-ok lengths-ok distinct records find-from stored-row record-of same-bytes write
 unspent-in-a-row = refl
+
+-- ---- what a refused pop leaves: "A refusal .. changes nothing"
+-- no number to pop, and one deleted key
+abbrev nothing-to-pop : Index
+nothing-to-pop = index (λ ch. part (counts-of 0 (pos 0)) (replicate 512 (pos 0))) (staged-row-lists 1)
+
+-- the refusal, then the deleted spills
+abbrev deleted-after-pop : List ℕ
+deleted-after-pop = of-answer (do-pop short-records (λ p. []) nothing-to-pop (boxes 0))
+  where
+    of-answer : Made Index (Popped Index) → List ℕ
+    of-answer (accepted r) = []
+    of-answer (refused-leaving k b) = k ∷ b .lists .deleted
+
+pub refused-pop-leaves : deleted-after-pop ≡ 19 ∷ replicate 32 0
+unfolding pop-of pop-ok pop-core lists-ok records-ok keys-ok lengths-ok distinct records find-from same-bytes
+refused-pop-leaves = refl
+
+-- ---- the index with one row is sound: the row holds 512 numbers
+pub one-row-sound : Sound marked-rows (λ p. []) (one-row 0)
+unfolding place-at spill-read lists-ok records-ok keys-ok lengths-ok distinct records find-from stored-row record-of same-bytes
+one-row-sound = record { heads = λ ch. refl; lists = refl; counts = λ ch. refl; rows = full }
+  where
+    full : (ch : Series) (n : ℕ) → n < 1 → (zs : List ℤ) × (row-of-spill marked-rows (λ p. []) (one-row 0) ch n ≡ done zs) × (length zs ≡ 512)
+    full ch zero h = (pos 5 ∷ replicate 511 (pos 5), refl, refl)
+    full ch (suc n) h = absurd (omega arith)

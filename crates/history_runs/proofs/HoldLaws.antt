@@ -258,10 +258,10 @@ module _ (parents : ℕ) (ids : Parent → List ℕ) (B : Borrowed edition-1) (p
   step-said c s h flush x m k = tt
 
   pub run-said : (ts : List Step) (xs : List Call) (c : Run.Conf W) (s : State) → H (c .now) s → Spells parents ids B places c ts xs → Run.StepsOk W c ts
-      → StepsSaid parents ids B places c s ts xs
-  unfolding Spells StepsSaid Run.StepsOk
+      → StepsSaid parents ids B places c s ts xs (heard xs s)
+  unfolding Spells StepsSaid heard Run.StepsOk
   run-said [] xs c s h m k = tt
-  run-said (t ∷ ts) [] c s h m k = tt
+  run-said (t ∷ ts) [] c s h m k = absurd m
   run-said (t ∷ ts) (x ∷ xs) c s h m k =
       (step-said c s h t x (m .0) (k .0), run-said ts xs (Run.step W c t) (step-of edition-1 x s .after) (step-holds c s h t x (m .0)) (m .1) (k .1))
 
@@ -289,7 +289,7 @@ module _ (parents : ℕ) (ids : Parent → List ℕ) (B : Borrowed edition-1) (p
   -- two row keys in use are equal: every undo says what it should, and at the end the state agrees with the standing calls
   pub fork-undo-runs : (s : State) → H (Run.start W .now) s → (ts : List Step) (xs : List Call) → Spells parents ids B places (Run.start W) ts xs → Run.Legal W (Run.start W) ts
       → Run.KeysApart W (Run.InUse W (Run.start W) ts)
-      → StepsSaid parents ids B places (Run.start W) s ts xs × Agrees parents (Run.run W (Run.start W) ts .standing) (made xs s)
+      → StepsSaid parents ids B places (Run.start W) s ts xs (heard xs s) × Agrees parents (Run.run W (Run.start W) ts .standing) (made xs s)
   fork-undo-runs s h ts xs m l k =
       let f = fork-undo ids B places ts l k in
       (run-said ts xs (Run.start W) s h m (f .0), agrees (Run.run W (Run.start W) ts) (made xs s) (run-holds ts xs (Run.start W) s h m) (f .1))

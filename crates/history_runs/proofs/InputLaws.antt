@@ -14,6 +14,7 @@ use Rattle.calls.specs.Calls.{call-at, size-of}
 use Rattle.calls.proofs.CallLaws.{call-sound}
 use Rattle.call_steps.specs.State.{State, state-ok}
 use Rattle.call_steps.specs.Steps.{step-of}
+use Rattle.call_steps.specs.declared.Said.{Said}
 use Rattle.ledger.specs.Ledger.{Parent}
 use Rattle.ledger.specs.Ledger as ledger
 use Rattle.ledger.specs.Run.{Step}
@@ -122,11 +123,15 @@ module _ (parents : ℕ) (input : List ℕ) where
     abbrev out : Run
     out = run-of edition-1 parents input s answers popped
 
-    -- what the theorem says of the run: what each call says is what the step answers; every undo says what it should; and the state at exit holds exactly what
-    -- the standing calls alone give, which the answers tell
+    -- what stands in the answers of the run
+    abbrev answered : List Said
+    answered = said-from (out .answers) (out .popped) 0 (length xs)
+
+    -- what the theorem says of the run: what is answered of each call is what the step answers; of every undo it is what it should be; and the state at exit
+    -- holds exactly what the standing calls alone give, which the answers tell
     pub record Theorem : Type 0 where
-      pub said : said-from (out .answers) (out .popped) 0 (length xs) ≡ map says-of (Mc.answers M (Mc.start M) ts)
-      pub undos : StepsSaid parents (ids-in s) (borrowed parents places s E) places (Mc.start M) s ts xs
+      pub said : answered ≡ map says-of (Mc.answers M (Mc.start M) ts)
+      pub undos : StepsSaid parents (ids-in s) (borrowed parents places s E) places (Mc.start M) s ts xs answered
       pub agrees : Agrees parents (Mc.told [] ts (Mc.answers M (Mc.start M) ts)) (out .now)
 
     -- the fork-undo theorem of what the public function `run_calls` leaves: from an empty state, on an input whose calls spell a legal list of steps in which no
@@ -135,10 +140,10 @@ module _ (parents : ℕ) (input : List ℕ) where
         → Spells parents (ids-in s) (borrowed parents places s E) places (Mc.start M) ts xs → Mc.Legal M (Mc.start M) ts → Mc.KeysApart M (Mc.InUse M (Mc.start M) ts) → Theorem
     fork-undo-of-input ok numbers codes m p l k =
         let f = fork-undo-from-empty parents places s E ts xs p l k in
+        let told = run-of-answers s answers popped xs ok numbers codes m in
         record {
-          said = run-of-answers s answers popped xs ok numbers codes m
-              ∙ run-heard parents (ids-in s) (borrowed parents places s E) places ts xs (Mc.start M) s (start-holds parents places s E) p;
-          undos = f .0;
+          said = told ∙ run-heard parents (ids-in s) (borrowed parents places s E) places ts xs (Mc.start M) s (start-holds parents places s E) p;
+          undos = subst (StepsSaid parents (ids-in s) (borrowed parents places s E) places (Mc.start M) s ts xs) (sym told) (f .0);
           agrees = subst (λ (cs : List ledger.Call). Agrees parents cs (out .now)) (standing-told M ts (Mc.start M))
               (subst (Agrees parents (Mc.run M (Mc.start M) ts .standing)) (sym (run-of-made s answers popped xs ok numbers codes m)) (f .1));
         }

@@ -9,3 +9,4 @@ pub mod StartLaws
 pub mod InputLaws
 pub mod PieceLaws
 pub mod ProgramLaws
+pub mod SmallRuns

@@ -1,7 +1,7 @@
--- Runs over the pieces of an input, one after the other, leave what one run over the whole leaves.
+-- Runs over the pieces of an input, one after the other, leave and say what one run over the whole leaves and says.
 use mathlib.Core.Path.{_≡_, refl, sym, ap, _∙_, subst}
 use mathlib.Core.Bool.{Bool, true, false}
-use mathlib.Core.List.{List, [], _∷_, _++_, append-assoc, append-nil}
+use mathlib.Core.List.{List, [], _∷_, _++_, map, append-assoc, append-nil}
 use Prim.Native.Nat.{ℕ, zero, suc, _+_, _*_, _/_, _≤_, _<_}
 use native.Mathlib.Omega.{arith}
 use native.Mathlib.Decide.{ℕ-discrete}
@@ -16,7 +16,9 @@ use Rattle.buffer_core.specs.Edition.{edition-1}
 use Rattle.calls.specs.declared.Call.{Call}
 use Rattle.calls.specs.Calls.{call-at, size-of}
 use Rattle.calls.proofs.CallLaws.{call-sound}
+use Rattle.call_steps.specs.declared.Said.{Said}
 use Rattle.call_steps.specs.State.{State, counts-ok, lengths-ok, blocks-ok, state-ok, Ready}
+use Rattle.call_steps.specs.Steps.{step-of}
 use Rattle.runner.specs.Run.{Run, may-go, runs, start, run-of}
 use Rattle.runner.proofs.RunLaws.{runs-stop, run-passed}
 use Rattle.call_runs.proofs.AlongLaws.{made-append}
@@ -31,36 +33,52 @@ use Rattle.history.specs.Machine.{Borrowed}
 use Rattle.history.specs.ForkUndo.{Places}
 use Rattle.history.proofs.ForkUndoLaw.{stays-sound}
 use Rattle.history_runs.specs.View.{ids-in, balance-in}
-use Rattle.call_runs.specs.Made.{made, Stand}
-use Rattle.history_runs.specs.Runs.{Piece, bytes-of, in-pieces, Roomy, Spells, Agrees, Empty}
-use Rattle.history_runs.proofs.HoldLaws.{run-holds}
+use Rattle.call_runs.specs.Made.{made, heard, said-from, Stand}
+use Rattle.history_runs.specs.Runs.{Piece, bytes-of, in-pieces, said-in-pieces, Roomy, says-of, Spells, StepsSaid, Agrees, Empty}
+use Rattle.history_runs.proofs.HoldLaws.{run-holds, run-heard}
 use Rattle.history_runs.proofs.StartLaws.{borrowed, start-holds, W, fork-undo-from-empty}
-use Rattle.history_runs.proofs.InputLaws.{Room, goes, room-after, few, run-of-made}
+use Rattle.history_runs.proofs.InputLaws.{Room, goes, room-after, few, run-of-made, run-of-answers}
 
 -- the bytes of the calls
 unfoldable total : List Call → ℕ
 total [] = 0
 total (x ∷ xs) = size-of x + total xs
 
+heard-append : (ys zs : List Call) (s : State) → heard (ys ++ zs) s ≡ heard ys s ++ heard zs (made ys s)
+unfolding heard made
+heard-append [] zs s = refl
+heard-append (y ∷ ys) zs s = ap (λ (l : List Said). step-of edition-1 y s .said ∷ l) (heard-append ys zs (step-of edition-1 y s .after))
+
 module _ (parents : ℕ) where
+  -- where a run stands that made the calls xs from r on
+  record Behind (r : Run) (xs : List Call) (x : Run) : Type 0 where
+    pub at-is : x .at ≡ r .at + total xs
+    pub made-is : x .made ≡ r .made + length xs
+
   -- a run ends behind the calls that it makes
   run-reaches : (input : List ℕ) (xs : List Call) (n : ℕ) (r : Run) → length xs < n → Room parents input (length xs) r → Stand parents input (r .at) xs
-      → runs edition-1 parents input n r .at ≡ r .at + total xs
+      → Behind r xs (runs edition-1 parents input n r)
   unfolding Stand total
   run-reaches input xs zero r h k s = absurd (omega arith)
-  run-reaches input [] (suc n) r h k s = by-room (may-go r) refl ∙ (let z : r .at ≡ r .at + 0 = omega arith in z)
+  run-reaches input [] (suc n) r h k s = by-room (may-go r) refl
     where
-      by-room : (b : Bool) → may-go r ≡ b → runs edition-1 parents input (suc n) r .at ≡ r .at
-      by-room true e = ap (λ (y : Run). y .at) (runs-go edition-1 parents input n r e ∙ turn-stops edition-1 parents input n r s)
-      by-room false e = ap (λ (y : Run). y .at) (sym (runs-stop parents input edition-1 (suc n) r e))
+      here : (x : Run) → x .at ≡ r .at → x .made ≡ r .made → Behind r [] x
+      here x e f = record { at-is = omega (arith, e); made-is = omega (arith, f) }
+
+      by-room : (b : Bool) → may-go r ≡ b → Behind r [] (runs edition-1 parents input (suc n) r)
+      by-room true e = subst (Behind r []) (sym (runs-go edition-1 parents input n r e ∙ turn-stops edition-1 parents input n r s)) (here _ refl refl)
+      by-room false e = subst (Behind r []) (runs-stop parents input edition-1 (suc n) r e) (here r refl refl)
   run-reaches input (x ∷ xs) (suc n) r h k s =
       let y = after edition-1 parents input r in
       let z : size-of (call-at parents input (r .at)) ≡ 0 → ⊥ = λ q. s .1 (ap size-of (sym (s .0)) ∙ q) in
       let t : Stand parents input (y .at) xs = subst (λ (c : Call). Stand parents input (r .at + size-of c) xs) (sym (s .0)) (s .2) in
       let q : size-of (call-at parents input (r .at)) ≡ size-of x = ap size-of (s .0) in
       let w : r .at + size-of (call-at parents input (r .at)) + total xs ≡ r .at + (size-of x + total xs) = omega (arith, q) in
-      ap (λ (v : Run). v .at) (runs-go edition-1 parents input n r (goes parents input (length xs) r k) ∙ ap (runs edition-1 parents input n) (turn-goes edition-1 parents input r z))
-      ∙ run-reaches input xs n y (omega arith) (room-after parents input (length xs) r k) t ∙ w
+      let v : r .made + 1 + length xs ≡ r .made + suc (length xs) = omega arith in
+      let B = run-reaches input xs n y (omega arith) (room-after parents input (length xs) r k) t in
+      subst (Behind r (x ∷ xs))
+      (sym (runs-go edition-1 parents input n r (goes parents input (length xs) r k) ∙ ap (runs edition-1 parents input n) (turn-goes edition-1 parents input r z)))
+      (record { at-is = B .at-is ∙ w; made-is = B .made-is ∙ v })
 
   -- where they end no call stands
   stand-end : (input : List ℕ) (xs : List Call) (at : ℕ) → Stand parents input at xs → size-of (call-at parents input (at + total xs)) ≡ 0
@@ -127,17 +145,35 @@ module _ (parents : ℕ) where
   abbrev pub Passes : State → List Call → Type 0
   Passes s xs = (ys zs : List Call) → xs ≡ ys ++ zs → state-ok edition-1 parents (made ys s) ≡ true
 
+  -- a run over a piece with room for the answers of its calls: where it ends, the state it leaves, and what it says
+  record Piece-made (input : List ℕ) (s : State) (answers : List ℕ) (popped : List ℤ) (xs : List Call) : Type 0 where
+    pub at-is : run-of edition-1 parents input s answers popped .at ≡ total xs
+    pub now-is : run-of edition-1 parents input s answers popped .now ≡ made xs s
+    pub said : (let r = run-of edition-1 parents input s answers popped in said-from (r .answers) (r .popped) 0 (r .made)) ≡ heard xs s
+
   one-piece : (input : List ℕ) (s : State) (answers : List ℕ) (popped : List ℤ) (xs : List Call) → state-ok edition-1 parents s ≡ true → length xs ≤ length popped → length xs * 2 ≤ length answers
-      → Stand parents input 0 xs → run-of edition-1 parents input s answers popped .at ≡ total xs
+      → Stand parents input 0 xs → Piece-made input s answers popped xs
   one-piece input s answers popped xs ok numbers codes m =
-      ap (λ (y : Run). y .at) (sym (run-passed parents input s answers popped ok))
-      ∙ run-reaches input xs (length input + 1) (start s answers popped) (omega (arith, few parents input xs 0 (omega arith) m)) (record { going = refl; numbers = omega arith; codes = omega arith }) m
-      ∙ (let z : 0 + total xs ≡ total xs = omega arith in z)
+      let r = run-of edition-1 parents input s answers popped in
+      let B = run-reaches input xs (length input + 1) (start s answers popped) (omega (arith, few parents input xs 0 (omega arith) m)) (record { going = refl; numbers = omega arith; codes = omega arith }) m in
+      let passed = run-passed parents input s answers popped ok in
+      let at : r .at ≡ 0 + total xs = ap (λ (y : Run). y .at) (sym passed) ∙ B .at-is in
+      let n : r .made ≡ 0 + length xs = ap (λ (y : Run). y .made) (sym passed) ∙ B .made-is in
+      let k : r .made ≡ length xs = omega (arith, n) in
+      record {
+        at-is = omega (arith, at);
+        now-is = run-of-made parents input s answers popped xs ok numbers codes m;
+        said = ap (said-from (r .answers) (r .popped) 0) k ∙ run-of-answers parents input s answers popped xs ok numbers codes m;
+      }
+
+  -- the runs over all pieces: the state they leave, and what they say
+  abbrev pub Pieces-made : List Piece → List ℕ → State → List Call → Type 0
+  Pieces-made qs left s xs = (in-pieces parents s left qs ≡ made xs s) × (said-in-pieces parents s left qs ≡ heard xs s)
 
   pub pieces-made : (qs : List Piece) (left : List ℕ) (s : State) (xs : List Call) (n : ℕ) → size-of (call-at parents left 0) ≡ 0 → length xs ≤ n → Roomy n qs → Passes s xs
-      → Stand parents (left ++ bytes-of qs) 0 xs → in-pieces parents s left qs ≡ made xs s
-  unfolding in-pieces bytes-of Roomy Stand made
-  pieces-made [] left s [] n z f r p t = refl
+      → Stand parents (left ++ bytes-of qs) 0 xs → Pieces-made qs left s xs
+  unfolding in-pieces said-in-pieces bytes-of Roomy Stand made heard
+  pieces-made [] left s [] n z f r p t = (refl, refl)
   pieces-made [] left s (x ∷ xs) n z f r p t =
       absurd (t .1 (ap size-of (sym (t .0)) ∙ ap (λ (l : List ℕ). size-of (call-at parents l 0)) (append-nil left) ∙ z))
   pieces-made (q ∷ qs) left s xs n z f r p t =
@@ -147,8 +183,7 @@ module _ (parents : ℕ) where
       let k = total (C .ys) in
       let long : length xs ≡ length (C .ys) + length (C .zs) = ap length (C .is) ∙ length-append (C .ys) (C .zs) in
       let ok = p [] xs refl in
-      let now = run-of-made parents a s (q .answers) (q .popped) (C .ys) ok (omega (arith, r .0)) (omega (arith, r .1)) (C .first) in
-      let at = one-piece a s (q .answers) (q .popped) (C .ys) ok (omega (arith, r .0)) (omega (arith, r .1)) (C .first) in
+      let here = one-piece a s (q .answers) (q .popped) (C .ys) ok (omega (arith, r .0)) (omega (arith, r .1)) (C .first) in
       let w : k + 0 ≡ 0 + k = omega arith in
       let end : size-of (call-at parents (drop k a) 0) ≡ 0 = ap size-of (call-shifts a k parents 0) ∙ ap (λ (i : ℕ). size-of (call-at parents a i)) w ∙ stand-end a (C .ys) 0 (C .first) in
       let more : Stand parents (drop k a ++ b) 0 (C .zs) = subst (λ (l : List ℕ). Stand parents l 0 (C .zs)) (drop-append-le k a b (omega (arith, C .within)))
@@ -156,9 +191,13 @@ module _ (parents : ℕ) where
       let later : Passes (made (C .ys) s) (C .zs) = λ us vs e.
       subst (λ (x : State). state-ok edition-1 parents x ≡ true) (made-append (C .ys) us s)
       (p (C .ys ++ us) vs (C .is ∙ ap (λ (l : List Call). C .ys ++ l) e ∙ sym (append-assoc (C .ys) us vs))) in
-      (λ i. in-pieces parents (now i) (drop (at i) a) qs)
-      ∙ pieces-made qs (drop k a) (made (C .ys) s) (C .zs) n end (omega (arith, long)) (r .2) later more
-      ∙ sym (made-append (C .ys) (C .zs) s) ∙ ap (λ (l : List Call). made l s) (sym (C .is))
+      let rest = pieces-made qs (drop k a) (made (C .ys) s) (C .zs) n end (omega (arith, long)) (r .2) later more in (
+        (λ i. in-pieces parents (here .now-is i) (drop (here .at-is i) a) qs)
+            ∙ rest .0 ∙ sym (made-append (C .ys) (C .zs) s) ∙ ap (λ (l : List Call). made l s) (sym (C .is)),
+        (λ i. here .said i ++ said-in-pieces parents (here .now-is i) (drop (here .at-is i) a) qs)
+            ∙ ap (λ (l : List Said). heard (C .ys) s ++ l) (rest .1)
+            ∙ sym (heard-append (C .ys) (C .zs) s) ∙ ap (λ (l : List Call). heard l s) (sym (C .is)),
+      )
 
 -- ---- the test of 25, from what holds after each of the calls
 lengths-pass : (s : State) (n : ℕ) → ((p : ℕ) → p < n → counts-ok p (s .lengths) ≡ true) → lengths-ok n (s .lengths) ≡ true
@@ -219,12 +258,27 @@ module _ (parents : ℕ) (places : Parent → Places) (s : State) (E : Empty par
   unfolding call-at
   nothing-left = refl
 
-  -- the fork-undo theorem of a runner that reads its input in pieces, from an empty state: the state after the last run holds exactly what the standing calls
-  -- alone give. Nothing is asked of where the pieces are cut
-  pub fork-undo-in-pieces : (qs : List Piece) (ts : List Step) (xs : List Call) → Roomy (length xs) qs → Stand parents (bytes-of qs) 0 xs
-      → Spells parents (ids-in s) B places (Mc.start M) ts xs → Mc.Legal M (Mc.start M) ts → Mc.KeysApart M (Mc.InUse M (Mc.start M) ts)
-      → Agrees parents (Mc.told [] ts (Mc.answers M (Mc.start M) ts)) (in-pieces parents s [] qs)
-  fork-undo-in-pieces qs ts xs r t m l k =
-      subst (λ (cs : List ledger.Call). Agrees parents cs (in-pieces parents s [] qs)) (standing-told M ts (Mc.start M))
-      (subst (Agrees parents (Mc.run M (Mc.start M) ts .standing)) (sym (pieces-made parents qs [] s xs (length xs) nothing-left (omega arith) r (passes ts xs m l k) t))
-      (fork-undo-from-empty parents places s E ts xs m l k .1))
+  module _ (qs : List Piece) (ts : List Step) (xs : List Call) where
+    -- what stands in the answers of the runs
+    abbrev answered : List Said
+    answered = said-in-pieces parents s [] qs
+
+    -- what the theorem says of the runs: what is answered of each call is what the step answers; of every undo it is what it should be; and the state after
+    -- the last run holds exactly what the standing calls alone give, which the answers tell
+    pub record Theorem : Type 0 where
+      pub said : answered ≡ map says-of (Mc.answers M (Mc.start M) ts)
+      pub undos : StepsSaid parents (ids-in s) B places (Mc.start M) s ts xs answered
+      pub agrees : Agrees parents (Mc.told [] ts (Mc.answers M (Mc.start M) ts)) (in-pieces parents s [] qs)
+
+    -- the fork-undo theorem of a runner that reads its input in pieces, from an empty state. Nothing is asked of where the pieces are cut
+    pub fork-undo-in-pieces : Roomy (length xs) qs → Stand parents (bytes-of qs) 0 xs → Spells parents (ids-in s) B places (Mc.start M) ts xs
+        → Mc.Legal M (Mc.start M) ts → Mc.KeysApart M (Mc.InUse M (Mc.start M) ts) → Theorem
+    fork-undo-in-pieces r t m l k =
+        let f = fork-undo-from-empty parents places s E ts xs m l k in
+        let g = pieces-made parents qs [] s xs (length xs) nothing-left (omega arith) r (passes ts xs m l k) t in
+        record {
+          said = g .1 ∙ run-heard parents (ids-in s) B places ts xs (Mc.start M) s (start-holds parents places s E) m;
+          undos = subst (StepsSaid parents (ids-in s) B places (Mc.start M) s ts xs) (sym (g .1)) (f .0);
+          agrees = subst (λ (cs : List ledger.Call). Agrees parents cs (in-pieces parents s [] qs)) (standing-told M ts (Mc.start M))
+              (subst (Agrees parents (Mc.run M (Mc.start M) ts .standing)) (sym (g .0)) (f .1));
+        }

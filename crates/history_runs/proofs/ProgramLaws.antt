@@ -2,7 +2,7 @@
 use mathlib.Core.Path.{_≡_, refl, sym, ap, _∙_, subst}
 use mathlib.Core.Logic.{⊎-elim}
 use mathlib.Core.Bool.{true, false}
-use mathlib.Core.List.{List, [], append-nil}
+use mathlib.Core.List.{List, [], append-nil, map}
 use Prim.Native.Nat.{ℕ, _+_, _*_, _≤_, _<_, min}
 use native.Mathlib.Omega.{arith}
 use lib.IntN.{ℤ, pos}
@@ -23,7 +23,7 @@ use Rattle.call_steps.specs.State.{State, state, length-at, spills-at, state-ok
 use Rattle.call_steps.specs.Steps.{lists-with}
 use Rattle.runner_start.specs.Start.{none-of, two-ids}
 use Rattle.runner.proofs.PieceLaws.{call-shifts}
-use Rattle.call_runs.specs.Made.{Stand}
+use Rattle.call_runs.specs.Made.{heard, Stand}
 use Rattle.call_runs.specs.Delivered.{starting, Told}
 use Rattle.call_runs.proofs.AlongLaws.{along-all}
 use Rattle.ledger.specs.Ledger.{Parent, parent-of}
@@ -35,8 +35,9 @@ use Rattle.history.specs.Index.{kind-of}
 use Rattle.history.specs.Machine.{Borrowed}
 use Rattle.history.specs.ForkUndo.{Places, empty-balance}
 use Rattle.history_runs.specs.View.{ids-in, balance-in}
-use Rattle.history_runs.specs.Runs.{Spells, Agrees, Empty}
-use Rattle.history_runs.proofs.StartLaws.{borrowed, W, fork-undo-from-empty}
+use Rattle.history_runs.specs.Runs.{says-of, Spells, StepsSaid, Agrees, Empty}
+use Rattle.history_runs.proofs.StartLaws.{borrowed, start-holds, W, fork-undo-from-empty}
+use Rattle.history_runs.proofs.HoldLaws.{run-heard}
 use Rattle.history_runs.proofs.PieceLaws.{passes}
 
 -- ---- the program's start
@@ -136,18 +137,24 @@ module _ (numbers : List ℤ) (lengths : List ℕ) (spills : List ℤ) (n code :
   abbrev left : State
   left = state (T .ids) numbers lengths spills (lists-with (T .counts) (T .staged) (T .table) (T .deleted))
 
-  -- the theorem of the program: they are all calls of its input, and the state holds exactly what the standing calls alone give
+  -- the theorem of the program: they are all calls of its input; what each says, of which its line is printed, is what the step answers, and of every undo what
+  -- it should be; and the state holds exactly what the standing calls alone give
   pub record Theorem (ts : List Step) : Type 0 where
     pub all : Stand 2 (T .input) 0 xs
+    pub said : heard xs starting ≡ map says-of (Mc.answers M (Mc.start M) ts)
+    pub undos : StepsSaid 2 (ids-in starting) B starting-places (Mc.start M) starting ts xs (heard xs starting)
     pub agrees : Agrees 2 (Mc.told [] ts (Mc.answers M (Mc.start M) ts)) left
 
   pub fork-undo-of-program : (ts : List Step) → Spells 2 (ids-in starting) B starting-places (Mc.start M) ts xs → Mc.Legal M (Mc.start M) ts
       → Mc.KeysApart M (Mc.InUse M (Mc.start M) ts) → Theorem ts
   fork-undo-of-program ts m l k =
+      let f = fork-undo-from-empty 2 starting-places starting starting-empty ts xs m l k in
       record {
         all = along-all 2 (T .input) xs 0 byte (T .delivered .stand) none-left;
+        said = run-heard 2 (ids-in starting) B starting-places ts xs (Mc.start M) starting (start-holds 2 starting-places starting starting-empty) m;
+        undos = f .0;
         agrees = subst (λ (cs : List ledger.Call). Agrees 2 cs left) (standing-told M ts (Mc.start M))
-            (subst (Agrees 2 (Mc.run M (Mc.start M) ts .standing)) (sym (T .delivered .now-is)) (fork-undo-from-empty 2 starting-places starting starting-empty ts xs m l k .1));
+            (subst (Agrees 2 (Mc.run M (Mc.start M) ts .standing)) (sym (T .delivered .now-is)) (f .1));
       }
     where
       byte : ℕ

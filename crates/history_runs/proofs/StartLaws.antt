@@ -21,7 +21,7 @@ use Rattle.history.specs.Index.{part}
 use Rattle.history.specs.Machine.{Borrowed, none-of}
 use Rattle.history.specs.ForkUndo.{Places}
 use Rattle.history_runs.specs.View.{ids-in, part-in}
-use Rattle.call_runs.specs.Made.{made}
+use Rattle.call_runs.specs.Made.{made, heard}
 use Rattle.history_runs.specs.Runs.{M, Holds, Spells, StepsSaid, Agrees, Empty, lent}
 use Rattle.history_runs.proofs.ViewLaws.{head-long}
 use Rattle.history_runs.proofs.HoldLaws.{fork-undo-runs}
@@ -76,5 +76,5 @@ module _ (parents : ℕ) (places : Parent → Places) (s : State) (E : Empty par
   -- afterwards the state holds exactly what the standing calls alone give
   pub fork-undo-from-empty : (ts : List Step) (xs : List Call) → Spells parents (ids-in s) borrowed places (Run.start W) ts xs → Run.Legal W (Run.start W) ts
       → Run.KeysApart W (Run.InUse W (Run.start W) ts)
-      → StepsSaid parents (ids-in s) borrowed places (Run.start W) s ts xs × Agrees parents (Run.run W (Run.start W) ts .standing) (made xs s)
+      → StepsSaid parents (ids-in s) borrowed places (Run.start W) s ts xs (heard xs s) × Agrees parents (Run.run W (Run.start W) ts .standing) (made xs s)
   fork-undo-from-empty = fork-undo-runs parents (ids-in s) borrowed places s start-holds

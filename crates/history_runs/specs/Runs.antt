@@ -18,6 +18,7 @@ use Rattle.call_steps.specs.declared.Said.{Said}
 use Rattle.call_steps.specs.State.{State, Ready}
 use Rattle.call_steps.specs.Steps.{accepted, number-popped, refused, step-of}
 use Rattle.runner.specs.Run.{run-of}
+use Rattle.call_runs.specs.Made.{said-from}
 use Rattle.balance_laws.specs.Calls.{tokens-in}
 use Rattle.ledger.specs.Ledger.{TokenId, Parent, Series, boxes, parent-of, ite, Tokens, append, spend, credit, debit, absℤ, amount-in, ledger-numbers, ledger-spent, ledger-nanos, ledger-amount}
 use Rattle.ledger.specs.Ledger as ledger
@@ -43,6 +44,13 @@ in-pieces parents s left [] = s
 in-pieces parents s left (q ∷ qs) =
     let r = run-of edition-1 parents (left ++ q .bytes) s (q .answers) (q .popped) in
     in-pieces parents (r .now) (drop (r .at) (left ++ q .bytes)) qs
+
+-- what the runs say, the first one first: of each call that a run made, what stands in that run's own answers
+unfoldable pub said-in-pieces : (parents : ℕ) → State → (left : List ℕ) → List Piece → List Said
+said-in-pieces parents s left [] = []
+said-in-pieces parents s left (q ∷ qs) =
+    let r = run-of edition-1 parents (left ++ q .bytes) s (q .answers) (q .popped) in
+    said-from (r .answers) (r .popped) 0 (r .made) ++ said-in-pieces parents (r .now) (drop (r .at) (left ++ q .bytes)) qs
 
 -- each run has room for n answers
 unfoldable pub Roomy : ℕ → List Piece → Type 0
@@ -124,11 +132,12 @@ module _ (parents : ℕ) where
     StepSaid c undo s w = UndoSaid (c .standing) s w
     StepSaid c flush s w = Unit {0}
 
-    -- of every undo of the list, wherever it stands
-    unfoldable pub StepsSaid : Run.Conf M → State → List Step → List Call → Type 0
-    StepsSaid c s [] xs = Unit {0}
-    StepsSaid c s (t ∷ ts) [] = Unit {0}
-    StepsSaid c s (t ∷ ts) (x ∷ xs) = StepSaid c t s (step-of edition-1 x s .said) × StepsSaid (Run.step M c t) (step-of edition-1 x s .after) ts xs
+    -- of every undo of the list, wherever it stands; ws are what is said of the calls, in their order
+    unfoldable pub StepsSaid : Run.Conf M → State → List Step → List Call → (ws : List Said) → Type 0
+    StepsSaid c s [] xs ws = Unit {0}
+    StepsSaid c s (t ∷ ts) [] ws = ⊥
+    StepsSaid c s (t ∷ ts) (x ∷ xs) [] = ⊥
+    StepsSaid c s (t ∷ ts) (x ∷ xs) (w ∷ ws) = StepSaid c t s w × StepsSaid (Run.step M c t) (step-of edition-1 x s .after) ts xs ws
 
   -- of each of so many parents, the runner's state holds exactly what the standing calls alone give
   pub record Agrees (cs : List ledger.Call) (s : State) : Type 0 where
