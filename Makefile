@@ -1,4 +1,5 @@
 # make run    proves the call runner and runs it on a sample history that forks across a full row
+# make load   writes a load that can be repeated to standard output: CALLS calls from STATE
 # make test   the gate: every crate proved from nothing, every must-fail edit refused, every program's output compared
 # make c-test    the C interface: proves and builds the archive, links a C program with it and compares what it prints
 # make bindings  the Rust crate over the archive: proves and builds the archive, then builds and tests the crate, offline
@@ -19,7 +20,7 @@ RT := $(shell command -v rt 2>/dev/null)
 NO_RT := the Rattle kit is missing: no command 'rt' on PATH (expected in /opt/rattle/bin)
 ARCHIVE := target/staticlib/libergo_index.a
 
-.PHONY: run test times c-test bindings compare compare-full compare-sample compare-build vectors bench all-checks fmt
+.PHONY: run load test times c-test bindings compare compare-full compare-sample compare-build vectors bench all-checks fmt
 
 run:
 ifeq ($(RT),)
@@ -29,6 +30,17 @@ else
 	@mkdir -p target; rt check call_runner 2>&1 | tee target/run.log | grep --line-buffered '^rt: ' || { tail -n 20 target/run.log >&2; exit 1; }
 	@echo "the last lines of the sample history, which has 545 calls:"
 	@target/bin/call_runner < sample/fork.calls | tail -n 32
+endif
+
+STATE := 1
+CALLS := 1000
+
+load:
+ifeq ($(RT),)
+	@echo "$(NO_RT)" >&2; exit 2
+else
+	@mkdir -p target; rt check load_writer >target/load.log 2>&1 || { tail -n 20 target/load.log >&2; exit 1; }
+	@target/bin/load_writer $(STATE) $(CALLS)
 endif
 
 test:

@@ -12,7 +12,8 @@ KINDS = {name: at for at, name in enumerate(
     'i64 i32 first span row adr und put64 put32 wrs wra une prn milli drift b2b b2b512 box txs'.split())}
 KINDS.update(zip(('add', 'sub', 'add-in-place', 'sub-in-place'), range(32, 36)))
 CALLS = 'append append-tx pop pop-tx spend unspend tally flush lists locate'.split()
-KINDS.update(zip(CALLS, range(48, 58)), run=64)
+KINDS.update(zip(CALLS, range(48, 58)), run=64, load=65)
+KINDS['go-on'] = 66
 BODIES = {1: 10, 2: 10, 3: 10, 4: 10, 5: 2, 6: 2, 7: 1, 8: 19, 9: 19}
 RECORD, KEY = 10288, 32
 
@@ -260,6 +261,9 @@ def vector_fields(kind, given):
         old = held(get['nanos'], get.get('ids', b''), get.get('amounts', []), get.get('count', len(get.get('amounts', []))))
         box = held(get['box_nanos'], get.get('box_ids', b''), get.get('box_amounts', []), get.get('box_count', len(get.get('box_amounts', []))))
         return old + box
+    if kind in ('load', 'go-on'):
+        counts = numbered(get['boxes'], get['txs']) if kind == 'go-on' else b''
+        return field(get['out']) + numbered(get['state'], get['calls']) + counts
     return get['bytes']
 
 

@@ -61,6 +61,7 @@ extern "C" {
 #define ERGO_INDEX_UNKNOWN_CALL 31               /* a call of a batch is unknown; no result, see ERGO_INDEX_END_NO_CALL */
 #define ERGO_INDEX_OUTPUT_TOO_SHORT 32           /* the output is too short */
 #define ERGO_INDEX_NUMBER_PADDED 34              /* a coded number longer than one byte ends in 00; tested directly after 2 */
+#define ERGO_INDEX_STATE_IS_ZERO 38              /* a load is asked for from state 0 */
 
 /* ---- sizes */
 #define ERGO_INDEX_HEAD_LENGTH 512     /* numbers in a full head, and in a spilled row */
@@ -156,6 +157,21 @@ uint8_t ergo_index_run_calls(const uint8_t *input, size_t input_len, size_t pare
                              size_t *table_count, size_t table_capacity, uint8_t *table, size_t table_len,
                              size_t *deleted_count, size_t deleted_capacity, uint8_t *deleted, size_t deleted_len,
                              uint8_t *answers, size_t answers_len, int64_t *popped, size_t popped_len, size_t *at, size_t *made, uint8_t *end);
+
+/* ---- loads: calls for ergo_index_run_calls, drawn one after the other from a state of 64 bits, so that equal states give equal calls */
+
+/* Writes `count` calls at the front of out, drawn from the state `from`, all to parent 0: boxes and transactions appended, numbered from 0, spends of boxes
+ * appended so far, and flushes. A call has 10 bytes, a flush one. *written is their number, and *state, *boxes and *txs the generator after them: its state,
+ * and how many boxes and transactions it has appended.
+ * Refusals, in order: 38, 32 (by the exact bytes of the calls).
+ * Changes: out, *written, *state, *boxes, *txs. */
+uint8_t ergo_index_generate_load(uint64_t from, uint64_t count, uint8_t *out, size_t out_len, size_t *written, uint64_t *state, uint64_t *boxes,
+                                 uint64_t *txs);
+
+/* Writes `count` calls more, from the generator that an earlier load left in *state, *boxes and *txs: n calls and then m are the n + m of one load.
+ * Refusals, in order: 25 (a count above 2^62), 38, 32.
+ * Changes: out, *written, *state, *boxes, *txs. */
+uint8_t ergo_index_go_on(uint64_t *state, uint64_t *boxes, uint64_t *txs, uint64_t count, uint8_t *out, size_t out_len, size_t *written);
 
 /* ---- spill rows */
 

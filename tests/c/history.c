@@ -242,6 +242,26 @@ static void batch(void) {
 #undef RUN
 }
 
+/* Nine calls from state 1 and then six are the fifteen calls of one load; each refusal changes nothing. */
+static void loads(void) {
+    uint8_t whole[150], pieces[150] = {0};
+    size_t written = 7, more = 7;
+    uint64_t state = 8, boxes = 8, txs = 8, whole_state = 0, whole_boxes = 0, whole_txs = 0;
+
+    EXPECT(ergo_index_generate_load(0, 9, pieces, 1, &written, &state, &boxes, &txs) == ERGO_INDEX_STATE_IS_ZERO);
+    EXPECT(ergo_index_generate_load(1, 9, pieces, 80, &written, &state, &boxes, &txs) == ERGO_INDEX_OUTPUT_TOO_SHORT);
+    EXPECT(written == 7 && state == 8 && boxes == 8 && txs == 8 && pieces[0] == 0);
+    EXPECT(ergo_index_generate_load(1, 9, pieces, 81, &written, &state, &boxes, &txs) == ERGO_INDEX_ACCEPTED);
+    EXPECT(written == 81 && boxes == 5 && txs == 0 && pieces[0] == 1 && pieces[30] == 3 && pieces[80] == 7);
+    EXPECT(ergo_index_go_on(&state, &boxes, &txs, 6, pieces + written, sizeof pieces - written, &more) == ERGO_INDEX_ACCEPTED && more == 60);
+    EXPECT(ergo_index_generate_load(1, 15, whole, sizeof whole, &written, &whole_state, &whole_boxes, &whole_txs) == ERGO_INDEX_ACCEPTED);
+    EXPECT(written == 141 && memcmp(whole, pieces, written) == 0 && state == whole_state && boxes == whole_boxes && txs == whole_txs);
+    txs = (UINT64_C(1) << 62) + 1;
+    EXPECT(ergo_index_go_on(&state, &boxes, &txs, 1, pieces, sizeof pieces, &more) == ERGO_INDEX_BUFFERS && more == 60 && txs != whole_txs);
+    printf("load: %zu bytes, %llu boxes, %llu transactions, state %llu\n", written, (unsigned long long)boxes, (unsigned long long)whole_txs,
+           (unsigned long long)state);
+}
+
 static void codecs(void) {
     static const int64_t one[1] = {1}, minus_one[1] = {-1};
     static const uint8_t row[6] = {2, 2, 2, 1, 0, 2};
@@ -287,6 +307,7 @@ int main(void) {
     history();
     balances_and_records();
     batch();
+    loads();
     codecs();
     printf("ok\n");
     return 0;

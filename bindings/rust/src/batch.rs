@@ -3,6 +3,7 @@
 use crate::balance::{Balance, MAX_TOKENS};
 use crate::ffi;
 use crate::lists::{DeletedSpills, SegmentTable, StagedSpills};
+use crate::load::Load;
 use crate::refusal::{accepted, Refusal};
 use crate::segment::{BoxNumber, Head, Segment, TxNumber, SEGMENT_THRESHOLD};
 
@@ -173,6 +174,14 @@ impl Batch {
     /// Queues [`Balance::subtract_box`] with one token, whose id is the byte 32 times.
     pub fn debit(&mut self, parent: usize, nanos: i64, token: u8, amount: i64) -> &mut Self {
         self.queue_change(9, parent, nanos, token, amount)
+    }
+
+    /// Queues the next calls of a load, all to parent 0. Panics if there is no parent, and is refused as [`Load::next_bytes`] is.
+    pub fn load(&mut self, load: &mut Load, calls: usize) -> Result<&mut Self, Refusal> {
+        assert!(0 < self.parents, "a load without a parent");
+        self.input.extend(load.next_bytes(calls)?);
+        self.calls += calls;
+        Ok(self)
     }
 
     /// Makes the calls that wait, and answers each. Refused by 25 of any segment, balance or list: then nothing was changed and the calls still wait.

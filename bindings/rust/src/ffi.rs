@@ -289,6 +289,17 @@ extern "C" {
         window_named: bool,
         window_heights: u64,
     ) -> u8;
+    pub fn ergo_index_generate_load(
+        from: u64,
+        count: u64,
+        out: *mut u8,
+        out_len: usize,
+        written: *mut usize,
+        state: *mut u64,
+        boxes: *mut u64,
+        txs: *mut u64,
+    ) -> u8;
+    pub fn ergo_index_go_on(state: *mut u64, boxes: *mut u64, txs: *mut u64, count: u64, out: *mut u8, out_len: usize, written: *mut usize) -> u8;
     pub fn ergo_index_tolerate_secondary_drift(flip: u8, skipped: *mut bool) -> u8;
     pub fn ergo_index_statement_milli_ergs(nano_ergs: i64) -> i64;
 }

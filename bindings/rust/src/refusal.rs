@@ -82,9 +82,11 @@ pub enum Refusal {
     OutputTooShort = 32,
     /// 34: a coded number longer than one byte ends in 00.
     NumberPadded = 34,
+    /// 38: a load is asked for from state 0.
+    StateIsZero = 38,
 }
 
-const ALL: [Refusal; 33] = [
+const ALL: [Refusal; 34] = [
     Refusal::BytesEnd,
     Refusal::NumberTooLarge,
     Refusal::NegativeLength,
@@ -118,6 +120,7 @@ const ALL: [Refusal; 33] = [
     Refusal::UnknownCall,
     Refusal::OutputTooShort,
     Refusal::NumberPadded,
+    Refusal::StateIsZero,
 ];
 
 impl Refusal {
@@ -167,6 +170,7 @@ impl Refusal {
             Refusal::UnknownCall => "a call of the runner is unknown or cut",
             Refusal::OutputTooShort => "the output is too short",
             Refusal::NumberPadded => "a coded number longer than one byte ends in 00",
+            Refusal::StateIsZero => "a load is asked for from state 0",
         }
     }
 }
@@ -193,7 +197,7 @@ mod tests {
 
     #[test]
     fn numbers_and_names_agree() {
-        assert!(ALL.iter().map(|refusal| refusal.code()).eq((1..=32).chain([34])));
+        assert!(ALL.iter().map(|refusal| refusal.code()).eq((1..=32).chain([34, 38])));
         for refusal in ALL {
             assert_eq!(Refusal::from_code(refusal.code()), Some(refusal));
         }

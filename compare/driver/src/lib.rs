@@ -5,6 +5,7 @@ pub mod checks;
 pub mod codes;
 pub mod hashlib;
 pub mod index;
+pub mod loads;
 pub mod measure;
 pub mod random;
 pub mod report;

@@ -40,7 +40,7 @@ fn codec(kind: u8, name: &[u8], s: &[u8]) {
     }
 }
 
-// Balances, calls of the buffer, and histories.
+// Balances, calls of the buffer, histories and loads.
 fn replay(kind: u8, name: &[u8], s: &[u8]) {
     match kind {
         32 => vector_balances::replay(name, Change::Add, s),
@@ -58,6 +58,8 @@ fn replay(kind: u8, name: &[u8], s: &[u8]) {
         56 => vector_calls::replay(name, Call::Lists, s),
         57 => vector_calls::replay(name, Call::Locate, s),
         64 => vector_runs::run(name, s),
+        65 => vector_load::generate(name, s),
+        66 => vector_load::go_on(name, s),
         _ => codec(kind, name, s),
     }
 }

@@ -15,7 +15,7 @@ use driver::index::{
 };
 use driver::measure::{both, keep, line, plot, shown, thread_time, Curve, Times, ROUNDS};
 use driver::sides::Sides;
-use driver::tables;
+use driver::{loads, tables};
 use reference::address::BalanceInfo;
 use reference::segment::Segment;
 use reference::{calls, Digest32, VlqWriter};
@@ -343,7 +343,7 @@ fn balances() {
     }
 }
 
-/// The runner's program on appends and spends of two parents, if it is built.
+/// The runner's program on appends and spends of two parents, and on the load that can be repeated, if it is built.
 fn runner() {
     let path = env::var("ERGO_RUNNER").unwrap_or_else(|_| "../target/bin/call_runner".into());
     if !fs::exists(&path).unwrap_or(false) {
@@ -351,8 +351,8 @@ fn runner() {
         return;
     }
     let mut input = Vec::new();
-    let calls = 200_000u32;
-    for n in 0..i64::from(calls) {
+    let calls = 200_000;
+    for n in 0..calls as i64 {
         // heads stay short: a number in, spent, and out again
         let (kind, parent) = ([1, 3, 4, 5][n as usize % 4], (n / 4 % 2) as u8);
         input.extend([kind, parent]);
@@ -360,26 +360,34 @@ fn runner() {
             input.extend((n / 4).to_be_bytes());
         }
     }
-    let times: Vec<f64> = (0..ROUNDS)
-        .map(|_| {
-            let start = Instant::now();
-            let mut child = Command::new(&path)
-                .stdin(Stdio::piped())
-                .stdout(Stdio::null())
-                .spawn()
-                .expect("the runner starts");
-            child
-                .stdin
-                .take()
-                .expect("its input")
-                .write_all(&input)
-                .expect("the runner reads");
-            child.wait().expect("the runner ends");
-            start.elapsed().as_nanos() as f64 / f64::from(calls)
-        })
-        .collect();
-    let times = Times::new(times);
+    let times = runs(&path, &input, calls);
     line(&format!("runner, {:.0} calls per second", 1e9 / times.median()), &times, None);
+    for calls in [2_000, calls] {
+        let times = runs(&path, &loads::bytes(calls), calls);
+        let name = format!(
+            "runner on a load of {calls} calls, {:.0} calls per second",
+            1e9 / times.median()
+        );
+        line(&name, &times, None);
+    }
+}
+
+/// The runner's program on an input of so many calls, from its start to its end.
+fn runs(path: &str, input: &[u8], calls: usize) -> Times {
+    let times = (0..ROUNDS).map(|_| {
+        let start = Instant::now();
+        let mut child = Command::new(path)
+            .stdin(Stdio::piped())
+            .stdout(Stdio::null())
+            .spawn()
+            .expect("the runner starts");
+        let mut pipe = child.stdin.take().expect("its input");
+        pipe.write_all(input).expect("the runner reads");
+        drop(pipe);
+        child.wait().expect("the runner ends");
+        start.elapsed().as_nanos() as f64 / calls as f64
+    });
+    Times::new(times.collect())
 }
 
 fn main() {
@@ -394,6 +402,7 @@ fn main() {
     balances();
     let records = tables::by_rows();
     tables::by_room();
+    loads::in_batches();
     runner();
     let Some(folder) = folder else { return };
     let (mut ours, mut theirs) = (Vec::new(), Vec::new());

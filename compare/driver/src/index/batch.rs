@@ -48,8 +48,30 @@ impl Batch {
         self.queue(if kind == Kind::Box { 5 } else { 6 }, None);
     }
 
+    /// So many calls in bytes, of a parent with empty heads and an empty balance.
+    pub fn of_calls(parent: &Id, input: &[u8], calls: usize) -> Self {
+        let mut batch = Self::new(parent, &Head::new(&[], 0));
+        batch.input.extend(input);
+        batch.answers.resize(2 * calls, 0);
+        batch.popped.resize(calls, 0);
+        batch
+    }
+
+    /// The parent again with these boxes, an empty head of transactions and an empty balance; the calls stay queued.
+    pub fn restart(&mut self, boxes: &Head) {
+        self.numbers.fill(0);
+        self.numbers[..HEAD].copy_from_slice(&boxes.numbers[..HEAD]);
+        self.lengths = [boxes.len, 0, 0];
+        self.spills = [boxes.spills, 0];
+    }
+
     /// Makes all queued calls, which stay queued. Every one is to be accepted.
     pub fn run(&mut self, lists: &mut Lists) {
+        assert!(self.codes(lists).all(|code| code == 0), "a call of the batch was refused");
+    }
+
+    /// Makes all queued calls, which stay queued, and gives the code of each.
+    pub fn codes(&mut self, lists: &mut Lists) -> impl Iterator<Item = u8> + '_ {
         let (s, t, d) = (&mut lists.staged, &mut lists.table, &mut lists.deleted);
         let (mut at, mut made, mut end) = (0, 0, 0);
         let code = unsafe {
@@ -87,9 +109,6 @@ impl Batch {
             )
         };
         assert_eq!((code, made), (0, self.popped.len()));
-        assert!(
-            self.answers.chunks_exact(2).all(|answer| answer[0] == 0),
-            "a call of the batch was refused"
-        );
+        self.answers.chunks_exact(2).map(|answer| answer[0])
     }
 }

@@ -147,6 +147,13 @@ impl Lists {
         }
     }
 
+    /// No record and no key in any of them.
+    pub fn empty(&mut self) {
+        self.staged.count = 0;
+        self.table.count = 0;
+        self.deleted.count = 0;
+    }
+
     pub fn append(&mut self, kind: Kind, parent: &Id, head: &mut Head, number: i64) -> u8 {
         let call = match kind {
             Kind::Box => ergo_index_append_box_entry,

@@ -1,0 +1,2 @@
+-- The definitions that the contracts of `load_core` cite.
+pub mod Draw
