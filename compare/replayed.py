@@ -11,8 +11,8 @@ import sys
 KINDS = {name: at for at, name in enumerate(
     'i64 i32 first span row adr und put64 put32 wrs wra une prn milli drift b2b b2b512 box txs'.split())}
 KINDS.update(zip(('add', 'sub', 'add-in-place', 'sub-in-place'), range(32, 36)))
-CALLS = 'append append-tx pop pop-tx spend unspend tally flush lists locate'.split()
-KINDS.update(zip(CALLS, range(48, 58)), run=64, load=65)
+CALLS = 'append append-tx pop pop-tx spend unspend tally flush lists locate page'.split()
+KINDS.update(zip(CALLS, range(48, 59)), run=64, load=65)
 KINDS['go-on'] = 66
 BODIES = {1: 10, 2: 10, 3: 10, 4: 10, 5: 2, 6: 2, 7: 1, 8: 19, 9: 19}
 RECORD, KEY = 10288, 32
@@ -216,6 +216,10 @@ def call_fields(given):
     return out
 
 
+def page_fields(given):
+    return coded(int(given.get('length', 64))) + field(value(given.get('page', '[64*7]')))
+
+
 def call_answer(kind, given, answer, after):
     words = list(answer)
     if answer[0] != '0':
@@ -230,7 +234,7 @@ def call_answer(kind, given, answer, after):
 def vector_fields(kind, given):
     get = {name: value(text) for name, text in given.items()} if kind not in CALLS else {}
     if kind in CALLS:
-        return call_fields(given)
+        return call_fields(given) + (page_fields(given) if kind == 'page' else b'')
     if kind in ('i64', 'i32'):
         return coded(get.get('at', 0)) + field(get['bytes'])
     if kind == 'span':

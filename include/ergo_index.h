@@ -60,11 +60,13 @@ extern "C" {
 #define ERGO_INDEX_UNDO_ENTRY_LEFT_OVER 30       /* bytes are left over behind an undo entry */
 #define ERGO_INDEX_UNKNOWN_CALL 31               /* a call of a batch is unknown; no result, see ERGO_INDEX_END_NO_CALL */
 #define ERGO_INDEX_OUTPUT_TOO_SHORT 32           /* the output is too short */
+#define ERGO_INDEX_PAGE_TOO_LONG 33              /* a page of more than 64 numbers is asked for */
 #define ERGO_INDEX_NUMBER_PADDED 34              /* a coded number longer than one byte ends in 00; tested directly after 2 */
 #define ERGO_INDEX_STATE_IS_ZERO 38              /* a load is asked for from state 0 */
 
 /* ---- sizes */
 #define ERGO_INDEX_HEAD_LENGTH 512     /* numbers in a full head, and in a spilled row */
+#define ERGO_INDEX_PAGE_LENGTH 64      /* places of a page of unspent boxes */
 #define ERGO_INDEX_ROW_LIMIT 10254     /* bytes of the longest segment row */
 #define ERGO_INDEX_RECORD_SIZE 10288   /* bytes of a record: 32 of the key, 2 of the length (high byte first), then the row and zeros */
 #define ERGO_INDEX_KEY_SIZE 32         /* bytes of a row key, a token id, a parent id */
@@ -121,6 +123,17 @@ uint8_t ergo_index_tally(const uint8_t parent[32], size_t len, int32_t spills, c
                          size_t staged_count, size_t staged_capacity, const uint8_t *staged, size_t staged_len,
                          size_t table_count, size_t table_capacity, const uint8_t *table, size_t table_len, size_t *unspent, size_t *spent,
                          size_t *unknown);
+
+/* Puts unspent box numbers (entries above 0) into a page, the newest first: over the head and then the rows from the newest down, `offset` of them are
+ * passed over and the next `length` put, fewer only where they end. Zeros follow to ERGO_INDEX_PAGE_LENGTH; places of the page past it stay. Any offset
+ * is accepted, and the length 0.
+ * Refusals, in order: 25 (head, staged spills, table, a page shorter than ERGO_INDEX_PAGE_LENGTH), 33, 10, 11; per row from spill 0 up, whether the page
+ * needs it or not: 12, 1 to 6 or 34, 8, 13.
+ * Changes: page, *numbers: how many stand in it. */
+uint8_t ergo_index_unspent_page(const uint8_t parent[32], size_t len, int32_t spills, const int64_t *head, size_t head_len,
+                                size_t staged_count, size_t staged_capacity, const uint8_t *staged, size_t staged_len,
+                                size_t table_count, size_t table_capacity, const uint8_t *table, size_t table_len, size_t offset, size_t length,
+                                int64_t *page, size_t page_len, size_t *numbers);
 
 /* Writes the staged rows whose key is not deleted to the table, then removes the deleted keys from it; staged and deleted spills end empty, all zero
  * to their capacity. A row that was staged again after its key was deleted is lost.

@@ -89,6 +89,28 @@ static size_t spent_boxes(void) {
     return spent;
 }
 
+static uint8_t unspent_page(size_t offset, size_t length, int64_t *page, size_t page_len, size_t *numbers) {
+    return ergo_index_unspent_page(parent, boxes.len, boxes.spills, boxes.numbers, ERGO_INDEX_HEAD_LENGTH,
+                                   staged.count, CAPACITY, staged.bytes, sizeof staged.bytes,
+                                   table.count, CAPACITY, table.bytes, sizeof table.bytes, offset, length, page, page_len, numbers);
+}
+
+/* the unspent boxes are 513 down to 1 without 100; 33 comes after 25 and leaves the page */
+static void pages(void) {
+    int64_t page[ERGO_INDEX_PAGE_LENGTH + 1] = {0};
+    size_t numbers = 9;
+    page[ERGO_INDEX_PAGE_LENGTH] = 7;
+    EXPECT(unspent_page(0, 65, page, 65, &numbers) == ERGO_INDEX_PAGE_TOO_LONG && numbers == 9 && page[0] == 0);
+    EXPECT(unspent_page(0, 65, page, 63, &numbers) == ERGO_INDEX_BUFFERS && numbers == 9 && page[0] == 0);
+    EXPECT(unspent_page(0, 64, page, 65, &numbers) == ERGO_INDEX_ACCEPTED && numbers == 64);
+    EXPECT(page[0] == 513 && page[1] == 512 && page[63] == 450 && page[64] == 7);
+    EXPECT(unspent_page(412, 2, page, 65, &numbers) == ERGO_INDEX_ACCEPTED && numbers == 2);
+    EXPECT(page[0] == 101 && page[1] == 99 && page[2] == 0 && page[63] == 0 && page[64] == 7);
+    EXPECT(unspent_page(511, 64, page, 65, &numbers) == ERGO_INDEX_ACCEPTED && numbers == 1 && page[0] == 1 && page[1] == 0);
+    EXPECT(unspent_page(SIZE_MAX, 64, page, 65, &numbers) == ERGO_INDEX_ACCEPTED && numbers == 0 && page[0] == 0);
+    printf("pages: ok\n");
+}
+
 static void say(const char *what) {
     printf("%s: head %zu, spills %d, staged %zu, table %zu, deleted %zu\n", what, boxes.len, (int)boxes.spills, staged.count, table.count,
            deleted.count);
@@ -145,6 +167,7 @@ static void history(void) {
 
     EXPECT(spend(100) == ERGO_INDEX_ACCEPTED && box_in_row(99, &list) == -100 && list == 1 && spent_boxes() == 1);
     say("spend 100");
+    pages();
     EXPECT(spend(100) == ERGO_INDEX_NO_COPY_OF_THAT_SIGN);
     EXPECT(spend(1000) == ERGO_INDEX_TARGET_NOT_SEEN);
     EXPECT(append_box(-1) == ERGO_INDEX_NEGATIVE_NUMBER && boxes.len == 1);

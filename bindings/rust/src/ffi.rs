@@ -117,6 +117,26 @@ extern "C" {
         spent: *mut usize,
         unknown: *mut usize,
     ) -> u8;
+    pub fn ergo_index_unspent_page(
+        parent: *const u8,
+        len: usize,
+        spills: i32,
+        head: *const i64,
+        head_len: usize,
+        staged_count: usize,
+        staged_capacity: usize,
+        staged: *const u8,
+        staged_len: usize,
+        table_count: usize,
+        table_capacity: usize,
+        table: *const u8,
+        table_len: usize,
+        offset: usize,
+        length: usize,
+        page: *mut i64,
+        page_len: usize,
+        numbers: *mut usize,
+    ) -> u8;
     pub fn ergo_index_flush_staged_spills(
         staged_count: *mut usize,
         staged_capacity: usize,

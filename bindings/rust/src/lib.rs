@@ -41,6 +41,7 @@ mod codec;
 pub mod ffi;
 mod lists;
 mod load;
+mod pages;
 mod records;
 mod refusal;
 mod segment;
@@ -50,6 +51,7 @@ pub use batch::{Batch, BatchAnswer, END_CUT_CALL, END_NO_CALL, END_NO_ROOM, END_
 pub use codec::{blake2b256, box_segment_id, tx_segment_id, VlqReader, VlqWriter};
 pub use lists::{flush_staged_spills, inspect_spill, DeletedSpills, Key, SegmentTable, Spill, StagedSpills, KEY_SIZE, RECORD_SIZE, ROW_LIMIT};
 pub use load::{Load, LoadCall};
+pub use pages::{UnspentBoxes, PAGE_LENGTH};
 pub use records::{prune_below_window, IndexedAddress, UndoEntry, ADDRESS_LIMIT};
 pub use refusal::Refusal;
 pub use segment::{tolerate_secondary_drift, BoxNumber, Segment, Tally, Tolerated, TxNumber, SEGMENT_THRESHOLD};

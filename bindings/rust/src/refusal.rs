@@ -80,13 +80,15 @@ pub enum Refusal {
     UnknownCall = 31,
     /// 32: the output is too short.
     OutputTooShort = 32,
+    /// 33: a page of more than 64 numbers is asked for.
+    PageTooLong = 33,
     /// 34: a coded number longer than one byte ends in 00.
     NumberPadded = 34,
     /// 38: a load is asked for from state 0.
     StateIsZero = 38,
 }
 
-const ALL: [Refusal; 34] = [
+const ALL: [Refusal; 35] = [
     Refusal::BytesEnd,
     Refusal::NumberTooLarge,
     Refusal::NegativeLength,
@@ -119,6 +121,7 @@ const ALL: [Refusal; 34] = [
     Refusal::UndoEntryLeftOver,
     Refusal::UnknownCall,
     Refusal::OutputTooShort,
+    Refusal::PageTooLong,
     Refusal::NumberPadded,
     Refusal::StateIsZero,
 ];
@@ -169,6 +172,7 @@ impl Refusal {
             Refusal::UndoEntryLeftOver => "bytes are left over behind an undo entry",
             Refusal::UnknownCall => "a call of the runner is unknown or cut",
             Refusal::OutputTooShort => "the output is too short",
+            Refusal::PageTooLong => "a page of more than 64 numbers is asked for",
             Refusal::NumberPadded => "a coded number longer than one byte ends in 00",
             Refusal::StateIsZero => "a load is asked for from state 0",
         }
@@ -197,12 +201,12 @@ mod tests {
 
     #[test]
     fn numbers_and_names_agree() {
-        assert!(ALL.iter().map(|refusal| refusal.code()).eq((1..=32).chain([34, 38])));
+        assert!(ALL.iter().map(|refusal| refusal.code()).eq((1..=34).chain([38])));
         for refusal in ALL {
             assert_eq!(Refusal::from_code(refusal.code()), Some(refusal));
         }
         assert_eq!(Refusal::from_code(0), None);
-        assert_eq!(Refusal::from_code(33), None);
+        assert_eq!(Refusal::from_code(35), None);
         assert_eq!(accepted(0), Ok(()));
         assert_eq!(accepted(25), Err(Refusal::Buffers));
     }

@@ -66,6 +66,32 @@ fn what_was_done_is_undone() -> Result<(), Refusal> {
 }
 
 #[test]
+fn unspent_boxes_are_paged_newest_first() -> Result<(), Refusal> {
+    let mut index = Index::new(4);
+    for n in 0..=1600 {
+        index.append(n)?;
+        if n % 3 == 0 && n > 0 {
+            index.spend(n / 3)?;
+        }
+    }
+    let (staged, table) = (&index.staged, &index.table);
+    let unspent: Vec<BoxNumber> = index.segment.unspent_boxes(staged, table).collect::<Result<_, _>>()?;
+    assert!(unspent.iter().copied().eq((534..=1600).rev().map(BoxNumber)));
+    for offset in [0, 1, 64, 600, 1003, 1066, 1067, 5000, usize::MAX] {
+        for length in [0, 1, 63, 64] {
+            let page = index.segment.unspent_page(offset, length, staged, table)?;
+            assert!(page.iter().eq(unspent.iter().skip(offset).take(length)));
+        }
+    }
+    assert_eq!(index.segment.unspent_page(0, 65, staged, table), Err(Refusal::PageTooLong));
+
+    let without_rows = StagedSpills::with_capacity(1);
+    let mut refused = index.segment.unspent_boxes(&without_rows, table);
+    assert_eq!((refused.next(), refused.next()), (Some(Err(Refusal::RowMissing)), None));
+    Ok(())
+}
+
+#[test]
 fn the_first_copy_is_spent_and_the_refusals_tell_apart() -> Result<(), Refusal> {
     let mut index = Index::new(1);
     index.append(5)?;

@@ -1,9 +1,10 @@
-//! The index alone over large tables: what a single call costs by the number of rows, and what a flush pays for the room of the staged spills.
+//! The index alone over large tables: what a single call costs by the number of rows, a tally and a page by the number of spills, and what a flush pays for
+//! the room of the staged spills.
 
 use reference::calls;
 use reference::segment::Segment;
 
-use crate::index::{row_key, Direction, Head, Id, Kind, Lists, Records};
+use crate::index::{row_key, Direction, Head, Id, Kind, Lists, Records, PAGE};
 use crate::measure::{alone, keep, line, Curve};
 
 const PARENT: Id = [0x42; 32];
@@ -55,6 +56,23 @@ pub fn by_rows() -> [Curve<'static>; 4] {
         }
     }
     curves
+}
+
+/// A tally, the page of the newest boxes and that of the oldest.
+pub fn pages() {
+    for spills in [64, 512, 4_096] {
+        let (lists, head) = history(spills);
+        let times = alone(1, || keep(lists.tally(&PARENT, &head)));
+        line(&format!("tally at {spills} spills"), &times, None);
+        for (name, offset) in [("first", 0), ("last", spills * 512 + 1 - PAGE)] {
+            let mut page = [0; PAGE];
+            let times = alone(1, || {
+                assert_eq!(lists.unspent_page(&PARENT, &head, offset, PAGE, &mut page), Ok(PAGE));
+                keep(page);
+            });
+            line(&format!("{name} page of unspent boxes at {spills} spills"), &times, None);
+        }
+    }
 }
 
 /// A flush sets all room of the staged spills to zero, used or not.

@@ -6,4 +6,5 @@ pub mod Pop
 pub mod Flip
 pub mod Rows
 pub mod Tally
+pub mod Page
 pub mod Flush

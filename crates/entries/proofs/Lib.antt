@@ -5,3 +5,4 @@ pub mod OrderLaws
 pub mod PositionLaws
 pub mod FlipLaws
 pub mod TallyLaws
+pub mod UnspentLaws

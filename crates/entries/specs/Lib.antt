@@ -2,3 +2,4 @@
 pub mod Order
 pub mod Flip
 pub mod Tally
+pub mod Unspent

@@ -18,6 +18,9 @@ pub enum Position {
     Absent,
 }
 
+// The places of a page of unspent numbers.
+pub const PAGE: usize = 64;
+
 // Whether none of the first n numbers is -2^63 and their absolute values never fall.
 pub fn order_ok(xs: &[i64], n: usize) -> bool
     requires { ⌜ n ≤ length (now xs) ⌝ }

@@ -77,6 +77,12 @@ pub enum Tallied {
     Refused(u8),
 }
 
+// How many numbers stand in a page.
+pub enum Paged {
+    Numbers(usize),
+    Refused(u8),
+}
+
 // The counts of the table, the staged and the deleted spills after a flush.
 pub enum Flushed {
     Done(ListCounts, ListCounts, ListCounts),

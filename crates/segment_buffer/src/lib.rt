@@ -23,6 +23,10 @@ pub use flip_calls::flip_box_segment_entry;
 pub use flip_calls::tally;
 pub use flip_calls::unflip_box_segment_entry;
 
+// ---- pages of unspent boxes
+
+pub use page_calls::unspent_page;
+
 // ---- flush
 
 // Refusal 25 of the three lists.

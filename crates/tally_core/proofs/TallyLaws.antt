@@ -91,12 +91,12 @@ past w n m t h = let z : m - n ≡ 0 = omega arith in rw z
 
 -- ---- row by row, and as one list
 
-abbrev added : RowRead → Tally → Tallied
+abbrev pub added : RowRead → Tally → Tallied
 added (bad code) t = Refused code
 added (good zs) t = Counts (plus t (figures zs))
 
 module _ (f : ℕ → RowRead) where
-  all-added : (n k : ℕ) (t : Tally) → tally-rows f n k t ≡ added (rows-up f n k) t
+  pub all-added : (n k : ℕ) (t : Tally) → tally-rows f n k t ≡ added (rows-up f n k) t
   unfolding tally-rows rows-up
   all-added n zero t = ap Counts (sym (plus-none t))
   all-added n (suc k) t = by-row (f n) (λ u. all-added (n + 1) k u)

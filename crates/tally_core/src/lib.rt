@@ -65,7 +65,7 @@ fn plus(a: Tally, b: Tally) -> Tally
 }
 
 // Counts the entries of all rows from spill 0 up, on top of those counted so far.
-fn count_rows<'a>(
+pub fn count_rows<'a>(
     parent: &[u8; 32],
     spills: usize,
     so_far: Tally,

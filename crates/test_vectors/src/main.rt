@@ -57,6 +57,7 @@ fn replay(kind: u8, name: &[u8], s: &[u8]) {
         55 => vector_calls::replay(name, Call::Flush, s),
         56 => vector_calls::replay(name, Call::Lists, s),
         57 => vector_calls::replay(name, Call::Locate, s),
+        58 => vector_calls::replay(name, Call::Page, s),
         64 => vector_runs::run(name, s),
         65 => vector_load::generate(name, s),
         66 => vector_load::go_on(name, s),

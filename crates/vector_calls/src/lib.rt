@@ -23,6 +23,7 @@ pub enum Call {
     Flush,
     Lists,
     Locate,
+    Page,
 }
 
 // The counts of a call's buffers, and its number.
@@ -186,7 +187,63 @@ fn flush(name: &[u8], given: Given, staged: &mut [u8], table: &mut [u8], deleted
     show::flushed(name, answer, staged, table, deleted);
 }
 
-// The calls that change nothing.
+// A page: the offset is the call's number; its length and the list that is borrowed for it stand behind the other lists.
+fn page<'a>(
+    name: &[u8],
+    parent: &[u8; 32],
+    given: Given,
+    head: &[i64],
+    staged: &'a [u8],
+    table: &'a [u8],
+    s: &[u8],
+    at: usize,
+) {
+    let mut places = [0i64; 128];
+    let length = vector_fields::size_at(s, at);
+    let part = vector_fields::numbers_at(s, length.next, &mut places);
+    let len = part.len;
+    paged(
+        name,
+        parent,
+        given,
+        head,
+        staged,
+        table,
+        length.n,
+        &mut places[0..len],
+    );
+}
+
+fn paged<'a>(
+    name: &[u8],
+    parent: &[u8; 32],
+    given: Given,
+    head: &[i64],
+    staged: &'a [u8],
+    table: &'a [u8],
+    length: usize,
+    places: &mut [i64],
+) {
+    let counts = given.counts;
+    let staged_counts = given.staged;
+    let table_counts = given.table;
+    let offset = signed::magnitude(given.number) as usize;
+    let answer = segment_buffer::unspent_page(
+        parent,
+        counts,
+        staged_counts,
+        staged,
+        table_counts,
+        table,
+        head,
+        offset,
+        length,
+        places,
+    );
+    show::paged(name, answer, places);
+}
+
+// The calls that change neither head nor lists of spills.
 fn ask<'a>(
     name: &[u8],
     call: Call,
@@ -196,12 +253,15 @@ fn ask<'a>(
     staged: &'a [u8],
     table: &'a [u8],
     deleted: &[u8],
+    s: &[u8],
+    at: usize,
 ) {
     let counts = given.counts;
     let rows = given.staged;
     let shelf = given.table;
     let keys = given.deleted;
     match call {
+        Call::Page => page(name, parent, given, head, staged, table, s, at),
         Call::Tally => {
             let answer = segment_buffer::tally(parent, counts, rows, staged, shelf, table, head);
             show::tallied(name, answer);
@@ -226,6 +286,8 @@ fn make(
     staged: &mut [u8],
     table: &mut [u8],
     deleted: &mut [u8],
+    s: &[u8],
+    at: usize,
 ) {
     match call {
         Call::AppendBox => append_box(name, parent, given, head, staged),
@@ -235,11 +297,23 @@ fn make(
         Call::Spend => spend(name, parent, given, head, staged, table),
         Call::Unspend => unspend(name, parent, given, head, staged, table),
         Call::Flush => flush(name, given, staged, table, deleted),
-        _ => ask(name, call, parent, given, head, staged, table, deleted),
+        _ => ask(
+            name,
+            call,
+            parent,
+            given,
+            head,
+            staged,
+            table,
+            deleted,
+            s,
+            at,
+        ),
     }
 }
 
-// How many numbers of the head count and its spill count, the number, the staged spills, the table and the deleted spills.
+// How many numbers of the head count and its spill count, the number, the staged spills, the table, the deleted spills and, for a page,
+// what `page` reads.
 fn with_head(name: &[u8], call: Call, parent: &[u8; 32], s: &[u8], at: usize, head: &mut [i64]) {
     let mut staged = [0u8; 20576];
     let mut table = [0u8; 20576];
@@ -275,6 +349,8 @@ fn with_head(name: &[u8], call: Call, parent: &[u8; 32], s: &[u8], at: usize, he
         &mut staged[0..r_len],
         &mut table[0..t_len],
         &mut deleted[0..k_len],
+        s,
+        keys.next,
     );
 }
 

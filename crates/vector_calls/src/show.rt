@@ -4,6 +4,7 @@ use index_types::Flipped;
 use index_types::Flushed;
 use index_types::HeadCounts;
 use index_types::ListCounts;
+use index_types::Paged;
 use index_types::PoppedBox;
 use index_types::PoppedTx;
 use index_types::Tallied;
@@ -118,6 +119,19 @@ pub fn tallied(name: &[u8], answer: Tallied) {
             vector_line::end();
         }
         Tallied::Refused(code) => vector_line::code_line(name, code),
+    }
+}
+
+// How many numbers stand in a page, and all that was borrowed for it.
+pub fn paged(name: &[u8], answer: Paged, page: &[i64]) {
+    match answer {
+        Paged::Numbers(count) => {
+            vector_line::accepted(name);
+            vector_line::number(count as u64);
+            vector_fields::numbers(page, page.len());
+            vector_line::end();
+        }
+        Paged::Refused(code) => vector_line::code_line(name, code),
     }
 }
 

@@ -403,6 +403,7 @@ fn main() {
     let records = tables::by_rows();
     tables::by_room();
     loads::in_batches();
+    tables::pages();
     runner();
     let Some(folder) = folder else { return };
     let (mut ours, mut theirs) = (Vec::new(), Vec::new());

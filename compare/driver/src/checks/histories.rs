@@ -5,7 +5,7 @@ use reference::segment::Segment;
 
 use super::Size;
 use crate::call::Call;
-use crate::index::{row_key, Direction, Id, Kind, Lists};
+use crate::index::{row_key, Direction, Id, Kind, Lists, PAGE};
 use crate::random::Random;
 use crate::report::{shrink, Report};
 use crate::sides::Sides;
@@ -229,14 +229,26 @@ impl History<'_> {
         }
     }
 
-    /// The tally is an addition of document 01: it is compared with a count of the reference's rows and head.
+    /// Tally and page are additions of the documents: they are compared with what the reference's rows and head hold.
     fn tally(&mut self, report: &mut Report) -> Result<(), String> {
+        const UNTOUCHED: [i64; PAGE + 1] = [7; PAGE + 1];
         for (parent, address) in self.sides.parents.iter().zip(&self.sides.addresses) {
             report.call("tally");
-            let Ok(counts) = self.sides.lists.tally(&parent.id, &parent.boxes) else {
-                continue;
+            report.call("page");
+            let mut page = UNTOUCHED;
+            let offset = self.random.pick(&[0, 0, 1, 63, 64, 511, 512, 513, 1100, usize::MAX]);
+            let length = self.random.pick(&[0, 1, 2, 63, 64, 64, 64]);
+            let tally = self.sides.lists.tally(&parent.id, &parent.boxes);
+            let paged = self
+                .sides
+                .lists
+                .unspent_page(&parent.id, &parent.boxes, offset, length, &mut page);
+            let (counts, numbers) = match (tally, paged) {
+                (Ok(counts), Ok(numbers)) => (counts, numbers),
+                (Err(a), Err(b)) if a == b && page == UNTOUCHED => continue,
+                other => return Err(format!("tally and page: {other:?}")),
             };
-            let mut entries = address.segment.boxes.clone();
+            let mut entries = Vec::new();
             for number in 0..address.segment.box_segment_count {
                 let key = row_key(Kind::Box, &parent.id, number);
                 let Ok(row) = self.sides.lists.inspect(&key) else {
@@ -248,10 +260,21 @@ impl History<'_> {
                         .boxes,
                 );
             }
+            entries.extend(&address.segment.boxes);
             let many = |test: fn(&i64) -> bool| entries.iter().filter(|n| test(n)).count();
             let counted = (many(|n| *n > 0), many(|n| *n < 0), many(|n| *n == 0));
             if counts != counted {
                 return Err(format!("tally {counts:?}, counted {counted:?}"));
+            }
+            let unspent = entries.iter().rev().copied().filter(|n| *n > 0);
+            let listed: Vec<i64> = unspent.skip(offset).take(length).collect();
+            let mut all = [0; PAGE + 1];
+            all[..listed.len()].copy_from_slice(&listed);
+            all[PAGE] = UNTOUCHED[PAGE];
+            if (numbers, page) != (listed.len(), all) {
+                return Err(format!(
+                    "page from {offset} of {length}: {numbers} {page:?}, listed {listed:?}"
+                ));
             }
         }
         Ok(())

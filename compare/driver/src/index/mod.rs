@@ -13,6 +13,7 @@ use crate::ffi::*;
 pub const HEAD: usize = 512;
 pub const ROW_LIMIT: usize = 10_254;
 pub const RECORD: usize = 10_288;
+pub const PAGE: usize = 64;
 pub const ADDRESS_LIMIT: usize = 15_675;
 pub const TOKENS: usize = 128;
 
@@ -263,6 +264,38 @@ impl Lists {
         };
         match code {
             0 => Ok((unspent, spent, unknown)),
+            refused => Err(refused),
+        }
+    }
+
+    /// How many numbers stand in the page.
+    pub fn unspent_page(&self, parent: &Id, head: &Head, offset: usize, length: usize, page: &mut [i64]) -> Result<usize, u8> {
+        let (h, s, t) = (&head.numbers, &self.staged, &self.table);
+        let mut numbers = 0;
+        let code = unsafe {
+            ergo_index_unspent_page(
+                parent.as_ptr(),
+                head.len,
+                head.spills,
+                h.as_ptr(),
+                h.len(),
+                s.count,
+                s.capacity,
+                s.bytes.as_ptr(),
+                s.bytes.len(),
+                t.count,
+                t.capacity,
+                t.bytes.as_ptr(),
+                t.bytes.len(),
+                offset,
+                length,
+                page.as_mut_ptr(),
+                page.len(),
+                &mut numbers,
+            )
+        };
+        match code {
+            0 => Ok(numbers),
             refused => Err(refused),
         }
     }

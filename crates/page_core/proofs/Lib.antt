@@ -1,0 +1,2 @@
+-- Laws of a page's rows.
+pub mod PageLaws

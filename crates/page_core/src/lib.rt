@@ -1,0 +1,358 @@
+// A page of unspent boxes, once refusal 25 has passed. Every row is checked first, from spill 0 up; then the page is filled, the head first and the rows from
+// the newest down, and copied out.
+ghost use mathlib.Core.Path.{_≡_};
+ghost use mathlib.Core.Bool.{true};
+ghost use Prim.Native.Nat.{_*_, _≤_, _<_};
+ghost use mathlib.Core.List.{_++_};
+ghost use lib.ListN.{length, take};
+ghost use Rattle.records.specs.Records.{keys};
+ghost use Rattle.records.specs.Find.{distinct};
+ghost use Rattle.entries.specs.Unspent.{unspent-newest-first, stretch, page-places};
+ghost use Rattle.buffer_core.specs.Edition.{edition-1};
+ghost use Rattle.buffer_core.specs.Spills.{sources};
+ghost use Rattle.buffer_core.specs.Rows.{rows-up};
+ghost use Rattle.buffer_core.specs.Flip.{row-checked};
+ghost use Rattle.index_types.specs.declared.Paged.the-variants.{Numbers};
+ghost use Rattle.buffer_core.specs.Page.{paging, put-page, page-over};
+ghost use Rattle.spill_rows.specs.Steps.{read-of};
+ghost use Rattle.page_entries.specs.Steps.{Ready, Filled};
+ghost use Rattle.page_core.specs.Steps.{numbers-in, rows-flat};
+use index_types::Paged;
+use index_types::SEGMENT_THRESHOLD;
+use index_types::Tallied;
+use index_types::Tally;
+use page_entries::Filling;
+use spill_rows::Read;
+
+// Puts the row of a spill number into a page. A refused row puts nothing; none is met, since all are checked before.
+fn put_row<'a>(
+    parent: &[u8; 32],
+    number: usize,
+    staged: &'a [u8],
+    staged_count: usize,
+    table: &'a [u8],
+    table_count: usize,
+    hints: &[u16],
+    wanted: usize,
+    filling: Filling,
+    page: &mut [i64; entries::PAGE],
+) -> Filling
+    requires { ⌜ («staged_count» * 10288 ≤ length (now staged)) × («table_count» * 10288 ≤ length (now table)) × (number < 2147483648)
+        × (distinct (keys 10288 «table_count» (now table)) ≡ true) × Ready wanted filling (now page) ⌝ }
+    ensures { λ r. ⌜ Filled wanted (unspent-newest-first (numbers-in (row-checked edition-1 (sources (now (parent .entry)) (now (staged .entry)) «staged_count» (now (table .entry)) «table_count») number)))
+        filling (now (page .entry)) r (now (page .exit)) ⌝ }
+{
+    let mut row = [0i64; SEGMENT_THRESHOLD];
+    let read = spill_rows::read_checked(
+        parent,
+        number,
+        staged,
+        staged_count,
+        table,
+        table_count,
+        hints,
+        &mut row,
+    );
+    match read {
+        Read::Good => page_entries::put_newest(&row, SEGMENT_THRESHOLD, wanted, filling, page),
+        Read::Faulty(_) => filling,
+    }
+}
+
+// Puts the rows into a page, from the newest down, until it is full.
+fn put_rows<'a>(
+    parent: &[u8; 32],
+    spills: usize,
+    staged: &'a [u8],
+    staged_count: usize,
+    table: &'a [u8],
+    table_count: usize,
+    hints: &[u16],
+    wanted: usize,
+    filling: Filling,
+    page: &mut [i64; entries::PAGE],
+) -> Filling
+    requires { ⌜ («staged_count» * 10288 ≤ length (now staged)) × («table_count» * 10288 ≤ length (now table)) × (spills < 2147483648)
+        × (distinct (keys 10288 «table_count» (now table)) ≡ true) × Ready wanted filling (now page) ⌝ }
+    ensures { λ r. ⌜ Filled wanted (unspent-newest-first (rows-flat (row-checked edition-1 (sources (now (parent .entry)) (now (staged .entry)) «staged_count» (now (table .entry)) «table_count»)) 0 spills))
+        filling (now (page .entry)) r (now (page .exit)) ⌝ }
+{
+    let mut filled = filling;
+    let mut n = spills;
+    while 0 < n {
+        let put = filled.put;
+        if wanted <= put {
+            return filled;
+        }
+        n -= 1;
+        filled = put_row(
+            parent,
+            n,
+            staged,
+            staged_count,
+            table,
+            table_count,
+            hints,
+            wanted,
+            filled,
+            page,
+        );
+    }
+    filled
+}
+
+// Checks every row from spill 0 up as a tally does, also those that the page needs nothing of.
+fn check_rows<'a>(
+    parent: &[u8; 32],
+    rows: usize,
+    staged: &'a [u8],
+    staged_count: usize,
+    table: &'a [u8],
+    table_count: usize,
+    hints: &[u16],
+) -> Read
+    requires { ⌜ («staged_count» * 10288 ≤ length (now staged)) × («table_count» * 10288 ≤ length (now table)) × (rows < 2147483648)
+        × (distinct (keys 10288 «table_count» (now table)) ≡ true) ⌝ }
+    ensures { λ r. ⌜ r ≡ read-of (rows-up (row-checked edition-1 (sources (now (parent .entry)) (now (staged .entry)) «staged_count» (now (table .entry)) «table_count»)) 0 rows) ⌝ }
+{
+    let none = Tally {
+        unspent: 0,
+        spent: 0,
+        unknown: 0,
+    };
+    let tallied = tally_core::count_rows(
+        parent,
+        rows,
+        none,
+        staged,
+        staged_count,
+        table,
+        table_count,
+        hints,
+    );
+    match tallied {
+        Tallied::Counts(_) => Read::Good,
+        Tallied::Refused(code) => Read::Faulty(code),
+    }
+}
+
+// Fills a page from the head and the rows and copies it out. The answer is how many numbers stand in it.
+fn put_page<'a>(
+    parent: &[u8; 32],
+    spills: usize,
+    head: &[i64],
+    len: usize,
+    staged: &'a [u8],
+    staged_count: usize,
+    table: &'a [u8],
+    table_count: usize,
+    hints: &[u16],
+    offset: usize,
+    wanted: usize,
+    out: &mut [i64],
+) -> usize
+    requires { ⌜ («staged_count» * 10288 ≤ length (now staged)) × («table_count» * 10288 ≤ length (now table)) × (spills < 2147483648)
+        × (distinct (keys 10288 «table_count» (now table)) ≡ true) × (len ≤ length (now head)) × (wanted ≤ page-places) × (page-places ≤ length (now out)) ⌝ }
+    ensures { λ r. ⌜ paging (Numbers r) (now (out .exit))
+        ≡ put-page (stretch offset wanted (unspent-newest-first
+        (rows-flat (row-checked edition-1 (sources (now (parent .entry)) (now (staged .entry)) «staged_count» (now (table .entry)) «table_count»)) 0 spills ++ take len (now (head .entry)))))
+        (now (out .entry)) ⌝ }
+{
+    let mut page = [0i64; entries::PAGE];
+    let start = Filling {
+        skip: offset,
+        put: 0,
+    };
+    let of_head = page_entries::put_newest(head, len, wanted, start, &mut page);
+    let filled = put_rows(
+        parent,
+        spills,
+        staged,
+        staged_count,
+        table,
+        table_count,
+        hints,
+        wanted,
+        of_head,
+        &mut page,
+    );
+    stores::copy_numbers(out, 0, &page);
+    filled.put
+}
+
+// The rows are checked, then the page is filled.
+fn page_hinted<'a>(
+    parent: &[u8; 32],
+    spills: usize,
+    head: &[i64],
+    len: usize,
+    staged: &'a [u8],
+    staged_count: usize,
+    table: &'a [u8],
+    table_count: usize,
+    hints: &[u16],
+    offset: usize,
+    wanted: usize,
+    out: &mut [i64],
+) -> Paged
+    requires { ⌜ («staged_count» * 10288 ≤ length (now staged)) × («table_count» * 10288 ≤ length (now table)) × (spills < 2147483648)
+        × (distinct (keys 10288 «table_count» (now table)) ≡ true) × (len ≤ length (now head)) × (wanted ≤ page-places) × (page-places ≤ length (now out)) ⌝ }
+    ensures { λ r. ⌜ paging r (now (out .exit))
+        ≡ page-over (rows-up (row-checked edition-1 (sources (now (parent .entry)) (now (staged .entry)) «staged_count» (now (table .entry)) «table_count»)) 0 spills)
+        (take len (now (head .entry))) offset wanted (now (out .entry)) ⌝ }
+{
+    let read = check_rows(
+        parent,
+        spills,
+        staged,
+        staged_count,
+        table,
+        table_count,
+        hints,
+    );
+    match read {
+        Read::Good => {
+            let count = put_page(
+                parent,
+                spills,
+                head,
+                len,
+                staged,
+                staged_count,
+                table,
+                table_count,
+                hints,
+                offset,
+                wanted,
+                out,
+            );
+            Paged::Numbers(count)
+        }
+        Read::Faulty(code) => Paged::Refused(code),
+    }
+}
+
+// page_hinted for a table of few records.
+fn page_few<'a>(
+    parent: &[u8; 32],
+    spills: usize,
+    head: &[i64],
+    len: usize,
+    staged: &'a [u8],
+    staged_count: usize,
+    table: &'a [u8],
+    table_count: usize,
+    offset: usize,
+    wanted: usize,
+    out: &mut [i64],
+) -> Paged
+    requires { ⌜ («staged_count» * 10288 ≤ length (now staged)) × («table_count» * 10288 ≤ length (now table)) × (spills < 2147483648)
+        × (distinct (keys 10288 «table_count» (now table)) ≡ true) × (len ≤ length (now head)) × (wanted ≤ page-places) × (page-places ≤ length (now out)) ⌝ }
+    ensures { λ r. ⌜ paging r (now (out .exit))
+        ≡ page-over (rows-up (row-checked edition-1 (sources (now (parent .entry)) (now (staged .entry)) «staged_count» (now (table .entry)) «table_count»)) 0 spills)
+        (take len (now (head .entry))) offset wanted (now (out .entry)) ⌝ }
+{
+    let none = [0u16; 1];
+    page_hinted(
+        parent,
+        spills,
+        head,
+        len,
+        staged,
+        staged_count,
+        table,
+        table_count,
+        &none[..0],
+        offset,
+        wanted,
+        out,
+    )
+}
+
+// page_hinted for a table of many records: where they stand is noted first.
+fn page_many<'a>(
+    parent: &[u8; 32],
+    spills: usize,
+    head: &[i64],
+    len: usize,
+    staged: &'a [u8],
+    staged_count: usize,
+    table: &'a [u8],
+    table_count: usize,
+    offset: usize,
+    wanted: usize,
+    out: &mut [i64],
+) -> Paged
+    requires { ⌜ («staged_count» * 10288 ≤ length (now staged)) × («table_count» * 10288 ≤ length (now table)) × (spills < 2147483648)
+        × (distinct (keys 10288 «table_count» (now table)) ≡ true) × (len ≤ length (now head)) × (wanted ≤ page-places) × (page-places ≤ length (now out)) ⌝ }
+    ensures { λ r. ⌜ paging r (now (out .exit))
+        ≡ page-over (rows-up (row-checked edition-1 (sources (now (parent .entry)) (now (staged .entry)) «staged_count» (now (table .entry)) «table_count»)) 0 spills)
+        (take len (now (head .entry))) offset wanted (now (out .entry)) ⌝ }
+{
+    let mut hints = [0u16; 16384];
+    record_hints::note_places(table, buffer_core::RECORD, table_count, &mut hints);
+    page_hinted(
+        parent,
+        spills,
+        head,
+        len,
+        staged,
+        staged_count,
+        table,
+        table_count,
+        &hints,
+        offset,
+        wanted,
+        out,
+    )
+}
+
+// The page over the rows and the first numbers of the head, or the code of the first row that is refused.
+pub fn page_rows<'a>(
+    parent: &[u8; 32],
+    spills: usize,
+    head: &[i64],
+    len: usize,
+    staged: &'a [u8],
+    staged_count: usize,
+    table: &'a [u8],
+    table_count: usize,
+    offset: usize,
+    wanted: usize,
+    out: &mut [i64],
+) -> Paged
+    requires { ⌜ («staged_count» * 10288 ≤ length (now staged)) × («table_count» * 10288 ≤ length (now table)) × (spills < 2147483648)
+        × (distinct (keys 10288 «table_count» (now table)) ≡ true) × (len ≤ length (now head)) × (wanted ≤ page-places) × (page-places ≤ length (now out)) ⌝ }
+    ensures { λ r. ⌜ paging r (now (out .exit))
+        ≡ page-over (rows-up (row-checked edition-1 (sources (now (parent .entry)) (now (staged .entry)) «staged_count» (now (table .entry)) «table_count»)) 0 spills)
+        (take len (now (head .entry))) offset wanted (now (out .entry)) ⌝ }
+{
+    if table_count <= 128 {
+        return page_few(
+            parent,
+            spills,
+            head,
+            len,
+            staged,
+            staged_count,
+            table,
+            table_count,
+            offset,
+            wanted,
+            out,
+        );
+    }
+    page_many(
+        parent,
+        spills,
+        head,
+        len,
+        staged,
+        staged_count,
+        table,
+        table_count,
+        offset,
+        wanted,
+        out,
+    )
+}

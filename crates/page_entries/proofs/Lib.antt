@@ -1,0 +1,2 @@
+-- Laws of a page while it is filled.
+pub mod FillLaws
