@@ -7,14 +7,16 @@ use Rattle.index_types.specs.Limits.{segment-threshold}
 use Rattle.index_types.specs.declared.ListCounts.{ListCounts}
 use Rattle.records.specs.Checks.{InBounds}
 use Rattle.index_types.specs.declared.HeadCounts.{HeadCounts}
+use Rattle.index_types.specs.declared.RowEdition.{RowEdition}
+use Rattle.buffer_core.specs.Edition.{record-size}
 
-pub record AppendReady (h : HeadCounts) (c : ListCounts) (head : List ℤ) (staged : List ℕ) : Type 0 where
+pub record AppendReady (v : RowEdition) (h : HeadCounts) (c : ListCounts) (head : List ℤ) (staged : List ℕ) : Type 0 where
   pub few : h .len ≤ segment-threshold
   pub long : segment-threshold ≤ length head
-  pub bounds : InBounds 10288 c staged
+  pub bounds : InBounds (record-size v) c staged
 
 -- the same for the step at a head of 512, with its spill count
-pub record SpillReady (spills : ℕ) (c : ListCounts) (head : List ℤ) (staged : List ℕ) : Type 0 where
+pub record SpillReady (v : RowEdition) (spills : ℕ) (c : ListCounts) (head : List ℤ) (staged : List ℕ) : Type 0 where
   pub below : spills < 2147483648
   pub long : segment-threshold ≤ length head
-  pub bounds : InBounds 10288 c staged
+  pub bounds : InBounds (record-size v) c staged

@@ -1,17 +1,22 @@
 // Append for boxes and transactions alike, once refusal 25 is tested.
 ghost use mathlib.Core.Path.{_≡_};
 ghost use Prim.Native.Nat.{_+_, _*_, _≤_, _<_};
+ghost use mathlib.Core.List.{_++_};
+ghost use lib.IntN.{pos};
 ghost use lib.ListN.{length, take, set};
 ghost use Rattle.index_types.specs.Limits.{segment-threshold};
+ghost use Rattle.stores.specs.Stores.{Put};
 ghost use Rattle.records.specs.Records.{keys, record-of};
 ghost use Rattle.records.specs.Find.{find-key};
 ghost use Rattle.records.specs.Changes.{slot, count-after, put-record};
-ghost use Rattle.buffer_core.specs.Edition.{edition-1, spill-bytes};
+ghost use Rattle.segment_core.specs.Row.{row-limit};
+ghost use Rattle.buffer_core.specs.Edition.{edition-of, record-size, row-limit-of, header, spill-bytes};
 ghost use Rattle.buffer_core.specs.Append.{appending, one-number, spill-of, append-core};
 ghost use Rattle.append_core.specs.Ready.{AppendReady, SpillReady};
 use index_types::Appended;
 use index_types::HeadCounts;
 use index_types::ListCounts;
+use index_types::RowEdition;
 use index_types::SEGMENT_THRESHOLD;
 use index_types::SPILL_LIMIT;
 use segment_id::Kind;
@@ -33,31 +38,60 @@ fn put_first(head: &mut [i64], number: i64)
     stores::clear_numbers(head, 1, 511);
 }
 
-// Writes the row of the head's first 512 numbers, and gives its length.
-fn emit_row(kind: Kind, head: &[i64], row: &mut [u8]) -> usize
-    requires { ⌜ (segment-threshold ≤ length (now head)) × (length (now row) ≡ 10254) ⌝ }
-    ensures { λ r. ⌜ (r ≤ 10254) × (take r (now (row .exit)) ≡ spill-bytes kind (take segment-threshold (now (head .entry)))) ⌝ }
+// Writes the body of the row of the head's first 512 numbers: the position after it.
+fn emit_body(kind: Kind, head: &[i64], row: &mut [u8], at: usize) -> usize
+    requires { ⌜ (segment-threshold ≤ length (now head)) × (at + row-limit ≤ length (now row)) ⌝ }
+    ensures { λ r. ⌜ Put (spill-bytes kind (take segment-threshold (now (head .entry)))) (now (row .entry)) at r (now (row .exit)) ⌝ }
 {
     match kind {
-        Kind::Box => segment_core::emit_segment(head, 0, head, SEGMENT_THRESHOLD, 0, 0, row, 0),
-        Kind::Tx => segment_core::emit_segment(head, SEGMENT_THRESHOLD, head, 0, 0, 0, row, 0),
+        Kind::Box => segment_core::emit_segment(head, 0, head, SEGMENT_THRESHOLD, 0, 0, row, at),
+        Kind::Tx => segment_core::emit_segment(head, SEGMENT_THRESHOLD, head, 0, 0, 0, row, at),
     }
 }
 
-// Puts the row of the head's first 512 numbers among the staged spills, and gives their number.
-fn stage_row(kind: Kind, head: &[i64], staged: &mut [u8], count: usize, key: &[u8]) -> usize
-    requires { ⌜ (segment-threshold ≤ length (now head)) × (length (now key) ≡ 32) × (count * 10288 ≤ length (now staged))
-        × (slot (find-key (now key) (keys 10288 count (now staged))) count * 10288 + 10288 ≤ length (now staged)) ⌝ }
-    ensures { λ r. ⌜ (r ≡ count-after (find-key (now (key .entry)) (keys 10288 count (now (staged .entry)))) count)
-        × (now (staged .exit) ≡ put-record 10288 count (now (key .entry)) (record-of 10288 (now (key .entry)) (spill-bytes kind (take segment-threshold (now (head .entry))))) (now (staged .entry))) ⌝ }
+// Writes the row of the head's first 512 numbers, and gives its length.
+fn emit_row(
+    edition: RowEdition,
+    kind: Kind,
+    parent: &[u8; 32],
+    spills: usize,
+    head: &[i64],
+    row: &mut [u8],
+) -> usize
+    requires { ⌜ (spills < 2147483648) × (segment-threshold ≤ length (now head)) × (length (now row) ≡ row-limit-of RowEdition.Two) ⌝ }
+    ensures { λ r. ⌜ (r ≤ row-limit-of edition)
+        × (take r (now (row .exit)) ≡ header edition kind (now (parent .entry)) (pos spills) ++ spill-bytes kind (take segment-threshold (now (head .entry)))) ⌝ }
 {
-    let mut row = [0u8; 10254];
-    let n = emit_row(kind, head, &mut row);
-    record_changes::put(staged, buffer_core::RECORD, count, key, &row[..n])
+    let at = row_edition::emit_header(edition, kind, parent, spills, row);
+    emit_body(kind, head, row, at)
+}
+
+// Puts the row of the head's first 512 numbers among the staged spills, and gives their number.
+fn stage_row(
+    edition: RowEdition,
+    kind: Kind,
+    parent: &[u8; 32],
+    spills: usize,
+    head: &[i64],
+    staged: &mut [u8],
+    count: usize,
+    key: &[u8],
+) -> usize
+    requires { ⌜ (spills < 2147483648) × (segment-threshold ≤ length (now head)) × (length (now key) ≡ 32) × (count * record-size edition ≤ length (now staged))
+        × (slot (find-key (now key) (keys (record-size edition) count (now staged))) count * record-size edition + record-size edition ≤ length (now staged)) ⌝ }
+    ensures { λ r. ⌜ (r ≡ count-after (find-key (now (key .entry)) (keys (record-size edition) count (now (staged .entry)))) count)
+        × (now (staged .exit) ≡ put-record (record-size edition) count (now (key .entry)) (record-of (record-size edition) (now (key .entry))
+        (header edition kind (now (parent .entry)) (pos spills) ++ spill-bytes kind (take segment-threshold (now (head .entry))))) (now (staged .entry))) ⌝ }
+{
+    let record = buffer_core::record_size(edition);
+    let mut row = [0u8; buffer_core::LONGEST_ROW];
+    let n = emit_row(edition, kind, parent, spills, head, &mut row);
+    record_changes::put(staged, record, count, key, &row[..n])
 }
 
 // An append to a head of 512: its numbers become the next row.
 fn spill(
+    edition: RowEdition,
     kind: Kind,
     parent: &[u8; 32],
     spills: usize,
@@ -66,18 +100,28 @@ fn spill(
     head: &mut [i64],
     staged: &mut [u8],
 ) -> Appended
-    requires { ⌜ SpillReady spills «staged_counts» (now head) (now staged) ⌝ }
+    requires { ⌜ SpillReady edition spills «staged_counts» (now head) (now staged) ⌝ }
     ensures { λ r. ⌜ appending r (now (head .exit)) (now (staged .exit))
-        ≡ spill-of edition-1 kind (now (parent .entry)) spills number «staged_counts» (now (head .entry)) (now (staged .entry)) ⌝ }
+        ≡ spill-of (edition-of edition) kind (now (parent .entry)) spills number «staged_counts» (now (head .entry)) (now (staged .entry)) ⌝ }
 {
     if SPILL_LIMIT <= spills {
         return Appended::Refused(refusal::SPILL_COUNT_AT_LIMIT);
     }
+    let size = buffer_core::record_size(edition);
     let key = spill_rows::spill_key(kind, parent, spills);
-    if record_changes::full_for(staged, buffer_core::RECORD, staged_counts, &key) {
+    if record_changes::full_for(staged, size, staged_counts, &key) {
         return Appended::Refused(refusal::STAGING_FULL);
     }
-    let count = stage_row(kind, head, staged, staged_counts.count, &key);
+    let count = stage_row(
+        edition,
+        kind,
+        parent,
+        spills,
+        head,
+        staged,
+        staged_counts.count,
+        &key,
+    );
     put_first(head, number);
     let next = signed::i32_from_usize(spills + 1);
     Appended::Done(
@@ -94,6 +138,7 @@ fn spill(
 
 // A number goes to the end of the head.
 pub fn append(
+    edition: RowEdition,
     kind: Kind,
     parent: &[u8; 32],
     counts: HeadCounts,
@@ -102,9 +147,9 @@ pub fn append(
     head: &mut [i64],
     staged: &mut [u8],
 ) -> Appended
-    requires { ⌜ AppendReady counts «staged_counts» (now head) (now staged) ⌝ }
+    requires { ⌜ AppendReady edition counts «staged_counts» (now head) (now staged) ⌝ }
     ensures { λ r. ⌜ appending r (now (head .exit)) (now (staged .exit))
-        ≡ append-core edition-1 kind (now (parent .entry)) counts number «staged_counts» (now (head .entry)) (now (staged .entry)) ⌝ }
+        ≡ append-core (edition-of edition) kind (now (parent .entry)) counts number «staged_counts» (now (head .entry)) (now (staged .entry)) ⌝ }
 {
     let len = counts.len;
     let spills = counts.spills;
@@ -125,6 +170,7 @@ pub fn append(
         );
     }
     spill(
+        edition,
         kind,
         parent,
         signed::usize_from_i32(spills),

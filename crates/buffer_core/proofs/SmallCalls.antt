@@ -55,9 +55,9 @@ marked-rows = record {
   size = 36;
   limit = 2;
   key = λ kind parent n. replicate 32 0;
-  encode = λ kind zs. mark-of zs ∷ [];
-  decode = λ kind row. good (first-five (getD row 0 0) ∷ replicate 511 (pos 5));
-  with-boxes = λ row zs. mark-of zs ∷ [];
+  encode = λ kind parent n zs. mark-of zs ∷ [];
+  decode = λ kind parent n row. good (first-five (getD row 0 0) ∷ replicate 511 (pos 5));
+  with-boxes = λ parent n row zs. mark-of zs ∷ [];
 }
 
 -- the record of a row with that mark

@@ -47,17 +47,17 @@ module _ (E : Edition) where
   bytes-with key row c l = put-record (E .size) (c .count) key (record-of (E .size) key row) l
 
   -- the first 512 of the head become the row under the key, and the number is the new head
-  unfoldable pub spilled : Kind → (key : List ℕ) (spills : ℕ) (number : ℤ) → ListCounts → List ℤ → List ℕ → Appending
-  spilled kind key spills number c head staged =
+  unfoldable pub spilled : Kind → (key parent : List ℕ) (spills : ℕ) (number : ℤ) → ListCounts → List ℤ → List ℕ → Appending
+  spilled kind key parent spills number c head staged =
       appending (Done (counts-of 1 (pos (spills + 1))) (counts-with key c staged)) (one-number number head)
-      (bytes-with key (E .encode kind (take segment-threshold head)) c staged)
+      (bytes-with key (E .encode kind parent (pos spills) (take segment-threshold head)) c staged)
 
   -- at a head of 512: 18, then 16
   unfoldable pub spill-of : Kind → (parent : List ℕ) (spills : ℕ) (number : ℤ) → ListCounts → List ℤ → List ℕ → Appending
   spill-of kind parent spills number c head staged =
       cond (leb spill-limit spills) (appending (Refused 18) head staged)
       (cond (full-for (E .size) c (E .key kind parent (pos spills)) staged) (appending (Refused 16) head staged)
-      (spilled kind (E .key kind parent (pos spills)) spills number c head staged))
+      (spilled kind (E .key kind parent (pos spills)) parent spills number c head staged))
 
   -- 11, then 17, then the end of the head or a spill
   unfoldable pub append-core : Kind → (parent : List ℕ) → HeadCounts → ℤ → ListCounts → List ℤ → List ℕ → Appending

@@ -151,14 +151,14 @@ module _ (E : Edition) where
   boxes-in (good zs) = zs
   boxes-in (bad code) = []
 
-  unfoldable pub row-flipped : (row : List ℕ) (at : ℕ) → List ℕ
-  row-flipped row at = E .with-boxes row (flipped-at (At at) (boxes-in (E .decode Box row)))
+  unfoldable pub row-flipped : Sources → (n : ℕ) (row : List ℕ) (at : ℕ) → List ℕ
+  row-flipped w n row at = E .with-boxes (w .parent) (pos n) row (flipped-at (At at) (boxes-in (E .decode Box (w .parent) (pos n) row)))
 
   abbrev pub stage-from : Sources → (capacity n at : ℕ) → Place → Effect
-  stage-from w capacity n at (Staged i) = stage i (w .staged-count) (key-at E Box w n) (row-flipped (row-at (E .size) i (w .staged)) at)
+  stage-from w capacity n at (Staged i) = stage i (w .staged-count) (key-at E Box w n) (row-flipped w n (row-at (E .size) i (w .staged)) at)
   stage-from w capacity n at (Table i) =
       cond (ltb (w .staged-count) capacity)
-      (stage (w .staged-count) (w .staged-count + 1) (key-at E Box w n) (row-flipped (row-at (E .size) i (w .table)) at))
+      (stage (w .staged-count) (w .staged-count + 1) (key-at E Box w n) (row-flipped w n (row-at (E .size) i (w .table)) at))
       (refuse 16)
   stage-from w capacity n at Missing = refuse 12
 

@@ -33,18 +33,15 @@ module _ (E : Edition) where
   unfoldable pub place-at : Kind → Sources → ℕ → Place
   place-at kind w n = locate-key (E .size) (key-at kind w n) (w .staged-count) (w .staged) (w .table-count) (w .table)
 
-  -- the numbers of a kind in the row at a place
-  abbrev pub read-from : Kind → (staged table : List ℕ) → Place → RowRead
-  read-from kind staged table (Staged i) = E .decode kind (row-at (E .size) i staged)
-  read-from kind staged table (Table i) = E .decode kind (row-at (E .size) i table)
-  read-from kind staged table Missing = bad 12
-
-  abbrev pub read-placed : Kind → Sources → Place → RowRead
-  read-placed kind w p = read-from kind (w .staged) (w .table) p
+  -- the numbers of a kind in the row at a place, which should be that of spill number n
+  abbrev pub read-placed : Kind → Sources → (n : ℕ) → Place → RowRead
+  read-placed kind w n (Staged i) = E .decode kind (w .parent) (pos n) (row-at (E .size) i (w .staged))
+  read-placed kind w n (Table i) = E .decode kind (w .parent) (pos n) (row-at (E .size) i (w .table))
+  read-placed kind w n Missing = bad 12
 
   -- the numbers of a kind in the row of a spill number
   unfoldable pub spill-read : Kind → Sources → ℕ → RowRead
-  spill-read kind w n = read-placed kind w (place-at kind w n)
+  spill-read kind w n = read-placed kind w n (place-at kind w n)
 
 -- "25 head above 512, .. or a lent buffer too short for its stated capacity": a head has 512 places
 abbrev pub head-ok : HeadCounts → List ℤ → Bool

@@ -1,14 +1,20 @@
 // The types and leaves of the segment buffer's calls. A parent has a head of boxes and a head of transactions; each is a borrowed list of 512
 // numbers beside its counts. Staged spills and the segments table are record lists, deleted spills a key list.
 ghost use mathlib.Core.Path.{_≡_};
+ghost use Prim.Native.Nat.{_≤_};
+ghost use Rattle.buffer_core.specs.Edition.{row-limit-of, record-size};
 ghost use Rattle.buffer_core.specs.Spills.{head-ok};
 use index_types::HeadCounts;
+use index_types::RowEdition;
 use index_types::SEGMENT_THRESHOLD;
 
-// The bytes of a record and of the longest row, in edition 1.
+// The bytes of a record in edition 1; its longest row has `segment_core::ROW_LIMIT`.
 pub const RECORD: usize = 10288;
 
-pub const ROW_LIMIT: usize = 10254;
+// The bytes of a record and of the longest row in edition 2, and so of any.
+pub const LONGEST_RECORD: usize = 10326;
+
+pub const LONGEST_ROW: usize = 10292;
 
 pub enum Direction {
     Spend,
@@ -52,4 +58,24 @@ pub fn head_ok(head: &[i64], counts: HeadCounts) -> bool
         return SEGMENT_THRESHOLD <= head.len();
     }
     false
+}
+
+// The bytes of the longest row of an edition.
+pub fn row_limit(edition: RowEdition) -> usize
+    ensures { λ r. ⌜ r ≡ row-limit-of edition ⌝ }
+{
+    match edition {
+        RowEdition::One => segment_core::ROW_LIMIT,
+        RowEdition::Two => LONGEST_ROW,
+    }
+}
+
+// The bytes of a record of an edition.
+pub fn record_size(edition: RowEdition) -> usize
+    ensures { λ r. ⌜ (r ≡ record-size edition) × (r ≤ record-size RowEdition.Two) ⌝ }
+{
+    match edition {
+        RowEdition::One => RECORD,
+        RowEdition::Two => LONGEST_RECORD,
+    }
 }

@@ -18,6 +18,7 @@ use Rattle.segment_id.specs.declared.Kind.{Kind}
 use Rattle.segment_id.specs.declared.Kind.the-variants.{Box, Tx}
 use Rattle.records.specs.Checks.{records-ok, keys-ok}
 use Rattle.records.proofs.CheckLaws.{and-left, and-right, and-true}
+use Rattle.index_types.specs.declared.RowEdition.the-variants.{One}
 use Rattle.buffer_core.specs.Edition.{edition-1}
 use Rattle.buffer_core.specs.Spills.{head-ok}
 use Rattle.index_types.specs.declared.Appended.{Appended}
@@ -108,6 +109,9 @@ module _ (parents : ℕ) (s : State) (r : Ready parents s) (p : ℕ) (h : p < pa
         spills-in = omega (arith, r .blocks .spills-in);
       }
 
+  pub id-long : length (parent-id p (s .ids)) ≡ 32
+  id-long = length-part (p * 4128) 32 (s .ids) (omega (arith, within .ids-in))
+
   head-room : (k : Kind) → head-at k p + 512 ≤ length (s .numbers)
   head-room k = omega (arith, within .numbers-in, kind-few k)
 
@@ -148,7 +152,7 @@ module _ (parents : ℕ) (s : State) (r : Ready parents s) (p : ℕ) (h : p < pa
     abbrev Appended·kept : Appending → Type 0
     Appended·kept o = Ready parents (of-append (appended-by o k p (counts-in (s .lists)) (s .numbers) (s .lengths) (s .spills)) s .after)
 
-    append-by-answer : (a : Appended) (head : List ℤ) (staged : List ℕ) → AppendKept (appending a head staged)
+    append-by-answer : (a : Appended) (head : List ℤ) (staged : List ℕ) → AppendKept One (appending a head staged)
         → AppendSame (head-of k p (s .numbers)) (s .lists .staged) (appending a head staged) → Appended·kept (appending a head staged)
     unfolding append-ok
     append-by-answer (appended.Done n c) head staged kept same =
@@ -175,14 +179,14 @@ module _ (parents : ℕ) (s : State) (r : Ready parents s) (p : ℕ) (h : p < pa
         let head = head-of k p (s .numbers) in
         let o = append-core edition-1 k (parent-id p (s .ids)) n z (s .lists .staged-counts) head (s .lists .staged) in
         subst Appended·kept (chosen _ _ _ (append-passes k))
-        (append-by-answer (o .answer) (o .head) (o .staged) (append-keeps k (parent-id p (s .ids)) n z (s .lists .staged-counts) head (s .lists .staged) (append-passes k))
+        (append-by-answer (o .answer) (o .head) (o .staged) (append-keeps One k (parent-id p (s .ids)) id-long n z (s .lists .staged-counts) head (s .lists .staged) (append-passes k))
         (append-core-same edition-1 head (s .lists .staged) k (parent-id p (s .ids)) n z (s .lists .staged-counts)))
 
     -- ---- pop
     abbrev Popped·kept : Popping → Type 0
     Popped·kept o = Ready parents (of-pop (popped-by o k p (counts-in (s .lists)) (s .numbers) (s .lengths) (s .spills)) s .after)
 
-    pop-by-answer : (a : Popped) (head : List ℤ) (staged deleted : List ℕ) → PopKept (s .lists) (popping a head staged deleted)
+    pop-by-answer : (a : Popped) (head : List ℤ) (staged deleted : List ℕ) → PopKept One (s .lists) (popping a head staged deleted)
         → PopSame (head-of k p (s .numbers)) (s .lists) (popping a head staged deleted) → Popped·kept (popping a head staged deleted)
     unfolding pop-ok
     pop-by-answer (popped.Number v n c e) head staged deleted kept same =
@@ -208,7 +212,7 @@ module _ (parents : ℕ) (s : State) (r : Ready parents s) (p : ℕ) (h : p < pa
         let head = head-of k p (s .numbers) in
         let o = pop-core edition-1 k (parent-id p (s .ids)) n (s .lists) head in
         subst Popped·kept (chosen _ _ _ (pop-passes k))
-        (pop-by-answer (o .answer) (o .head) (o .staged) (o .deleted) (pop-keeps k (parent-id p (s .ids)) n (s .lists) head (pop-passes k))
+        (pop-by-answer (o .answer) (o .head) (o .staged) (o .deleted) (pop-keeps One k (parent-id p (s .ids)) n (s .lists) head (pop-passes k))
         (pop-core-same edition-1 head (s .lists) k (parent-id p (s .ids)) n))
 
   -- ---- spend and unspend
@@ -225,7 +229,7 @@ module _ (parents : ℕ) (s : State) (r : Ready parents s) (p : ℕ) (h : p < pa
     unfolding flip-ok
     flip-by-answer (flipped.Done c) head staged e =
         let n = head-counts Box p (s .lengths) (s .spills) in
-        let t = flip-keeps d (parent-id p (s .ids)) n z (s .lists .staged-counts) (s .lists .staged) (s .lists .table-counts) (s .lists .table) (head-of Box p (s .numbers)) head staged c flip-passes e in
+        let t = flip-keeps One d (parent-id p (s .ids)) n z (s .lists .staged-counts) (s .lists .staged) (s .lists .table-counts) (s .lists .table) (head-of Box p (s .numbers)) head staged id-long c flip-passes e in
         let g = head-facts n head (and-left (head-ok n head) _ t) in
         record {
           blocks = blocks-with Box head _ _ (g .long) refl refl;
@@ -234,7 +238,7 @@ module _ (parents : ℕ) (s : State) (r : Ready parents s) (p : ℕ) (h : p < pa
         }
     flip-by-answer (flipped.Refused code) head staged e =
         let n = head-counts Box p (s .lengths) (s .spills) in
-        let f = flip-refused d (parent-id p (s .ids)) n z (s .lists .staged-counts) (s .lists .staged) (s .lists .table-counts) (s .lists .table) (head-of Box p (s .numbers)) head staged code e in
+        let f = flip-refused One d (parent-id p (s .ids)) n z (s .lists .staged-counts) (s .lists .staged) (s .lists .table-counts) (s .lists .table) (head-of Box p (s .numbers)) head staged code e in
         record {
           blocks = blocks-with Box head _ _ (omega (arith, head-long Box, ap length (f .0))) refl refl;
           few = r .few;
@@ -273,7 +277,7 @@ module _ (parents : ℕ) (s : State) (r : Ready parents s) where
       → Ready parents (of-flush (flushed-by (flushing a table staged deleted) (counts-in (s .lists))) s .after)
   flush-by-answer (flushed.Done t c d) table staged deleted e =
       let o = flush-core edition-1 (s .lists) in
-      let k = flush-keeps (s .lists) (r .listed) t c d (sym (ap (λ (x : Flushing). x .answer) e)) in
+      let k = flush-keeps One (s .lists) (r .listed) t c d (sym (ap (λ (x : Flushing). x .answer) e)) in
       record {
         blocks = r .blocks;
         few = r .few;

@@ -23,6 +23,7 @@ use Rattle.index_types.specs.declared.Flipped.the-variants as flipped
 use Rattle.index_types.specs.declared.Flushed.the-variants as flushed
 use Rattle.index_types.specs.declared.ListCounts.{ListCounts}
 use Rattle.call_steps.specs.declared.Said.{Said}
+use Rattle.index_types.specs.declared.RowEdition.the-variants.{One}
 use Rattle.buffer_core.specs.Edition.{edition-1}
 use Rattle.buffer_core.specs.Append.{Appending, appending, append-ok, append-core, append-of}
 use Rattle.buffer_core.specs.Pop.{Popping, popping, Lists, lists-ok, pop-ok, pop-core, pop-of}
@@ -127,23 +128,23 @@ module _ (n : SpillCounts) where
 -- ---- what the core functions ask for
 module _ (numbers : List ℤ) (lengths : List ℕ) (spills : List ℤ) (n : SpillCounts) (p : ℕ) (h : HeadCounts) (a w : ℕ) (four : w ≡ 512) where
   pub append-asks : (k : Kind) (staged : List ℕ) → append-ok edition-1 (head-counts k p lengths spills) (n .staged) (head-of k p numbers) staged ≡ true
-      → h ≡ head-counts k p lengths spills → a ≡ head-at k p → AppendReady h (n .staged) (take w (drop a numbers)) staged
+      → h ≡ head-counts k p lengths spills → a ≡ head-at k p → AppendReady One h (n .staged) (take w (drop a numbers)) staged
   append-asks k staged ok e₂ e₃ =
-      append-ready h (n .staged) (take w (drop a numbers)) staged
+      append-ready One h (n .staged) (take w (drop a numbers)) staged
       ((λ i. append-ok edition-1 (e₂ i) (n .staged) (take (four i) (drop (e₃ i) numbers)) staged) ∙ ok)
 
   pub flip-asks : (staged table : List ℕ)
       → flip-ok edition-1 (head-counts Box p lengths spills) (n .staged) staged (n .table) table (head-of Box p numbers) ≡ true
-      → h ≡ head-counts Box p lengths spills → a ≡ head-at Box p → FlipReady h (n .staged) staged (n .table) table (take w (drop a numbers))
+      → h ≡ head-counts Box p lengths spills → a ≡ head-at Box p → FlipReady One h (n .staged) staged (n .table) table (take w (drop a numbers))
   flip-asks staged table ok e₂ e₃ =
-      flip-facts h (n .staged) staged (n .table) table (take w (drop a numbers))
+      flip-facts One h (n .staged) staged (n .table) table (take w (drop a numbers))
       ((λ i. flip-ok edition-1 (e₂ i) (n .staged) staged (n .table) table (take (four i) (drop (e₃ i) numbers))) ∙ ok)
 
   pub pop-asks : (k : Kind) (staged table deleted : List ℕ)
       → pop-ok edition-1 (head-counts k p lengths spills) (lists-with n staged table deleted) (head-of k p numbers) ≡ true
-      → h ≡ head-counts k p lengths spills → a ≡ head-at k p → (h .len ≤ 512) × PopReady (lists-with n staged table deleted) (take w (drop a numbers))
+      → h ≡ head-counts k p lengths spills → a ≡ head-at k p → (h .len ≤ 512) × PopReady One (lists-with n staged table deleted) (take w (drop a numbers))
   pop-asks k staged table deleted ok e₂ e₃ =
-      pop-ready h (lists-with n staged table deleted) (take w (drop a numbers))
+      pop-ready One h (lists-with n staged table deleted) (take w (drop a numbers))
       ((λ i. pop-ok edition-1 (e₂ i) (lists-with n staged table deleted) (take (four i) (drop (e₃ i) numbers))) ∙ ok)
 
 -- ---- credit and debit

@@ -21,6 +21,7 @@ use index_types::Flushed;
 use index_types::HeadCounts;
 use index_types::ListCounts;
 use index_types::Popped;
+use index_types::RowEdition;
 use index_types::SEGMENT_THRESHOLD;
 use index_types::TOKEN_ID_BYTES;
 use index_types::TOKEN_LIMIT;
@@ -176,6 +177,7 @@ pub fn append_step(
     let a = head_at(kind, p);
     let e = a + SEGMENT_THRESHOLD;
     let r = append_core::append(
+        RowEdition::One,
         kind,
         &id,
         h,
@@ -238,6 +240,7 @@ pub fn flip_step(
     let a = head_at(Kind::Box, p);
     let e = a + SEGMENT_THRESHOLD;
     let r = flip_core::flip(
+        RowEdition::One,
         direction,
         &id,
         h,
@@ -315,6 +318,7 @@ pub fn pop_step(
     let a = head_at(kind, p);
     let e = a + SEGMENT_THRESHOLD;
     let r = pop_core::pop(
+        RowEdition::One,
         kind,
         &id,
         h,
@@ -364,6 +368,7 @@ pub fn flush_step(
     let table_counts = counts.table;
     let deleted_counts = counts.deleted;
     let r = flush_core::flush(
+        RowEdition::One,
         table,
         table_counts,
         staged,

@@ -10,6 +10,7 @@ use index_types::Appended;
 use index_types::BoxNumber;
 use index_types::HeadCounts;
 use index_types::ListCounts;
+use index_types::RowEdition;
 use index_types::TxNumber;
 
 // What an append answers goes to the outs, and its code is the result; a refusal sets no out.
@@ -53,11 +54,12 @@ pub extern "C" fn ergo_index_append_box_entry(
         capacity: staged_capacity,
     };
     let appended = segment_buffer::append_box_entry(
+        RowEdition::One,
         parent,
         counts,
+        head,
         BoxNumber(number),
         staged_counts,
-        head,
         staged,
     );
     told(appended, len, spills, staged_count)
@@ -87,11 +89,12 @@ pub extern "C" fn ergo_index_append_tx_entry(
         capacity: staged_capacity,
     };
     let appended = segment_buffer::append_tx_entry(
+        RowEdition::One,
         parent,
         counts,
+        head,
         TxNumber(number),
         staged_counts,
-        head,
         staged,
     );
     told(appended, len, spills, staged_count)

@@ -9,6 +9,7 @@ use index_types::BoxNumber;
 use index_types::Flipped;
 use index_types::HeadCounts;
 use index_types::ListCounts;
+use index_types::RowEdition;
 use index_types::Tallied;
 
 // What a spend or an unspend answers goes to the out, and its code is the result; a refusal sets no out.
@@ -52,14 +53,15 @@ pub extern "C" fn ergo_index_flip_box_segment_entry(
         capacity: table_capacity,
     };
     let flipped = segment_buffer::flip_box_segment_entry(
+        RowEdition::One,
         parent,
         counts,
+        head,
         BoxNumber(target),
         staged_counts,
         staged,
         table_counts,
         table,
-        head,
     );
     told(flipped, staged_count)
 }
@@ -92,14 +94,15 @@ pub extern "C" fn ergo_index_unflip_box_segment_entry(
         capacity: table_capacity,
     };
     let flipped = segment_buffer::unflip_box_segment_entry(
+        RowEdition::One,
         parent,
         counts,
+        head,
         BoxNumber(target),
         staged_counts,
         staged,
         table_counts,
         table,
-        head,
     );
     told(flipped, staged_count)
 }
@@ -134,13 +137,14 @@ pub extern "C" fn ergo_index_tally<'a>(
         capacity: table_capacity,
     };
     let tallied = segment_buffer::tally(
+        RowEdition::One,
         parent,
         counts,
+        head,
         staged_counts,
         staged,
         table_counts,
         table,
-        head,
     );
     match tallied {
         Tallied::Counts(tally) => {

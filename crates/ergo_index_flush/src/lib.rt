@@ -5,6 +5,7 @@ ghost use mathlib.Core.List.{List};
 ghost use Rattle.ergo_index_flush.specs.Flush.{flush-out, flush-by, flush-call};
 use index_types::Flushed;
 use index_types::ListCounts;
+use index_types::RowEdition;
 
 // What the flush answers goes to the outs, and its code is the result; a refusal sets no out.
 fn told(
@@ -57,12 +58,13 @@ pub extern "C" fn ergo_index_flush_staged_spills(
         capacity: deleted_capacity,
     };
     let flushed = segment_buffer::flush_staged_spills(
-        table,
-        table_counts,
-        staged,
+        RowEdition::One,
         staged_counts,
-        deleted,
+        staged,
+        table_counts,
+        table,
         deleted_counts,
+        deleted,
     );
     told(flushed, staged_count, table_count, deleted_count)
 }

@@ -2,6 +2,7 @@
 ghost use mathlib.Core.Path.{_≡_};
 ghost use Rattle.ergo_index_inspection.specs.Inspection.{locate-out, locate-call, inspect-out, inspect-call};
 use index_types::ListCounts;
+use index_types::RowEdition;
 use spills::Located;
 
 // Which list holds the row under a key, and the index of its record there.
@@ -28,7 +29,14 @@ pub extern "C" fn ergo_index_locate_spill(
         count: table_count,
         capacity: table_capacity,
     };
-    let located = spills::locate_spill(staged, staged_counts, table, table_counts, key);
+    let located = spills::locate_spill(
+        RowEdition::One,
+        key,
+        staged_counts,
+        staged,
+        table_counts,
+        table,
+    );
     match located {
         Located::Staged(i) => {
             *list = 1;
@@ -74,19 +82,26 @@ pub extern "C" fn ergo_index_inspect_spill<'a>(
         count: table_count,
         capacity: table_capacity,
     };
-    let located = spills::locate_spill(staged, staged_counts, table, table_counts, key);
+    let located = spills::locate_spill(
+        RowEdition::One,
+        key,
+        staged_counts,
+        staged,
+        table_counts,
+        table,
+    );
     match located {
         Located::Staged(i) => {
-            let at = i * spills::RECORD_SIZE;
-            let row = records::row_part(staged, at, spills::RECORD_SIZE);
+            let at = i * buffer_core::RECORD;
+            let row = records::row_part(staged, at, buffer_core::RECORD);
             *list = 1;
             *offset = at + 34;
             *length = row.len();
             0
         }
         Located::Table(i) => {
-            let at = i * spills::RECORD_SIZE;
-            let row = records::row_part(table, at, spills::RECORD_SIZE);
+            let at = i * buffer_core::RECORD;
+            let row = records::row_part(table, at, buffer_core::RECORD);
             *list = 2;
             *offset = at + 34;
             *length = row.len();

@@ -4,6 +4,7 @@ ghost use Rattle.ergo_index_pages.specs.Pages.{page-out, page-call};
 use index_types::HeadCounts;
 use index_types::ListCounts;
 use index_types::Paged;
+use index_types::RowEdition;
 
 // The unspent box numbers of head and rows, newest first: those from the offset on, as many as the length asks, then zeros to 64. How many stand in the page
 // goes to the out.
@@ -37,15 +38,16 @@ pub extern "C" fn ergo_index_unspent_page<'a>(
         capacity: table_capacity,
     };
     let paged = segment_buffer::unspent_page(
+        RowEdition::One,
         parent,
         counts,
+        head,
+        offset,
+        length,
         staged_counts,
         staged,
         table_counts,
         table,
-        head,
-        offset,
-        length,
         page,
     );
     match paged {

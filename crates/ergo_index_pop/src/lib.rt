@@ -12,6 +12,7 @@ use index_types::ListCounts;
 use index_types::Popped;
 use index_types::PoppedBox;
 use index_types::PoppedTx;
+use index_types::RowEdition;
 
 // The answer of a pop of boxes, as that of either kind.
 fn box_answer(popped: PoppedBox) -> Popped
@@ -103,6 +104,7 @@ pub extern "C" fn ergo_index_pop_box_entry(
         capacity: deleted_capacity,
     };
     let popped = segment_buffer::pop_box_entry(
+        RowEdition::One,
         parent,
         counts,
         head,
@@ -156,6 +158,7 @@ pub extern "C" fn ergo_index_pop_tx_entry(
         capacity: deleted_capacity,
     };
     let popped = segment_buffer::pop_tx_entry(
+        RowEdition::One,
         parent,
         counts,
         head,

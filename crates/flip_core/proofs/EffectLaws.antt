@@ -22,61 +22,62 @@ use Rattle.buffer_core.specs.declared.Low.{Low}
 use Rattle.buffer_core.specs.declared.Low.the-variants.{Upto, Broken}
 use Rattle.buffer_core.specs.declared.Walk.{Walk}
 use Rattle.buffer_core.specs.declared.Walk.the-variants.{Hit, Ended, Failed}
-use Rattle.buffer_core.specs.Edition.{edition-1}
+use Rattle.index_types.specs.declared.RowEdition.{RowEdition}
+use Rattle.buffer_core.specs.Edition.{edition-of}
 use Rattle.buffer_core.specs.Spills.{Sources, sources}
 use Rattle.buffer_core.specs.Flip.{search-in, walk-from, Flipping, flipping, done-by, spends, lead-at, look-at, stage-at, after-walk, in-rows, in-order, flip-effect, flip-core}
 use Rattle.flip_stage.specs.Steps.{Stages}
 
 -- ---- the rows
 
-module _ (w : Sources) (c : ListCounts) (staged : List ℕ) (v : Walk) where
-  pub walk-hit : (n at : ℕ) (r : Flipped) (staged′ : List ℕ) → v ≡ Hit n at → Stages (stage-at edition-1 w (c .capacity) n at) c staged r staged′
-      → Stages (after-walk edition-1 w (c .capacity) v) c staged r staged′
+module _ (ed : RowEdition) (w : Sources) (c : ListCounts) (staged : List ℕ) (v : Walk) where
+  pub walk-hit : (n at : ℕ) (r : Flipped) (staged′ : List ℕ) → v ≡ Hit n at → Stages ed (stage-at (edition-of ed) w (c .capacity) n at) c staged r staged′
+      → Stages ed (after-walk (edition-of ed) w (c .capacity) v) c staged r staged′
   walk-hit n at r staged′ q s = rw q s
 
-  pub walk-14 : (s : Bool) → v ≡ Ended s → s ≡ true → Stages (after-walk edition-1 w (c .capacity) v) c staged (Refused 14) staged
+  pub walk-14 : (s : Bool) → v ≡ Ended s → s ≡ true → Stages ed (after-walk (edition-of ed) w (c .capacity) v) c staged (Refused 14) staged
   walk-14 s q h head = rw (q, h)
 
-  pub walk-15 : (s : Bool) → v ≡ Ended s → s ≡ false → Stages (after-walk edition-1 w (c .capacity) v) c staged (Refused 15) staged
+  pub walk-15 : (s : Bool) → v ≡ Ended s → s ≡ false → Stages ed (after-walk (edition-of ed) w (c .capacity) v) c staged (Refused 15) staged
   walk-15 s q h head = rw (q, h)
 
-  pub walk-bad : (code : ℕ) → v ≡ Failed code → Stages (after-walk edition-1 w (c .capacity) v) c staged (Refused code) staged
+  pub walk-bad : (code : ℕ) → v ≡ Failed code → Stages ed (after-walk (edition-of ed) w (c .capacity) v) c staged (Refused code) staged
   walk-bad code q head = rw q
 
-module _ (w : Sources) (c : ListCounts) (staged : List ℕ) (t : ℕ) (d : Bool) (spills : ℕ) (seen : Bool) (low : Low) (e : low ≡ search-in (lead-at edition-1 w) t 0 spills) where
-  pub rows-broken : (code : ℕ) → low ≡ Broken code → Stages (in-rows edition-1 w (c .capacity) t d spills seen) c staged (Refused code) staged
+module _ (ed : RowEdition) (w : Sources) (c : ListCounts) (staged : List ℕ) (t : ℕ) (d : Bool) (spills : ℕ) (seen : Bool) (low : Low) (e : low ≡ search-in (lead-at (edition-of ed) w) t 0 spills) where
+  pub rows-broken : (code : ℕ) → low ≡ Broken code → Stages ed (in-rows (edition-of ed) w (c .capacity) t d spills seen) c staged (Refused code) staged
   unfolding in-rows
   rows-broken code q head = rw (sym e ∙ q)
 
-  pub rows-walked : (l : ℕ) → low ≡ Upto l → (v : Walk) → v ≡ walk-from (look-at edition-1 w t d) l seen → (r : Flipped) (staged′ : List ℕ)
-      → Stages (after-walk edition-1 w (c .capacity) v) c staged r staged′ → Stages (in-rows edition-1 w (c .capacity) t d spills seen) c staged r staged′
+  pub rows-walked : (l : ℕ) → low ≡ Upto l → (v : Walk) → v ≡ walk-from (look-at (edition-of ed) w t d) l seen → (r : Flipped) (staged′ : List ℕ)
+      → Stages ed (after-walk (edition-of ed) w (c .capacity) v) c staged r staged′ → Stages ed (in-rows (edition-of ed) w (c .capacity) t d spills seen) c staged r staged′
   unfolding in-rows
   rows-walked l q v ev r staged′ s = rw (sym e ∙ q, sym ev) s
 
 -- ---- the head first
 
-module _ (w : Sources) (c : ListCounts) (staged : List ℕ) (t : ℕ) (d : Bool) (spills n : ℕ) (head : List ℤ) (p : Position) (e : p ≡ position d t (take n head) 0 false) where
+module _ (ed : RowEdition) (w : Sources) (c : ListCounts) (staged : List ℕ) (t : ℕ) (d : Bool) (spills n : ℕ) (head : List ℤ) (p : Position) (e : p ≡ position d t (take n head) 0 false) where
   pub order-head : (i : ℕ) (head′ : List ℤ) → p ≡ At i → head′ ≡ flipped-at (At i) head
-      → flipping (Done c) head′ staged ≡ done-by edition-1 (in-order edition-1 w (c .capacity) t d spills (take n head)) c head staged
+      → flipping (Done c) head′ staged ≡ done-by (edition-of ed) (in-order (edition-of ed) w (c .capacity) t d spills (take n head)) c head staged
   unfolding in-order
   order-head i head′ q h = rw (sym e ∙ q, h)
 
   module _ (r : Flipped) (staged′ : List ℕ) where
-    pub order-seen : p ≡ Seen → Stages (in-rows edition-1 w (c .capacity) t d spills true) c staged r staged′
-        → flipping r head staged′ ≡ done-by edition-1 (in-order edition-1 w (c .capacity) t d spills (take n head)) c head staged
+    pub order-seen : p ≡ Seen → Stages ed (in-rows (edition-of ed) w (c .capacity) t d spills true) c staged r staged′
+        → flipping r head staged′ ≡ done-by (edition-of ed) (in-order (edition-of ed) w (c .capacity) t d spills (take n head)) c head staged
     unfolding in-order
     order-seen q s = rw (sym e ∙ q) (s head)
 
-    pub order-absent : p ≡ Absent → Stages (in-rows edition-1 w (c .capacity) t d spills false) c staged r staged′
-        → flipping r head staged′ ≡ done-by edition-1 (in-order edition-1 w (c .capacity) t d spills (take n head)) c head staged
+    pub order-absent : p ≡ Absent → Stages ed (in-rows (edition-of ed) w (c .capacity) t d spills false) c staged r staged′
+        → flipping r head staged′ ≡ done-by (edition-of ed) (in-order (edition-of ed) w (c .capacity) t d spills (take n head)) c head staged
     unfolding in-order
     order-absent q s = rw (sym e ∙ q) (s head)
 
 -- ---- 9, 10, 11; t is what a local holds of the target's absolute value
 
-module _ (d : Direction) (parent : List ℕ) (h : HeadCounts) (z : ℤ) (c : ListCounts) (staged : List ℕ) (e : ListCounts) (table : List ℕ) (head : List ℤ)
+module _ (ed : RowEdition) (d : Direction) (parent : List ℕ) (h : HeadCounts) (z : ℤ) (c : ListCounts) (staged : List ℕ) (e : ListCounts) (table : List ℕ) (head : List ℤ)
     (t : ℕ) (et : t ≡ natAbs z) where
-  pub flip-9 : 9223372036854775808 ≤ t → flipping (Refused 9) head staged ≡ flip-core edition-1 d parent h z c staged e table head
+  pub flip-9 : 9223372036854775808 ≤ t → flipping (Refused 9) head staged ≡ flip-core (edition-of ed) d parent h z c staged e table head
   unfolding flip-core flip-effect
   flip-9 k = let q : 9223372036854775808 ≤ natAbs z = omega arith in rw (le-leb 9223372036854775808 (natAbs z) q)
 
@@ -84,17 +85,17 @@ module _ (d : Direction) (parent : List ℕ) (h : HeadCounts) (z : ℤ) (c : Lis
     target-least : leb 9223372036854775808 (natAbs z) ≡ false
     target-least = lt-leb 9223372036854775808 (natAbs z) (omega arith)
 
-    pub flip-10 : order-ok (take (h .len) head) ≡ false → flipping (Refused 10) head staged ≡ flip-core edition-1 d parent h z c staged e table head
+    pub flip-10 : order-ok (take (h .len) head) ≡ false → flipping (Refused 10) head staged ≡ flip-core (edition-of ed) d parent h z c staged e table head
     unfolding flip-core flip-effect
     flip-10 o = rw (target-least, o)
 
     module _ (o : order-ok (take (h .len) head) ≡ true) where
-      pub flip-11 : is-negative (h .spills) ≡ true → flipping (Refused 11) head staged ≡ flip-core edition-1 d parent h z c staged e table head
+      pub flip-11 : is-negative (h .spills) ≡ true → flipping (Refused 11) head staged ≡ flip-core (edition-of ed) d parent h z c staged e table head
       unfolding flip-core flip-effect
       flip-11 b = rw (target-least, o, b)
 
       pub flip-on : is-negative (h .spills) ≡ false → (f : Bool) (n : ℕ) → f ≡ spends d → n ≡ natAbs (h .spills) → (x : Flipping)
-          → x ≡ done-by edition-1 (in-order edition-1 (sources parent staged (c .count) table (e .count)) (c .capacity) t f n (take (h .len) head)) c head staged
-          → x ≡ flip-core edition-1 d parent h z c staged e table head
+          → x ≡ done-by (edition-of ed) (in-order (edition-of ed) (sources parent staged (c .count) table (e .count)) (c .capacity) t f n (take (h .len) head)) c head staged
+          → x ≡ flip-core (edition-of ed) d parent h z c staged e table head
       unfolding flip-core flip-effect
       flip-on b f n ef en x s = rw (target-least, o, b, ← et, ← ef, ← en) s

@@ -31,7 +31,8 @@ use Rattle.buffer_core.specs.declared.Look.{Look}
 use Rattle.buffer_core.specs.declared.Look.the-variants.{Take, Stop, Next, Fail}
 use Rattle.buffer_core.specs.declared.Walk.{Walk}
 use Rattle.buffer_core.specs.declared.Walk.the-variants.{Hit, Ended, Failed}
-use Rattle.buffer_core.specs.Edition.{edition-1}
+use Rattle.index_types.specs.declared.RowEdition.{RowEdition}
+use Rattle.buffer_core.specs.Edition.{record-size, edition-of}
 use Rattle.buffer_core.specs.Spills.{Sources, sources, place-at}
 use Rattle.buffer_core.specs.Flip.{first-of, last-in, search-in, look-past, look-by, look-in, walk-by, walk-from, Effect, refuse, flip-head, stage, Flipping, flipping, head-first, done-by, spends, lead-at, look-at, stage-from, stage-at, after-walk, after-search, in-rows, in-order, flip-effect, flip-core}
 use Rattle.spill_rows.proofs.CheckedLaws.{nope}
@@ -84,11 +85,11 @@ look-unseen zs t d e = by-last (ltb (last-in zs) t) refl e
 
 -- ---- 15: zs are the numbers of the head, t is the target's absolute value
 
-pub record NotSeen (w : Sources) (t : ℕ) (d : Bool) (spills : ℕ) (zs : List ℤ) : Type 0 where
+pub record NotSeen (ed : RowEdition) (w : Sources) (t : ℕ) (d : Bool) (spills : ℕ) (zs : List ℤ) : Type 0 where
   pub head : copies t (map natAbs zs) ≡ 0
   pub low : ℕ
-  pub found : search-in (lead-at edition-1 w) t 0 spills ≡ Upto low
-  pub rows : Unseen (look-at edition-1 w t d) low
+  pub found : search-in (lead-at (edition-of ed) w) t 0 spills ≡ Upto low
+  pub rows : Unseen (look-at (edition-of ed) w t d) low
 
 -- what follows from an effect that refuses with 15
 abbrev If-15 : Type 0 → Effect → Type 0
@@ -103,71 +104,71 @@ pick-15 : (X : Type 0) (b : Bool) (x y : Effect) → If-15 X x → If-15 X y →
 pick-15 X true x y p q = p
 pick-15 X false x y p q = q
 
-module _ (parent staged : List ℕ) (m : ℕ) (table : List ℕ) (n : ℕ) (h : m * 10288 ≤ length staged) (k : n * 10288 ≤ length table) (capacity : ℕ) where
-  stage-15 : (X : Type 0) (number at : ℕ) → If-15 X (stage-at edition-1 (sources parent staged m table n) capacity number at)
+module _ (ed : RowEdition) (parent staged : List ℕ) (m : ℕ) (table : List ℕ) (n : ℕ) (h : m * record-size ed ≤ length staged) (k : n * record-size ed ≤ length table) (capacity : ℕ) where
+  stage-15 : (X : Type 0) (number at : ℕ) → If-15 X (stage-at (edition-of ed) (sources parent staged m table n) capacity number at)
   unfolding stage-at
-  stage-15 X number at = by-place (place-at edition-1 Box (sources parent staged m table n) number)
+  stage-15 X number at = by-place (place-at (edition-of ed) Box (sources parent staged m table n) number)
     where
-      by-place : (p : Place) → If-15 X (stage-from edition-1 (sources parent staged m table n) capacity number at p)
+      by-place : (p : Place) → If-15 X (stage-from (edition-of ed) (sources parent staged m table n) capacity number at p)
       by-place (Staged i) = tt
       by-place (Table i) = pick-15 X (ltb m capacity) (stage m (m + 1) _ _) (refuse 16) tt (never X 16 (λ e. omega arith))
       by-place Missing = never X 12 (λ e. omega arith)
 
   rows-15 : (t : ℕ) (d : Bool) (spills : ℕ) (seen : Bool) (zs : List ℤ) → (seen ≡ false → copies t (map natAbs zs) ≡ 0)
-      → If-15 (NotSeen (sources parent staged m table n) t d spills zs) (in-rows edition-1 (sources parent staged m table n) capacity t d spills seen)
+      → If-15 (NotSeen ed (sources parent staged m table n) t d spills zs) (in-rows (edition-of ed) (sources parent staged m table n) capacity t d spills seen)
   unfolding in-rows
-  rows-15 t d spills seen zs c = by-low (search-in (lead-at edition-1 (sources parent staged m table n)) t 0 spills) refl
+  rows-15 t d spills seen zs c = by-low (search-in (lead-at (edition-of ed) (sources parent staged m table n)) t 0 spills) refl
     where
-      by-seen : (l : ℕ) → search-in (lead-at edition-1 (sources parent staged m table n)) t 0 spills ≡ Upto l → (s : Bool)
-          → walk-from (look-at edition-1 (sources parent staged m table n) t d) l seen ≡ Ended s → If-15 (NotSeen (sources parent staged m table n) t d spills zs) (refuse (cond s 14 15))
+      by-seen : (l : ℕ) → search-in (lead-at (edition-of ed) (sources parent staged m table n)) t 0 spills ≡ Upto l → (s : Bool)
+          → walk-from (look-at (edition-of ed) (sources parent staged m table n) t d) l seen ≡ Ended s → If-15 (NotSeen ed (sources parent staged m table n) t d spills zs) (refuse (cond s 14 15))
       by-seen l q true e = never _ 14 (λ e. omega arith)
-      by-seen l q false e = λ z. let p = walk-unseen (look-at edition-1 (sources parent staged m table n) t d) l seen e in record { head = c (p .0); low = l; found = q; rows = p .1 }
+      by-seen l q false e = λ z. let p = walk-unseen (look-at (edition-of ed) (sources parent staged m table n) t d) l seen e in record { head = c (p .0); low = l; found = q; rows = p .1 }
 
-      by-walk : (l : ℕ) → search-in (lead-at edition-1 (sources parent staged m table n)) t 0 spills ≡ Upto l → (v : Walk)
-          → walk-from (look-at edition-1 (sources parent staged m table n) t d) l seen ≡ v
-          → If-15 (NotSeen (sources parent staged m table n) t d spills zs) (after-walk edition-1 (sources parent staged m table n) capacity v)
+      by-walk : (l : ℕ) → search-in (lead-at (edition-of ed) (sources parent staged m table n)) t 0 spills ≡ Upto l → (v : Walk)
+          → walk-from (look-at (edition-of ed) (sources parent staged m table n) t d) l seen ≡ v
+          → If-15 (NotSeen ed (sources parent staged m table n) t d spills zs) (after-walk (edition-of ed) (sources parent staged m table n) capacity v)
       by-walk l q (Hit number at) e = stage-15 _ number at
       by-walk l q (Ended s) e = by-seen l q s e
-      by-walk l q (Failed code) e = λ z. absurd (not-15 (failed-code parent staged m table n h k t d l seen 15 (e ∙ ap Failed z)))
+      by-walk l q (Failed code) e = λ z. absurd (not-15 ed (failed-code ed parent staged m table n h k t d l seen 15 (e ∙ ap Failed z)))
 
-      by-low : (low : Low) → search-in (lead-at edition-1 (sources parent staged m table n)) t 0 spills ≡ low
-          → If-15 (NotSeen (sources parent staged m table n) t d spills zs) (after-search edition-1 (sources parent staged m table n) capacity t d seen low)
-      by-low (Upto l) q = by-walk l q (walk-from (look-at edition-1 (sources parent staged m table n) t d) l seen) refl
-      by-low (Broken code) q = λ z. absurd (not-15 (broken-code parent staged m table n h k t spills 15 (q ∙ ap Broken z)))
+      by-low : (low : Low) → search-in (lead-at (edition-of ed) (sources parent staged m table n)) t 0 spills ≡ low
+          → If-15 (NotSeen ed (sources parent staged m table n) t d spills zs) (after-search (edition-of ed) (sources parent staged m table n) capacity t d seen low)
+      by-low (Upto l) q = by-walk l q (walk-from (look-at (edition-of ed) (sources parent staged m table n) t d) l seen) refl
+      by-low (Broken code) q = λ z. absurd (not-15 ed (broken-code ed parent staged m table n h k t spills 15 (q ∙ ap Broken z)))
 
   order-15 : (t : ℕ) (d : Bool) (spills : ℕ) (zs : List ℤ)
-      → If-15 (NotSeen (sources parent staged m table n) t d spills zs) (in-order edition-1 (sources parent staged m table n) capacity t d spills zs)
+      → If-15 (NotSeen ed (sources parent staged m table n) t d spills zs) (in-order (edition-of ed) (sources parent staged m table n) capacity t d spills zs)
   unfolding in-order
   order-15 t d spills zs = by-position (position d t zs 0 false) refl
     where
       by-position : (p : Position) → position d t zs 0 false ≡ p
-          → If-15 (NotSeen (sources parent staged m table n) t d spills zs) (head-first p (λ seen. in-rows edition-1 (sources parent staged m table n) capacity t d spills seen))
+          → If-15 (NotSeen ed (sources parent staged m table n) t d spills zs) (head-first p (λ seen. in-rows (edition-of ed) (sources parent staged m table n) capacity t d spills seen))
       by-position (At i) e = tt
       by-position Seen e = rows-15 t d spills true zs (λ q. nope (cc))
       by-position Absent e = rows-15 t d spills false zs (λ q. entry.flip-15 d t zs e)
 
   effect-15 : (d : Direction) (z spills : ℤ) (zs : List ℤ)
-      → If-15 (NotSeen (sources parent staged m table n) (natAbs z) (spends d) (natAbs spills) zs) (flip-effect edition-1 (sources parent staged m table n) capacity d z spills zs)
+      → If-15 (NotSeen ed (sources parent staged m table n) (natAbs z) (spends d) (natAbs spills) zs) (flip-effect (edition-of ed) (sources parent staged m table n) capacity d z spills zs)
   unfolding flip-effect
   effect-15 d z spills zs =
-      let X = NotSeen (sources parent staged m table n) (natAbs z) (spends d) (natAbs spills) zs in
+      let X = NotSeen ed (sources parent staged m table n) (natAbs z) (spends d) (natAbs spills) zs in
       pick-15 X (leb 9223372036854775808 (natAbs z)) (refuse 9) _ (never X 9 (λ e. omega arith))
       (pick-15 X (order-ok zs) _ (refuse 10)
       (pick-15 X (is-negative spills) (refuse 11) _ (never X 11 (λ e. omega arith)) (order-15 (natAbs z) (spends d) (natAbs spills) zs))
       (never X 10 (λ e. omega arith)))
 
-refused-15 : (X : Type 0) (x : Effect) (c : ListCounts) (head head′ : List ℤ) (staged staged′ : List ℕ) → If-15 X x
-    → flipping (Refused 15) head′ staged′ ≡ done-by edition-1 x c head staged → X
-refused-15 X (refuse code) c head head′ staged staged′ p e =
+refused-15 : (ed : RowEdition) (X : Type 0) (x : Effect) (c : ListCounts) (head head′ : List ℤ) (staged staged′ : List ℕ) → If-15 X x
+    → flipping (Refused 15) head′ staged′ ≡ done-by (edition-of ed) x c head staged → X
+refused-15 ed X (refuse code) c head head′ staged staged′ p e =
     let q : Refused 15 ≡ Refused code = ap (λ (f : Flipping). f .answer) e in let d : code ≡ 15 = cc in p d
-refused-15 X (flip-head i) c head head′ staged staged′ p e = let q : Refused 15 ≡ Done c = ap (λ (f : Flipping). f .answer) e in nope (cc)
-refused-15 X (stage index count key row) c head head′ staged staged′ p e =
+refused-15 ed X (flip-head i) c head head′ staged staged′ p e = let q : Refused 15 ≡ Done c = ap (λ (f : Flipping). f .answer) e in nope (cc)
+refused-15 ed X (stage index count key row) c head head′ staged staged′ p e =
     let q : Refused 15 ≡ Done (with-count count c) = ap (λ (f : Flipping). f .answer) e in nope (cc)
 
-pub flip-15 : (d : Direction) (parent : List ℕ) (h : HeadCounts) (z : ℤ) (c : ListCounts) (staged : List ℕ) (e : ListCounts) (table : List ℕ) (head head′ : List ℤ) (staged′ : List ℕ)
-    → InBounds 10288 c staged → InBounds 10288 e table → flipping (Refused 15) head′ staged′ ≡ flip-core edition-1 d parent h z c staged e table head
-    → NotSeen (sources parent staged (c .count) table (e .count)) (natAbs z) (spends d) (natAbs (h .spills)) (take (h .len) head)
+pub flip-15 : (ed : RowEdition) (d : Direction) (parent : List ℕ) (h : HeadCounts) (z : ℤ) (c : ListCounts) (staged : List ℕ) (e : ListCounts) (table : List ℕ) (head head′ : List ℤ) (staged′ : List ℕ)
+    → InBounds (record-size ed) c staged → InBounds (record-size ed) e table → flipping (Refused 15) head′ staged′ ≡ flip-core (edition-of ed) d parent h z c staged e table head
+    → NotSeen ed (sources parent staged (c .count) table (e .count)) (natAbs z) (spends d) (natAbs (h .spills)) (take (h .len) head)
 unfolding flip-core
-flip-15 d parent h z c staged e table head head′ staged′ b a q =
-    refused-15 _ (flip-effect edition-1 (sources parent staged (c .count) table (e .count)) (c .capacity) d z (h .spills) (take (h .len) head)) c head head′ staged staged′
-    (effect-15 parent staged (c .count) table (e .count) (b .within) (a .within) (c .capacity) d z (h .spills) (take (h .len) head)) q
+flip-15 ed d parent h z c staged e table head head′ staged′ b a q =
+    refused-15 ed _ (flip-effect (edition-of ed) (sources parent staged (c .count) table (e .count)) (c .capacity) d z (h .spills) (take (h .len) head)) c head head′ staged staged′
+    (effect-15 ed parent staged (c .count) table (e .count) (b .within) (a .within) (c .capacity) d z (h .spills) (take (h .len) head)) q

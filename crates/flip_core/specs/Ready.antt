@@ -11,10 +11,12 @@ use Rattle.records.specs.Records.{keys}
 use Rattle.records.specs.Find.{distinct}
 use Rattle.records.specs.Checks.{InBounds}
 use Rattle.index_types.specs.declared.HeadCounts.{HeadCounts}
+use Rattle.index_types.specs.declared.RowEdition.{RowEdition}
+use Rattle.buffer_core.specs.Edition.{record-size}
 
-pub record FlipReady (h : HeadCounts) (c : ListCounts) (staged : List ℕ) (e : ListCounts) (table : List ℕ) (head : List ℤ) : Type 0 where
+pub record FlipReady (v : RowEdition) (h : HeadCounts) (c : ListCounts) (staged : List ℕ) (e : ListCounts) (table : List ℕ) (head : List ℤ) : Type 0 where
   pub few : h .len ≤ segment-threshold
   pub long : segment-threshold ≤ length head
-  pub bounds : InBounds 10288 c staged
-  pub table-bounds : InBounds 10288 e table
-  pub apart : distinct (keys 10288 (e .count) table) ≡ true
+  pub bounds : InBounds (record-size v) c staged
+  pub table-bounds : InBounds (record-size v) e table
+  pub apart : distinct (keys (record-size v) (e .count) table) ≡ true

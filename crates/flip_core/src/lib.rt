@@ -4,7 +4,7 @@ ghost use mathlib.Core.Bool.{true};
 ghost use Prim.Native.Nat.{_≤_, _<_};
 ghost use lib.ListN.{length, take};
 ghost use Rattle.entries.specs.Order.{order-ok};
-ghost use Rattle.buffer_core.specs.Edition.{edition-1};
+ghost use Rattle.buffer_core.specs.Edition.{edition-of};
 ghost use Rattle.buffer_core.specs.Spills.{sources};
 ghost use Rattle.buffer_core.specs.Flip.{flipping, spends, done-by, in-rows, in-order, flip-core};
 ghost use Rattle.flip_stage.specs.Steps.{RowsReady, Stages};
@@ -16,9 +16,11 @@ use entries::Position;
 use index_types::Flipped;
 use index_types::HeadCounts;
 use index_types::ListCounts;
+use index_types::RowEdition;
 
 // The halving, the walk, and the match.
 fn flip_hinted(
+    edition: RowEdition,
     parent: &[u8; 32],
     target: u64,
     spend: bool,
@@ -30,12 +32,13 @@ fn flip_hinted(
     table: &[u8],
     hints: &[u16],
 ) -> Flipped
-    requires { ⌜ RowsReady «staged_counts» (now staged) «table_count» (now table) × (spills < 2147483648) × (target < 9223372036854775808) ⌝ }
-    ensures { λ r. ⌜ Stages (in-rows edition-1 (sources (now (parent .entry)) (now (staged .entry)) («staged_counts» .count) (now (table .entry)) «table_count») («staged_counts» .capacity) target spend spills seen)
+    requires { ⌜ RowsReady edition «staged_counts» (now staged) «table_count» (now table) × (spills < 2147483648) × (target < 9223372036854775808) ⌝ }
+    ensures { λ r. ⌜ Stages edition (in-rows (edition-of edition) (sources (now (parent .entry)) (now (staged .entry)) («staged_counts» .count) (now (table .entry)) «table_count») («staged_counts» .capacity) target spend spills seen)
         «staged_counts» (now (staged .entry)) r (now (staged .exit)) ⌝ }
 {
     let held = staged_counts.count;
     let found = flip_search::search(
+        edition,
         parent,
         staged,
         held,
@@ -49,6 +52,7 @@ fn flip_hinted(
     match found {
         Low::Upto(low) => {
             let walk = flip_walk::walk_down(
+                edition,
                 parent,
                 staged,
                 held,
@@ -62,6 +66,7 @@ fn flip_hinted(
             );
             match walk {
                 Walk::Hit(number, at) => flip_stage::stage(
+                    edition,
                     parent,
                     number,
                     at,
@@ -87,6 +92,7 @@ fn flip_hinted(
 
 // The same without hints that came from outside: where the records of the table stand is noted first.
 fn flip_noted(
+    edition: RowEdition,
     parent: &[u8; 32],
     target: u64,
     spend: bool,
@@ -97,13 +103,15 @@ fn flip_noted(
     table_count: usize,
     table: &[u8],
 ) -> Flipped
-    requires { ⌜ RowsReady «staged_counts» (now staged) «table_count» (now table) × (spills < 2147483648) × (target < 9223372036854775808) ⌝ }
-    ensures { λ r. ⌜ Stages (in-rows edition-1 (sources (now (parent .entry)) (now (staged .entry)) («staged_counts» .count) (now (table .entry)) «table_count») («staged_counts» .capacity) target spend spills seen)
+    requires { ⌜ RowsReady edition «staged_counts» (now staged) «table_count» (now table) × (spills < 2147483648) × (target < 9223372036854775808) ⌝ }
+    ensures { λ r. ⌜ Stages edition (in-rows (edition-of edition) (sources (now (parent .entry)) (now (staged .entry)) («staged_counts» .count) (now (table .entry)) «table_count») («staged_counts» .capacity) target spend spills seen)
         «staged_counts» (now (staged .entry)) r (now (staged .exit)) ⌝ }
 {
     let mut hints = [0u16; 16384];
-    record_hints::note_places(table, buffer_core::RECORD, table_count, &mut hints);
+    let size = buffer_core::record_size(edition);
+    record_hints::note_places(table, size, table_count, &mut hints);
     flip_hinted(
+        edition,
         parent,
         target,
         spend,
@@ -119,6 +127,7 @@ fn flip_noted(
 
 // The rows, by the hints that are there; for a table of many records there are always some.
 fn flip_rows(
+    edition: RowEdition,
     parent: &[u8; 32],
     target: u64,
     spend: bool,
@@ -130,13 +139,14 @@ fn flip_rows(
     table: &[u8],
     hints: &[u16],
 ) -> Flipped
-    requires { ⌜ RowsReady «staged_counts» (now staged) «table_count» (now table) × (spills < 2147483648) × (target < 9223372036854775808) ⌝ }
-    ensures { λ r. ⌜ Stages (in-rows edition-1 (sources (now (parent .entry)) (now (staged .entry)) («staged_counts» .count) (now (table .entry)) «table_count») («staged_counts» .capacity) target spend spills seen)
+    requires { ⌜ RowsReady edition «staged_counts» (now staged) «table_count» (now table) × (spills < 2147483648) × (target < 9223372036854775808) ⌝ }
+    ensures { λ r. ⌜ Stages edition (in-rows (edition-of edition) (sources (now (parent .entry)) (now (staged .entry)) («staged_counts» .count) (now (table .entry)) «table_count») («staged_counts» .capacity) target spend spills seen)
         «staged_counts» (now (staged .entry)) r (now (staged .exit)) ⌝ }
 {
     if hints.len() == 0 {
         if 128 < table_count {
             return flip_noted(
+                edition,
                 parent,
                 target,
                 spend,
@@ -150,6 +160,7 @@ fn flip_rows(
         }
     }
     flip_hinted(
+        edition,
         parent,
         target,
         spend,
@@ -165,6 +176,7 @@ fn flip_rows(
 
 // The head first, which is in order, then the rows.
 fn flip_in_order(
+    edition: RowEdition,
     parent: &[u8; 32],
     target: u64,
     spend: bool,
@@ -177,10 +189,10 @@ fn flip_in_order(
     hints: &[u16],
     head: &mut [i64],
 ) -> Flipped
-    requires { ⌜ RowsReady «staged_counts» (now staged) «table_count» (now table) × (spills < 2147483648) × (target < 9223372036854775808) × (len ≤ length (now head))
+    requires { ⌜ RowsReady edition «staged_counts» (now staged) «table_count» (now table) × (spills < 2147483648) × (target < 9223372036854775808) × (len ≤ length (now head))
         × (order-ok (take len (now head)) ≡ true) ⌝ }
     ensures { λ r. ⌜ flipping r (now (head .exit)) (now (staged .exit))
-        ≡ done-by edition-1 (in-order edition-1 (sources (now (parent .entry)) (now (staged .entry)) («staged_counts» .count) (now (table .entry)) «table_count») («staged_counts» .capacity) target spend spills (take len (now (head .entry)))) «staged_counts» (now (head .entry)) (now (staged .entry)) ⌝ }
+        ≡ done-by (edition-of edition) (in-order (edition-of edition) (sources (now (parent .entry)) (now (staged .entry)) («staged_counts» .count) (now (table .entry)) «table_count») («staged_counts» .capacity) target spend spills (take len (now (head .entry)))) «staged_counts» (now (head .entry)) (now (staged .entry)) ⌝ }
 {
     let position = entries::flip_position(head, len, target, spend);
     match position {
@@ -189,6 +201,7 @@ fn flip_in_order(
             Flipped::Done(staged_counts)
         }
         Position::Seen => flip_rows(
+            edition,
             parent,
             target,
             spend,
@@ -201,6 +214,7 @@ fn flip_in_order(
             hints,
         ),
         Position::Absent => flip_rows(
+            edition,
             parent,
             target,
             spend,
@@ -226,6 +240,7 @@ fn is_spend(direction: Direction) -> bool
 
 // A spend or an unspend: 9, 10, 11, then the head and the rows.
 pub fn flip(
+    edition: RowEdition,
     direction: Direction,
     parent: &[u8; 32],
     counts: HeadCounts,
@@ -237,9 +252,9 @@ pub fn flip(
     hints: &[u16],
     head: &mut [i64],
 ) -> Flipped
-    requires { ⌜ FlipReady counts «staged_counts» (now staged) «table_counts» (now table) (now head) ⌝ }
+    requires { ⌜ FlipReady edition counts «staged_counts» (now staged) «table_counts» (now table) (now head) ⌝ }
     ensures { λ r. ⌜ flipping r (now (head .exit)) (now (staged .exit))
-        ≡ flip-core edition-1 direction (now (parent .entry)) counts target «staged_counts» (now (staged .entry)) «table_counts» (now (table .entry)) (now (head .entry)) ⌝ }
+        ≡ flip-core (edition-of edition) direction (now (parent .entry)) counts target «staged_counts» (now (staged .entry)) «table_counts» (now (table .entry)) (now (head .entry)) ⌝ }
 {
     let size = signed::magnitude(target);
     let len = counts.len;
@@ -255,6 +270,7 @@ pub fn flip(
         return Flipped::Refused(refusal::NEGATIVE_SPILL_COUNT);
     }
     flip_in_order(
+        edition,
         parent,
         size,
         is_spend(direction),

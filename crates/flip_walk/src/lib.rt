@@ -9,12 +9,13 @@ ghost use Rattle.index_types.specs.Limits.{segment-threshold};
 ghost use Rattle.records.specs.Records.{keys};
 ghost use Rattle.records.specs.Find.{distinct};
 ghost use Rattle.entries.specs.Order.{order-ok};
-ghost use Rattle.buffer_core.specs.Edition.{edition-1};
+ghost use Rattle.buffer_core.specs.Edition.{edition-of, record-size};
 ghost use Rattle.buffer_core.specs.Spills.{sources};
 ghost use Rattle.buffer_core.specs.Flip.{look-past, look-in, look-at, walk-from};
 use buffer_core::Look;
 use buffer_core::Walk;
 use entries::Position;
+use index_types::RowEdition;
 use index_types::SEGMENT_THRESHOLD;
 use spill_rows::Read;
 
@@ -48,6 +49,7 @@ fn look_in(row: &[i64], target: u64, spend: bool) -> Look
 
 // What the row of a spill number shows.
 fn look_at<'a>(
+    edition: RowEdition,
     parent: &[u8; 32],
     number: usize,
     staged: &'a [u8],
@@ -58,12 +60,13 @@ fn look_at<'a>(
     target: u64,
     spend: bool,
 ) -> Look
-    requires { ⌜ («staged_count» * 10288 ≤ length (now staged)) × («table_count» * 10288 ≤ length (now table)) × (number < 2147483648)
-        × (distinct (keys 10288 «table_count» (now table)) ≡ true) ⌝ }
-    ensures { λ r. ⌜ r ≡ look-at edition-1 (sources (now (parent .entry)) (now (staged .entry)) «staged_count» (now (table .entry)) «table_count») target spend number ⌝ }
+    requires { ⌜ («staged_count» * record-size edition ≤ length (now staged)) × («table_count» * record-size edition ≤ length (now table)) × (number < 2147483648)
+        × (distinct (keys (record-size edition) «table_count» (now table)) ≡ true) ⌝ }
+    ensures { λ r. ⌜ r ≡ look-at (edition-of edition) (sources (now (parent .entry)) (now (staged .entry)) «staged_count» (now (table .entry)) «table_count») target spend number ⌝ }
 {
     let mut row = [0i64; SEGMENT_THRESHOLD];
     let read = spill_rows::read_checked(
+        edition,
         parent,
         number,
         staged,
@@ -87,6 +90,7 @@ fn either(a: bool, b: bool) -> bool
 
 // The rows below a spill number, the newest first.
 pub fn walk_down<'a>(
+    edition: RowEdition,
     parent: &[u8; 32],
     staged: &'a [u8],
     staged_count: usize,
@@ -98,15 +102,16 @@ pub fn walk_down<'a>(
     from: usize,
     seen: bool,
 ) -> Walk
-    requires { ⌜ («staged_count» * 10288 ≤ length (now staged)) × («table_count» * 10288 ≤ length (now table)) × (from < 2147483648)
-        × (distinct (keys 10288 «table_count» (now table)) ≡ true) ⌝ }
-    ensures { λ r. ⌜ r ≡ walk-from (look-at edition-1 (sources (now (parent .entry)) (now (staged .entry)) «staged_count» (now (table .entry)) «table_count») target spend) from seen ⌝ }
+    requires { ⌜ («staged_count» * record-size edition ≤ length (now staged)) × («table_count» * record-size edition ≤ length (now table)) × (from < 2147483648)
+        × (distinct (keys (record-size edition) «table_count» (now table)) ≡ true) ⌝ }
+    ensures { λ r. ⌜ r ≡ walk-from (look-at (edition-of edition) (sources (now (parent .entry)) (now (staged .entry)) «staged_count» (now (table .entry)) «table_count») target spend) from seen ⌝ }
 {
     let mut low = from;
     let mut saw = seen;
     while 0 < low {
         low -= 1;
         let look = look_at(
+            edition,
             parent,
             low,
             staged,

@@ -80,10 +80,10 @@ module _ (E : St.Env) (code : Coded E) (U : Series → ℕ → Type 0) (σ : St.
   pub append-not : (ch : Series) (n : ℤ) → Not25 (St.append-store E σ ch n)
   append-not ch (negsuc k) = λ e. omega arith
   append-not ch (pos m) =
-      let spill = then-do (St.stage E σ (key ch (σ .counts ch)) (enc ch (σ .heads ch))) (λ t. done (St.spilled E σ ch (pos m) t)) in
+      let spill = then-do (St.stage E σ (key ch (σ .counts ch)) (enc ch (σ .counts ch) (σ .heads ch))) (λ t. done (St.spilled E σ ch (pos m) t)) in
       ite-both Not25 (decLe (length (σ .heads ch)) r) (done (St.with-head E σ ch (σ .heads ch ++ (pos m ∷ [])))) _ tt
       (ite-both Not25 (ℕ-discrete (σ .counts ch) max-count) (refused 18) spill (λ e. omega arith)
-      (and-then-not (St.stage E σ (key ch (σ .counts ch)) (enc ch (σ .heads ch))) (λ t. done (St.spilled E σ ch (pos m) t)) (stage-not (key ch (σ .counts ch)) (enc ch (σ .heads ch))) (λ t e. tt)))
+      (and-then-not (St.stage E σ (key ch (σ .counts ch)) (enc ch (σ .counts ch) (σ .heads ch))) (λ t. done (St.spilled E σ ch (pos m) t)) (stage-not (key ch (σ .counts ch)) (enc ch (σ .counts ch) (σ .heads ch))) (λ t e. tt)))
 
   check-not : (F : Res (List ℤ)) → FullRow lim r F → Not25 (St.checked-store-row E F)
   check-not (refused k) f = let z = f .1 in absurd (let y : _≡_ {A = ℕ} 0 1 = cc in omega arith)

@@ -48,9 +48,10 @@ module _ (E : St.Env) (code : Coded E) (U : Series → ℕ → Type 0) (apart : 
       → Flipped σ ch e (St.with-staging E σ (Tb.put Row Key key-dec (σ .staging) (key ch s) (St.redone E σ ch s new)))
   flip-row σ ch e s row new G b a h cap = record {
     good = record {
-      full = λ d t l. Gs.full-put-any E code U (σ .staging) (σ .table) ch d (key ch s) (key d t) (St.redone E σ ch s new) new reads size little (who d t l (key-dec (key ch s) (key d t)));
+      full = λ d t l. Gs.full-put-any E code U (σ .staging) (σ .table) ch d s t (key ch s) (key d t) (St.redone E σ ch s new) new reads size little (who d t l (key-dec (key ch s) (key d t)));
       used = G .used;
       kept = G .kept;
+      counted = G .counted;
       fits = G .fits;
       small = G .small;
       one-staged = Tb.distinct-put Row Key key-dec (σ .staging) (key ch s) (St.redone E σ ch s new) (G .one-staged);
@@ -64,7 +65,7 @@ module _ (E : St.Env) (code : Coded E) (U : Series → ℕ → Type 0) (apart : 
         (subst (λ (x : List ℤ). Split e (flat (St.store-row E σ ch) s ++ (row-or (St.store-row E σ ch s) ++ p .rest)) x) (sym there)
         (Se.split-in (flat (St.store-row E σ ch) s) (p .rest) (subst (λ (x : Res (List ℤ)). Split e (row-or x) new) (sym a) sp))));
     beside = λ d q. ap (λ (x : List ℤ). x ++ σ .heads d) (Se.flat-cong (St.store-row E τ d) (St.store-row E σ d) (σ .counts d)
-        (λ t l. ap (St.decoded E d) (Gs.view-put-other E code U (σ .staging) (σ .table) (key ch s) (key d t) (St.redone E σ ch s new) (λ k. q (apart ch d s t (G .used ch s b) (G .used d t l) k .0)))));
+        (λ t l. ap (St.decoded E d t) (Gs.view-put-other E code U (σ .staging) (σ .table) (key ch s) (key d t) (St.redone E σ ch s new) (λ k. q (apart ch d s t (G .used ch s b) (G .used d t l) k .0)))));
   }
     where
       τ : St.Store E
@@ -79,22 +80,22 @@ module _ (E : St.Env) (code : Coded E) (U : Series → ℕ → Type 0) (apart : 
       little : Small lim new
       little = let g = G .full ch s b in let z : g .0 ≡ row = cc in small-split sp (subst (Small lim) z (g .3))
 
-      reads : dec ch (St.redone E σ ch s new) ≡ done new
-      reads = Gs.redo-found E code U ch (St.view E (σ .staging) (σ .table) (key ch s)) row new a (omega (arith, size)) little
+      reads : dec ch s (St.redone E σ ch s new) ≡ done new
+      reads = Gs.redo-found E code U ch s (St.view E (σ .staging) (σ .table) (key ch s)) row new (omega (arith, b, G .counted ch)) a (omega (arith, size)) little
 
-      who : (d : Series) (t : ℕ) → t < σ .counts d → Dec (key ch s ≡ key d t) → (FullRow lim r (St.store-row E σ d t) × (key ch s ≢ key d t)) ⊎ ((ch ≡ d) × (key ch s ≡ key d t))
-      who d t l (yes k) = inr (apart ch d s t (G .used ch s b) (G .used d t l) k .0, k)
+      who : (d : Series) (t : ℕ) → t < σ .counts d → Dec (key ch s ≡ key d t) → (FullRow lim r (St.store-row E σ d t) × (key ch s ≢ key d t)) ⊎ ((ch ≡ d) × (s ≡ t) × (key ch s ≡ key d t))
+      who d t l (yes k) = let a = apart ch d s t (G .used ch s b) (G .used d t l) k in inr (a .0, a .1, k)
       who d t l (no n) = inl (G .full d t l, n)
 
       p : Se.Parts (St.store-row E σ ch) (σ .counts ch) s
       p = Se.flat-parts (St.store-row E σ ch) (σ .counts ch) s b
 
       other : (t : ℕ) → t < σ .counts ch → t ≢ s → St.store-row E τ ch t ≡ St.store-row E σ ch t
-      other t l n = ap (St.decoded E ch) (Gs.view-put-other E code U (σ .staging) (σ .table) (key ch s) (key ch t) (St.redone E σ ch s new) (λ k. n (sym (apart ch ch s t (G .used ch s b) (G .used ch t l) k .1))))
+      other t l n = ap (St.decoded E ch t) (Gs.view-put-other E code U (σ .staging) (σ .table) (key ch s) (key ch t) (St.redone E σ ch s new) (λ k. n (sym (apart ch ch s t (G .used ch s b) (G .used ch t l) k .1))))
 
       there : flat (St.store-row E τ ch) (σ .counts ch) ≡ flat (St.store-row E σ ch) s ++ (new ++ p .rest)
       there = p .alike (St.store-row E τ ch) (λ t x y. other t y (λ z. omega arith))
-          ∙ (λ i. Se.flat-cong (St.store-row E τ ch) (St.store-row E σ ch) s (λ t x. other t (omega arith) (λ z. omega arith)) i ++ (row-or (Gs.read-put-any E code U (σ .staging) (σ .table) ch (key ch s) (St.redone E σ ch s new) new reads i) ++ p .rest))
+          ∙ (λ i. Se.flat-cong (St.store-row E τ ch) (St.store-row E σ ch) s (λ t x. other t (omega arith) (λ z. omega arith)) i ++ (row-or (Gs.read-put-any E code U (σ .staging) (σ .table) ch s (key ch s) (St.redone E σ ch s new) new reads i) ++ p .rest))
 
   flip-staged : (σ : St.Store E) (ch : Series) (e : ℤ) (h : Hit) (τ : St.Store E) (X : Res (St.Table E)) → Good σ → (n : ℕ) → n ≤ σ .counts ch → Se.Stopped r (St.read-row E σ ch) e n h → St.stage E σ (key ch (h .at)) (St.redone E σ ch (h .at) (h .new)) ≡ X
       → then-do X (λ t. done (St.with-staging E σ t)) ≡ done τ → Flipped σ ch e τ

@@ -33,9 +33,10 @@ module _ (E : St.Env) (code : Coded E) (U : Series → ℕ → Type 0) (apart : 
   flush-good : (σ : St.Store E) → Good σ → (table-cap < length (σ .table) + Tb.fresh Row Key key-dec (σ .staging) (σ .deletion) (σ .table) → ⊥) → Flushed σ (St.flushed E σ)
   flush-good σ G ok = record {
     good = record {
-      full = λ d s h. let g = G .full d s h in (g .0, ap (St.decoded E d) (view-flush σ (key d s) G (G .kept d s h)) ∙ g .1, g .2, g .3);
+      full = λ d s h. let g = G .full d s h in (g .0, ap (St.decoded E d s) (view-flush σ (key d s) G (G .kept d s h)) ∙ g .1, g .2, g .3);
       used = G .used;
       kept = λ d s h i. i;
+      counted = G .counted;
       fits = G .fits;
       small = G .small;
       one-staged = tt;
@@ -45,7 +46,7 @@ module _ (E : St.Env) (code : Coded E) (U : Series → ℕ → Type 0) (apart : 
       cap-deleted = omega arith;
     };
     tidy = refl;
-    same = λ ch. ap (λ (x : List ℤ). x ++ σ .heads ch) (Se.flat-cong (St.store-row E (St.flushed E σ) ch) (St.store-row E σ ch) (σ .counts ch) (λ s h. ap (St.decoded E ch) (view-flush σ (key ch s) G (G .kept ch s h))));
+    same = λ ch. ap (λ (x : List ℤ). x ++ σ .heads ch) (Se.flat-cong (St.store-row E (St.flushed E σ) ch) (St.store-row E σ ch) (σ .counts ch) (λ s h. ap (St.decoded E ch s) (view-flush σ (key ch s) G (G .kept ch s h))));
   }
 
   pub flush-ok : (σ τ : St.Store E) → Good σ → St.flush-store E σ ≡ done τ → Flushed σ τ

@@ -55,8 +55,8 @@ full-length lim r f h = ap (λ x. length (row-or x)) (h .1) ∙ h .2
 
 -- what is asked of the coding
 pub record Coded (E : St.Env) : Type 0 where
-  pub plain : (ch : Series) (l : List ℤ) → length l ≤ suc (E .r) → Small (E .lim) l → E .dec ch (E .enc ch l) ≡ done l
-  pub again : (ch : Series) (b : E .Row) (l new : List ℤ) → E .dec ch b ≡ done l → length new ≤ suc (E .r) → Small (E .lim) new → E .dec ch (E .redo ch b new) ≡ done new
+  pub plain : (ch : Series) (s : ℕ) (l : List ℤ) → s < E .max-count → length l ≤ suc (E .r) → Small (E .lim) l → E .dec ch s (E .enc ch s l) ≡ done l
+  pub again : (ch : Series) (s : ℕ) (b : E .Row) (l new : List ℤ) → s < E .max-count → E .dec ch s b ≡ done l → length new ≤ suc (E .r) → Small (E .lim) new → E .dec ch s (E .redo ch s b new) ≡ done new
 
 module _ (E : St.Env) (code : Coded E) where
   open St.Env E using (r, lim, Key, key-dec, key, Row, enc, dec, redo, table-cap, staged-cap, deleted-cap, max-count)
@@ -132,6 +132,7 @@ module _ (E : St.Env) (code : Coded E) where
       pub full : (ch : Series) (s : ℕ) → s < σ .counts ch → FullRow lim r (store-row σ ch s)
       pub used : (ch : Series) (s : ℕ) → s < σ .counts ch → U ch s
       pub kept : (ch : Series) (s : ℕ) → s < σ .counts ch → In (key ch s) (σ .deletion) → ⊥
+      pub counted : (ch : Series) → σ .counts ch ≤ max-count
       pub fits : (ch : Series) → length (σ .heads ch) ≤ suc r
       pub small : (ch : Series) → Small lim (σ .heads ch)
       pub one-staged : Distinct (σ .staging)
@@ -153,6 +154,7 @@ module _ (E : St.Env) (code : Coded E) where
       full = G .full;
       used = G .used;
       kept = G .kept;
+      counted = G .counted;
       fits = λ d. ite-both (λ (x : List ℤ). length x ≤ suc r) (series-dec ch d) l (σ .heads d) h (G .fits d);
       small = λ d. ite-both (Small lim) (series-dec ch d) l (σ .heads d) sm (G .small d);
       one-staged = G .one-staged;
@@ -179,28 +181,28 @@ module _ (E : St.Env) (code : Coded E) where
     pub view-put-other : (a b : Table) (k j : Key) (l : Row) → k ≢ j → view (put a k l) b j ≡ view a b j
     view-put-other a b k j l n = ap (λ x. or-else x (Tb.lookup Row Key key-dec b j)) (Tb.lookup-put-other Row Key key-dec a k j l n)
 
-    abbrev decoded : Series → Found Row → Res (List ℤ)
-    decoded ch f = St.decoded E ch f
+    abbrev decoded : Series → ℕ → Found Row → Res (List ℤ)
+    decoded ch s f = St.decoded E ch s f
 
-    pub read-put-same : (a b : Table) (ch : Series) (k : Key) (l : List ℤ) → length l ≤ suc r → Small lim l → decoded ch (view (put a k (enc ch l)) b k) ≡ done l
-    read-put-same a b ch k l h sm = ap (decoded ch) (view-put-same a b k (enc ch l)) ∙ code .plain ch l h sm
+    pub read-put-same : (a b : Table) (ch : Series) (s : ℕ) (k : Key) (l : List ℤ) → s < max-count → length l ≤ suc r → Small lim l → decoded ch s (view (put a k (enc ch s l)) b k) ≡ done l
+    read-put-same a b ch s k l u h sm = ap (decoded ch s) (view-put-same a b k (enc ch s l)) ∙ code .plain ch s l u h sm
 
-    pub full-put : (a b : Table) (ch d : Series) (k j : Key) (l : List ℤ) → length l ≡ suc r → Small lim l → (FullRow lim r (decoded d (view a b j)) × (k ≢ j)) ⊎ ((ch ≡ d) × (k ≡ j)) → FullRow lim r (decoded d (view (put a k (enc ch l)) b j))
-    full-put a b ch d k j l h sm f =
-        ⊎-elim (λ g. (g .0 .0, ap (decoded d) (view-put-other a b k j (enc ch l) (g .1)) ∙ g .0 .1, g .0 .2, g .0 .3))
-        (λ q. (l, (λ i. decoded (sym (q .0) i) (view (put a k (enc ch l)) b (sym (q .1) i))) ∙ read-put-same a b ch k l (omega arith) sm, h, sm)) f
+    pub full-put : (a b : Table) (ch d : Series) (s t : ℕ) (k j : Key) (l : List ℤ) → s < max-count → length l ≡ suc r → Small lim l → (FullRow lim r (decoded d t (view a b j)) × (k ≢ j)) ⊎ ((ch ≡ d) × (s ≡ t) × (k ≡ j)) → FullRow lim r (decoded d t (view (put a k (enc ch s l)) b j))
+    full-put a b ch d s t k j l u h sm f =
+        ⊎-elim (λ g. (g .0 .0, ap (decoded d t) (view-put-other a b k j (enc ch s l) (g .1)) ∙ g .0 .1, g .0 .2, g .0 .3))
+        (λ q. (l, (λ i. decoded (sym (q .0) i) (sym (q .1) i) (view (put a k (enc ch s l)) b (sym (q .2) i))) ∙ read-put-same a b ch s k l u (omega arith) sm, h, sm)) f
 
-    pub read-put-any : (a b : Table) (ch : Series) (k : Key) (y : Row) (l : List ℤ) → dec ch y ≡ done l → decoded ch (view (put a k y) b k) ≡ done l
-    read-put-any a b ch k y l e = ap (decoded ch) (view-put-same a b k y) ∙ e
+    pub read-put-any : (a b : Table) (ch : Series) (s : ℕ) (k : Key) (y : Row) (l : List ℤ) → dec ch s y ≡ done l → decoded ch s (view (put a k y) b k) ≡ done l
+    read-put-any a b ch s k y l e = ap (decoded ch s) (view-put-same a b k y) ∙ e
 
-    pub full-put-any : (a b : Table) (ch d : Series) (k j : Key) (y : Row) (l : List ℤ) → dec ch y ≡ done l → length l ≡ suc r → Small lim l → (FullRow lim r (decoded d (view a b j)) × (k ≢ j)) ⊎ ((ch ≡ d) × (k ≡ j)) → FullRow lim r (decoded d (view (put a k y) b j))
-    full-put-any a b ch d k j y l e h sm f =
-        ⊎-elim (λ g. (g .0 .0, ap (decoded d) (view-put-other a b k j y (g .1)) ∙ g .0 .1, g .0 .2, g .0 .3))
-        (λ q. (l, (λ i. decoded (sym (q .0) i) (view (put a k y) b (sym (q .1) i))) ∙ read-put-any a b ch k y l e, h, sm)) f
+    pub full-put-any : (a b : Table) (ch d : Series) (s t : ℕ) (k j : Key) (y : Row) (l : List ℤ) → dec ch s y ≡ done l → length l ≡ suc r → Small lim l → (FullRow lim r (decoded d t (view a b j)) × (k ≢ j)) ⊎ ((ch ≡ d) × (s ≡ t) × (k ≡ j)) → FullRow lim r (decoded d t (view (put a k y) b j))
+    full-put-any a b ch d s t k j y l e h sm f =
+        ⊎-elim (λ g. (g .0 .0, ap (decoded d t) (view-put-other a b k j y (g .1)) ∙ g .0 .1, g .0 .2, g .0 .3))
+        (λ q. (l, (λ i. decoded (sym (q .0) i) (sym (q .1) i) (view (put a k y) b (sym (q .2) i))) ∙ read-put-any a b ch s k y l e, h, sm)) f
 
     abbrev redone : Store → Series → ℕ → List ℤ → Row
     redone σ ch s new = St.redone E σ ch s new
 
-    pub redo-found : (ch : Series) (f : Found Row) (l new : List ℤ) → decoded ch f ≡ done l → length new ≤ suc r → Small lim new → dec ch (St.found-redone E ch f new) ≡ done new
-    redo-found ch missing l new e h sm = absurd (done≢refused (sym e))
-    redo-found ch (found b) l new e h sm = code .again ch b l new e h sm
+    pub redo-found : (ch : Series) (s : ℕ) (f : Found Row) (l new : List ℤ) → s < max-count → decoded ch s f ≡ done l → length new ≤ suc r → Small lim new → dec ch s (St.found-redone E ch s f new) ≡ done new
+    redo-found ch s missing l new u e h sm = absurd (done≢refused (sym e))
+    redo-found ch s (found b) l new u e h sm = code .again ch s b l new u e h sm

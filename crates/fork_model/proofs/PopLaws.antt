@@ -22,7 +22,7 @@ use Rattle.fork_model.proofs.GoodStore.{ite-both, Small, FullRow, Coded
 use Rattle.fork_model.proofs.GoodStore as Gs
 
 module _ (E : St.Env) (code : Coded E) (U : Series → ℕ → Type 0) (apart : (d e : Series) (s t : ℕ) → U d s → U e t → E .key d s ≡ E .key e t → (d ≡ e) × (s ≡ t)) where
-  open St.Env E using (r, lim, Key, key-dec, key, Row, deleted-cap)
+  open St.Env E using (r, lim, Key, key-dec, key, Row, deleted-cap, max-count)
 
   abbrev Good : St.Store E → Type 0
   Good σ = Gs.Good E code U σ
@@ -55,8 +55,8 @@ module _ (E : St.Env) (code : Coded E) (U : Series → ℕ → Type 0) (apart : 
       go (yes q) = absurd (ok (q, n))
       go (no q) = omega (arith, q, length-append ks (k ∷ []))
 
-  view-remove : (a b : St.Table E) (ch : Series) (k j : Key) → Tb.Distinct Row Key key-dec a → k ≢ j → St.decoded E ch (St.view E (Tb.remove Row Key key-dec a k) b j) ≡ St.decoded E ch (St.view E a b j)
-  view-remove a b ch k j d n = ap (λ x. St.decoded E ch (or-else x (Tb.lookup Row Key key-dec b j))) (Tb.lookup-remove-other Row Key key-dec a k j d n)
+  view-remove : (a b : St.Table E) (ch : Series) (s : ℕ) (k j : Key) → Tb.Distinct Row Key key-dec a → k ≢ j → St.decoded E ch s (St.view E (Tb.remove Row Key key-dec a k) b j) ≡ St.decoded E ch s (St.view E a b j)
+  view-remove a b ch s k j d n = ap (λ x. St.decoded E ch s (or-else x (Tb.lookup Row Key key-dec b j))) (Tb.lookup-remove-other Row Key key-dec a k j d n)
 
   -- the rows that are live after row s of ch was merged back
   left : (σ : St.Store E) (ch d : Series) (s t : ℕ) → Good σ → σ .counts ch ≡ suc s → (w : Dec (ch ≡ d)) → t < ite w s (σ .counts d) → (t < σ .counts d) × (key ch s ≢ key d t)
@@ -71,10 +71,11 @@ module _ (E : St.Env) (code : Coded E) (U : Series → ℕ → Type 0) (apart : 
   pop-merged σ ch s l f v G hd c e q ok = record {
     good = record {
       full = λ d t h. let a = left σ ch d s t G c (series-dec ch d) h in let g = G .full d t (a .0) in
-          (g .0, view-remove (σ .staging) (σ .table) d (key ch s) (key d t) (G .one-staged) (a .1) ∙ g .1, g .2, g .3);
+          (g .0, view-remove (σ .staging) (σ .table) d t (key ch s) (key d t) (G .one-staged) (a .1) ∙ g .1, g .2, g .3);
       used = λ d t h. G .used d t (left σ ch d s t G c (series-dec ch d) h .0);
       kept = λ d t h i. let a = left σ ch d s t G c (series-dec ch d) h in
           ⊎-elim (G .kept d t (a .0)) (a .1) (in-add (Tb.in-dec Row Key key-dec (key ch s) (σ .deletion)) (key d t) (key ch s) (σ .deletion) i);
+      counted = λ d. ite-both (λ (x : ℕ). x ≤ max-count) (series-dec ch d) s (σ .counts d) (omega (arith, c, G .counted ch)) (G .counted d);
       fits = λ d. ite-both (λ (x : List ℤ). length x ≤ suc r) (series-dec ch d) f (σ .heads d) short (G .fits d);
       small = λ d. ite-both (Small lim) (series-dec ch d) f (σ .heads d) little (G .small d);
       one-staged = Tb.distinct-remove Row Key key-dec (σ .staging) (key ch s) (G .one-staged);
@@ -87,7 +88,7 @@ module _ (E : St.Env) (code : Coded E) (U : Series → ℕ → Type 0) (apart : 
         ∙ sym (append-assoc (flat (St.store-row E σ ch) s) f (v ∷ [])) ∙ ap (λ (x : List ℤ). x ++ (v ∷ [])) (sym after);
     beside = λ d n. (λ i. flat (St.store-row E (St.merged E σ ch s f) d) (ite-no (series-dec ch d) s (σ .counts d) n i) ++ ite-no (series-dec ch d) f (σ .heads d) n i)
         ∙ ap (λ (x : List ℤ). x ++ σ .heads d) (Se.flat-cong (St.store-row E (St.merged E σ ch s f) d) (St.store-row E σ d) (σ .counts d)
-        (λ t h. view-remove (σ .staging) (σ .table) d (key ch s) (key d t) (G .one-staged) (λ k. n (apart ch d s t (G .used ch s (omega arith)) (G .used d t h) k .0))));
+        (λ t h. view-remove (σ .staging) (σ .table) d t (key ch s) (key d t) (G .one-staged) (λ k. n (apart ch d s t (G .used ch s (omega arith)) (G .used d t h) k .0))));
   }
     where
       short : length f ≤ suc r
@@ -99,7 +100,7 @@ module _ (E : St.Env) (code : Coded E) (U : Series → ℕ → Type 0) (apart : 
       after : St.entries E (St.merged E σ ch s f) ch ≡ flat (St.store-row E σ ch) s ++ f
       after = (λ i. flat (St.store-row E (St.merged E σ ch s f) ch) (ite-yes (series-dec ch ch) s (σ .counts ch) refl i) ++ ite-yes (series-dec ch ch) f (σ .heads ch) refl i)
           ∙ ap (λ (x : List ℤ). x ++ f) (Se.flat-cong (St.store-row E (St.merged E σ ch s f) ch) (St.store-row E σ ch) s
-          (λ t h. view-remove (σ .staging) (σ .table) ch (key ch s) (key ch t) (G .one-staged)
+          (λ t h. view-remove (σ .staging) (σ .table) ch t (key ch s) (key ch t) (G .one-staged)
           (λ k. let z : s ≡ t = apart ch ch s t (G .used ch s (omega arith)) (G .used ch t (omega arith)) k .1 in omega arith)))
 
   -- what pop answers

@@ -44,27 +44,27 @@ module _ (E : St.Env) (code : Gs.Coded E) where
   -- ---- append: refused only where the number of rows is the greatest or staging is full
   module _ (σ : Store) (ch : Series) (m : ℕ) where
     abbrev spill : Res Store
-    spill = then-do (St.stage E σ (key ch (σ .counts ch)) (enc ch (σ .heads ch))) (λ t. done (St.spilled E σ ch (pos m) t))
+    spill = then-do (St.stage E σ (key ch (σ .counts ch)) (enc ch (σ .counts ch) (σ .heads ch))) (λ t. done (St.spilled E σ ch (pos m) t))
 
     abbrev at-count : Res Store
     at-count = ite (ℕ-discrete (σ .counts ch) max-count) (refused 18) spill
 
-    staged-no : (k : ℕ) (X : Res (St.Table E)) → St.stage E σ (key ch (σ .counts ch)) (enc ch (σ .heads ch)) ≡ X → then-do X (λ t. done (St.spilled E σ ch (pos m) t)) ≡ refused k → staged-cap ≤ length (σ .staging)
+    staged-no : (k : ℕ) (X : Res (St.Table E)) → St.stage E σ (key ch (σ .counts ch)) (enc ch (σ .counts ch) (σ .heads ch)) ≡ X → then-do X (λ t. done (St.spilled E σ ch (pos m) t)) ≡ refused k → staged-cap ≤ length (σ .staging)
     staged-no k (done t) e h = absurd (done≢refused h)
-    staged-no k (refused j) e h = Gs.stage-refused E code σ (key ch (σ .counts ch)) (enc ch (σ .heads ch)) j e .1
+    staged-no k (refused j) e h = Gs.stage-refused E code σ (key ch (σ .counts ch)) (enc ch (σ .counts ch) (σ .heads ch)) j e .1
 
     pub append-accepted : (k : ℕ) → (σ .counts ch ≡ max-count → ⊥) → length (σ .staging) < staged-cap → St.append-store E σ ch (pos m) ≡ refused k → ⊥
     append-accepted k c s e =
         ite-cases (decLe (length (σ .heads ch)) r) (done (St.with-head E σ ch (σ .heads ch ++ (pos m ∷ [])))) at-count (refused k) e (λ a b. done≢refused b)
-        (λ a b. ite-cases (ℕ-discrete (σ .counts ch) max-count) (refused 18) spill (refused k) b (λ x y. c x) (λ x y. omega (arith, staged-no k (St.stage E σ (key ch (σ .counts ch)) (enc ch (σ .heads ch))) refl y)))
+        (λ a b. ite-cases (ℕ-discrete (σ .counts ch) max-count) (refused 18) spill (refused k) b (λ x y. c x) (λ x y. omega (arith, staged-no k (St.stage E σ (key ch (σ .counts ch)) (enc ch (σ .counts ch) (σ .heads ch))) refl y)))
 
     pub append-room : (n : ℕ) (τ : Store) → Room n σ → St.append-store E σ ch (pos m) ≡ done τ → Room (suc n) τ
     append-room n τ R e =
         ite-cases (decLe (length (σ .heads ch)) r) (done (St.with-head E σ ch (σ .heads ch ++ (pos m ∷ [])))) at-count (done τ) e
         (λ a b. subst (Room (suc n)) (done-is b) (record { rows = omega (arith, R .rows); deleted = omega (arith, R .deleted) }))
         (λ a b. ite-cases (ℕ-discrete (σ .counts ch) max-count) (refused 18) spill (done τ) b (λ x y. absurd (done≢refused (sym y)))
-        (λ x y. let w = and-then (St.stage E σ (key ch (σ .counts ch)) (enc ch (σ .heads ch))) (λ t. done (St.spilled E σ ch (pos m) t)) τ y in
-        subst (Room (suc n)) (done-is (w .2)) (more-staged n σ (St.spilled E σ ch (pos m) (w .0)) R (stage-length σ (key ch (σ .counts ch)) (enc ch (σ .heads ch)) (w .0) (w .1)) refl refl)))
+        (λ x y. let w = and-then (St.stage E σ (key ch (σ .counts ch)) (enc ch (σ .counts ch) (σ .heads ch))) (λ t. done (St.spilled E σ ch (pos m) t)) τ y in
+        subst (Room (suc n)) (done-is (w .2)) (more-staged n σ (St.spilled E σ ch (pos m) (w .0)) R (stage-length σ (key ch (σ .counts ch)) (enc ch (σ .counts ch) (σ .heads ch)) (w .0) (w .1)) refl refl)))
 
   -- ---- spend and unspend
   module _ (σ : Store) (ch : Series) (e : ℤ) (n : ℕ) (R : Room n σ) (τ : Store) where

@@ -115,10 +115,11 @@ pub record Env : Type 1 where
   pub key-dec : Discrete Key
   pub key : Series → ℕ → Key
   pub Row : Type 0
-  pub enc : Series → List ℤ → Row
-  pub dec : Series → Row → Res (List ℤ)
+  -- a row may say which spill it is of: the series and the spill number
+  pub enc : Series → ℕ → List ℤ → Row
+  pub dec : Series → ℕ → Row → Res (List ℤ)
   -- a row that was read, with other numbers of its kind
-  pub redo : Series → Row → List ℤ → Row
+  pub redo : Series → ℕ → Row → List ℤ → Row
   pub table-cap : ℕ
   pub staged-cap : ℕ
   pub deleted-cap : ℕ
@@ -143,13 +144,13 @@ module _ (E : Env) where
   abbrev pub view : Table → Table → Key → Found Row
   view a b k = or-else (Tb.lookup Row Key key-dec a k) (Tb.lookup Row Key key-dec b k)
 
-  abbrev pub decoded : Series → Found Row → Res (List ℤ)
-  decoded ch missing = refused 12
-  decoded ch (found b) = dec ch b
+  abbrev pub decoded : Series → ℕ → Found Row → Res (List ℤ)
+  decoded ch s missing = refused 12
+  decoded ch s (found b) = dec ch s b
 
   -- a row as inspection shows it, read
   abbrev pub store-row : Store → Series → ℕ → Res (List ℤ)
-  store-row σ ch s = decoded ch (view (σ .staging) (σ .table) (key ch s))
+  store-row σ ch s = decoded ch s (view (σ .staging) (σ .table) (key ch s))
 
   abbrev pub entries : Store → Series → List ℤ
   entries σ ch = flat (store-row σ ch) (σ .counts ch) ++ σ .heads ch
@@ -178,7 +179,7 @@ module _ (E : Env) where
   append-store σ ch (pos m) =
       ite (decLe (length (σ .heads ch)) r) (done (with-head σ ch (σ .heads ch ++ (pos m ∷ []))))
       (ite (ℕ-discrete (σ .counts ch) max-count) (refused 18)
-      (then-do (stage σ (key ch (σ .counts ch)) (enc ch (σ .heads ch))) (λ t. done (spilled σ ch (pos m) t))))
+      (then-do (stage σ (key ch (σ .counts ch)) (enc ch (σ .counts ch) (σ .heads ch))) (λ t. done (spilled σ ch (pos m) t))))
 
   -- POP
   abbrev pub add-key : Key → List Key → List Key
@@ -225,13 +226,13 @@ module _ (E : Env) where
   abbrev pub with-staging : Store → Table → Store
   with-staging σ t = record { heads = σ .heads; counts = σ .counts; staging = t; table = σ .table; deletion = σ .deletion }
 
-  abbrev pub found-redone : Series → Found Row → List ℤ → Row
-  found-redone ch missing new = enc ch new
-  found-redone ch (found b) new = redo ch b new
+  abbrev pub found-redone : Series → ℕ → Found Row → List ℤ → Row
+  found-redone ch s missing new = enc ch s new
+  found-redone ch s (found b) new = redo ch s b new
 
   -- the row as inspection shows it, with other numbers
   abbrev pub redone : Store → Series → ℕ → List ℤ → Row
-  redone σ ch s new = found-redone ch (view (σ .staging) (σ .table) (key ch s)) new
+  redone σ ch s new = found-redone ch s (view (σ .staging) (σ .table) (key ch s)) new
 
   abbrev pub flip-rows : Store → Series → ℤ → Res Store
   flip-rows σ ch e =

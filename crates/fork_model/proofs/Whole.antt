@@ -83,7 +83,7 @@ module _ (E : St.Env) (B : Balances) where
         credits = BL .credits;
         debits = BL .debits;
       };
-      empty-good = record { full = λ ch s h. absurd (omega arith); used = λ ch s h. absurd (omega arith); kept = λ ch s h i. i; fits = λ ch. omega arith; small = λ ch x t. absurd (List·Memᴰ·not-nil t); one-staged = tt; one-table = tt; cap-staged = omega arith; cap-table = omega arith; cap-deleted = omega arith };
+      empty-good = record { full = λ ch s h. absurd (omega arith); used = λ ch s h. absurd (omega arith); kept = λ ch s h i. i; counted = λ ch. omega arith; fits = λ ch. omega arith; small = λ ch x t. absurd (List·Memᴰ·not-nil t); one-staged = tt; one-table = tt; cap-staged = omega arith; cap-table = omega arith; cap-deleted = omega arith };
       empty-tidy = refl;
       empty-entries = λ ch. refl;
       append-ok = λ σ ch n τ G t v e u. Al.append-ok E code U apart σ ch n τ G t v (sym (result-keeping σ (St.append-store E σ ch n)) ∙ e) u;

@@ -29,7 +29,7 @@ use Rattle.buffer_core.specs.Spills.{head-ok}
 use Rattle.buffer_core.specs.Append.{Appending, appending, counts-of, one-number, counts-with, bytes-with, spilled, spill-of, append-core, append-ok, append-of}
 use Rattle.buffer_core.specs.Pop.{Lists, lists-ok}
 use Rattle.buffer_core.proofs.ListLaws.{ListsFit, lists-fit, fit-lists}
-use Rattle.ledger.specs.Ledger.{Parent, Series, series-dec, ite, id-dec}
+use Rattle.ledger.specs.Ledger.{parent-of, Parent, Series, series-dec, ite, id-dec}
 use Rattle.ledger.specs.Run.{Res, done, refused}
 use Rattle.fork_model.proofs.Store as St
 use Rattle.fork_model.proofs.Store.{then-do}
@@ -38,7 +38,8 @@ use Rattle.fork_model.proofs.Results.{map-res, result-of}
 use Rattle.history.specs.Index.{Part, part, Index, index, kind-of, set-part, with-staged, after-append, id-of, do-append}
 use Rattle.history.proofs.Tables.{Table, tab, put}
 use Rattle.history.proofs.State as S
-use Rattle.history.proofs.State.{Small, EditionLaws, HeadFits, head-fits, fit-head, push-to, all-set, same-set, Capacities, head-of, spills-of}
+use Rattle.history.specs.EditionLaws.{Small, EditionLaws}
+use Rattle.history.proofs.State.{HeadFits, head-fits, fit-head, push-to, all-set, same-set, Capacities, head-of, spills-of}
 use Rattle.history.proofs.Lists.{full-is, put-table}
 
 -- ---- heads
@@ -54,7 +55,7 @@ pub first-one : (n : ℤ) (head : List ℤ) → take 1 (one-number n head) ≡ n
 unfolding write
 first-one n head = refl
 
-module _ (E : Edition) (L : EditionLaws E) (ids : Parent → List ℕ) (caps : Capacities) where
+module _ (E : Edition) (ids : Parent → List ℕ) (L : EditionLaws E ids) (caps : Capacities) where
   abbrev W : St.Env
   W = S.env E ids caps
 
@@ -84,7 +85,7 @@ module _ (E : Edition) (L : EditionLaws E) (ids : Parent → List ℕ) (caps : C
     key = E .key kind (id-of E ids ch) (pos spills)
 
     abbrev row : List ℕ
-    row = E .encode kind (take 512 (p .places))
+    row = E .encode kind (id-of E ids ch) (pos spills) (take 512 (p .places))
 
     abbrev end : Appending → Res Index
     end o = result-of (after-append b ch (o .answer) (o .head) (o .staged))
@@ -118,40 +119,40 @@ module _ (E : Edition) (L : EditionLaws E) (ids : Parent → List ℕ) (caps : C
 
     -- a spill
     abbrev spill : ℤ → Appending
-    spill n = spilled E kind key spills n c (p .places) l
+    spill n = spilled E kind key (id-of E ids ch) spills n c (p .places) l
 
-    short-row : len ≡ 512 → length row ≤ E .limit
-    short-row e = L .encode-length kind (take 512 (p .places)) (omega (arith, length-take-le 512 (p .places) (hf .places-in))) (λ x t. small x (rw e t))
+    short-row : len ≡ 512 → spills < 2147483647 → length row ≤ E .limit
+    short-row e s = L .encode-length kind (parent-of ch) spills (take 512 (p .places)) s (omega (arith, length-take-le 512 (p .places) (hf .places-in))) (λ x t. small x (rw e t))
 
-    spill-same : (n : ℤ) → len ≡ 512 → full-for (E .size) c key l ≡ false
-        → map-res abs (end (spill n)) ≡ done (St.spilled W (abs b) ch n (put (abs b .staging) key (E .encode kind (abs b .heads ch))))
+    spill-same : (n : ℤ) → len ≡ 512 → spills < 2147483647 → full-for (E .size) c key l ≡ false
+        → map-res abs (end (spill n)) ≡ done (St.spilled W (abs b) ch n (put (abs b .staging) key (E .encode kind (id-of E ids ch) (pos spills) (abs b .heads ch))))
     unfolding spilled
-    spill-same n e f =
-        let w = short-row e in
+    spill-same n e u f =
+        let w = short-row e u in
         let v : Part = part (counts-of 1 (pos (spills + 1))) (one-number n (p .places)) in
         let heads = push-to head-of (b .parts) ch v (n ∷ []) (first-one n (p .places)) in
         let counts = push-to spills-of (b .parts) ch v (suc spills) (add-one spills) in
-        let rows : tab (records (E .size) (count-after (find-key key (keys (E .size) (c .count) l)) (c .count)) (bytes-with E key row c l)) ≡ put (abs b .staging) key (E .encode kind (abs b .heads ch))
+        let rows : tab (records (E .size) (count-after (find-key key (keys (E .size) (c .count) l)) (c .count)) (bytes-with E key row c l)) ≡ put (abs b .staging) key (E .encode kind (id-of E ids ch) (pos spills) (abs b .heads ch))
         = put-table (E .size) (E .limit) c key row l (L .key-length kind (id-of E ids ch) (pos spills)) (omega (arith, L .wide)) (omega (arith, L .wide, L .short)) f (lf .in-staged)
-        ∙ ap (λ (m : ℕ). put (abs b .staging) key (E .encode kind (take m (p .places)))) (sym e) in
+        ∙ ap (λ (m : ℕ). put (abs b .staging) key (E .encode kind (id-of E ids ch) (pos spills) (take m (p .places)))) (sym e) in
         λ i. done (record { heads = heads i; counts = counts i; staging = rows i; table = abs b .table; deletion = abs b .deletion })
 
     stage-is : (r : List ℕ) → St.stage W (abs b) key r ≡ cond (full-for (E .size) c key l) (refused 16) (done (put (abs b .staging) key r))
     stage-is r = full-is (E .size) c (caps .staged) key l (refused 16) (done (put (abs b .staging) key r)) (I .staged-at)
 
-    by-full : (n : ℤ) (t : Bool) → len ≡ 512 → full-for (E .size) c key l ≡ t
+    by-full : (n : ℤ) (t : Bool) → len ≡ 512 → spills < 2147483647 → full-for (E .size) c key l ≡ t
         → map-res abs (end (cond t (no-append 16) (spill n)))
-        ≡ then-do (cond t (refused 16) (done (put (abs b .staging) key (E .encode kind (abs b .heads ch))))) (λ (x : Table). done (St.spilled W (abs b) ch n x))
-    by-full n true e q = refl
-    by-full n false e q = spill-same n e q
+        ≡ then-do (cond t (refused 16) (done (put (abs b .staging) key (E .encode kind (id-of E ids ch) (pos spills) (abs b .heads ch))))) (λ (x : Table). done (St.spilled W (abs b) ch n x))
+    by-full n true e u q = refl
+    by-full n false e u q = spill-same n e u q
 
     by-count : (n : ℤ) (t : Bool) → len ≡ 512 → leb 2147483647 spills ≡ t
         → map-res abs (end (cond t (no-append 18) (cond (full-for (E .size) c key l) (no-append 16) (spill n))))
-        ≡ ite (ℕ-discrete spills 2147483647) (refused 18) (then-do (St.stage W (abs b) key (E .encode kind (abs b .heads ch))) (λ (x : Table). done (St.spilled W (abs b) ch n x)))
+        ≡ ite (ℕ-discrete spills 2147483647) (refused 18) (then-do (St.stage W (abs b) key (E .encode kind (id-of E ids ch) (pos spills) (abs b .heads ch))) (λ (x : Table). done (St.spilled W (abs b) ch n x)))
     by-count n true e q = sym (ite-yes (ℕ-discrete spills 2147483647) (refused 18) _ (omega (arith, leb-true 2147483647 spills q, I .spills-in ch)))
     by-count n false e q =
-        by-full n (full-for (E .size) c key l) e refl
-        ∙ ap (λ (x : Res Table). then-do x (λ (y : Table). done (St.spilled W (abs b) ch n y))) (sym (stage-is (E .encode kind (abs b .heads ch))))
+        by-full n (full-for (E .size) c key l) e (leb-false 2147483647 spills q) refl
+        ∙ ap (λ (x : Res Table). then-do x (λ (y : Table). done (St.spilled W (abs b) ch n y))) (sym (stage-is (E .encode kind (id-of E ids ch) (pos spills) (abs b .heads ch))))
         ∙ sym (ite-no (ℕ-discrete spills 2147483647) (refused 18) _ (λ d. omega (arith, leb-false 2147483647 spills q)))
 
     by-len : (m : ℕ) (t : Bool) → ltb len 512 ≡ t
@@ -196,7 +197,7 @@ module _ (E : Edition) (L : EditionLaws E) (ids : Parent → List ℕ) (caps : C
     spill-keeps : (n : ℤ) → len ≡ 512 → spills < 2147483647 → full-for (E .size) c key l ≡ false → Keeps (spill n)
     unfolding spilled
     spill-keeps n e s f d g =
-        let w = short-row e in
+        let w = short-row e s in
         let v : Part = part (counts-of 1 (pos (spills + 1))) (one-number n (p .places)) in
         let x : Index = index (set-part (b .parts) ch v) (with-staged (counts-with E key c l) (bytes-with E key row c l) (b .lists)) in
         let q : x ≡ d = cc in

@@ -5,7 +5,8 @@ use Prim.Native.Nat.{ℕ, _*_, _≤_, _<_}
 use native.Mathlib.Omega.{arith}
 use lib.IntN.{ℤ, pos}
 use lib.ListN.{length, replicate, length-replicate}
-use Rattle.buffer_core.specs.Edition.{edition-1}
+use Rattle.index_types.specs.declared.RowEdition.{RowEdition}
+use Rattle.buffer_core.specs.Edition.{edition-of, record-size}
 use Rattle.ledger.specs.Ledger.{Parent, boxes, absℤ, ledger-numbers, ledger-spent, Call}
 use Rattle.ledger.specs.Run.{negs, Machine, Conf, Legal, InUse, KeysApart, StepsOk, Agrees, start, run}
 use Rattle.balance.specs.declared.Balance.{Balance}
@@ -14,16 +15,17 @@ use Rattle.fork_model.proofs.Whole as Wh
 use Rattle.history.specs.Machine.{Borrowed}
 use Rattle.history.specs.ForkUndo.{Places, index-machine}
 use Rattle.history.specs.Example.{append-box, appends, across-a-row, left-standing, up-to, numbers-to}
-use Rattle.history.proofs.EditionOne.{edition-1-laws}
+use Rattle.history.proofs.Editions.{edition-laws}
 use Rattle.history.proofs.IndexTheorem as Ix
 use Rattle.history.proofs.ForkUndoLaw.{fork-undo}
 use Rattle.history.proofs.ExampleRules.{numbers-more, numbers-up-to, plain-up-to}
 use Rattle.history.proofs.ExampleRun as Er
 
--- for all parents' ids and all borrowed buffers in which each list has room for 600 records
-module _ (ids : Parent → List ℕ) (B : Borrowed edition-1) (s : Parent → Places) (table-room : 600 ≤ B .table-cap) (staged-room : 600 ≤ B .staged-cap) (deleted-room : 600 ≤ B .deleted-cap) where
+-- in either edition, for all parents' ids and all borrowed buffers in which each list has room for 600 records
+module _ (v : RowEdition) (ids : Parent → List ℕ) (ids-in : (p : Parent) → length (ids p) ≡ 32) (B : Borrowed (edition-of v)) (s : Parent → Places)
+    (table-room : 600 ≤ B .table-cap) (staged-room : 600 ≤ B .staged-cap) (deleted-room : 600 ≤ B .deleted-cap) where
   abbrev M : Machine
-  M = index-machine edition-1 ids B s
+  M = index-machine (edition-of v) ids B s
 
   abbrev ended : Conf M
   ended = run M (start M) across-a-row
@@ -34,15 +36,15 @@ module _ (ids : Parent → List ℕ) (B : Borrowed edition-1) (s : Parent → Pl
   abbrev GoodB : Balance → Type 0
   GoodB b = Bl.Good (λ p. s p .ids) (λ p. s p .amounts) (λ p. s p .ids-in) (λ p. s p .amounts-in) b
 
-  balance-laws : Wh.BalanceLaws (Ix.W edition-1 edition-1-laws ids B s Q) Q GoodB
-  balance-laws = Bl.laws (λ p. s p .ids) (λ p. s p .amounts) (λ p. s p .ids-in) (λ p. s p .amounts-in) (Ix.W edition-1 edition-1-laws ids B s Q)
+  balance-laws : Wh.BalanceLaws (Ix.W (edition-of v) ids (edition-laws v ids ids-in) B s Q) Q GoodB
+  balance-laws = Bl.laws (λ p. s p .ids) (λ p. s p .amounts) (λ p. s p .ids-in) (λ p. s p .amounts-in) (Ix.W (edition-of v) ids (edition-laws v ids ids-in) B s Q)
 
-  goes : Er.Goes edition-1 edition-1-laws ids B s Q GoodB balance-laws table-room staged-room deleted-room left-standing (start M) across-a-row
-  goes = Er.goes edition-1 edition-1-laws ids B s Q GoodB balance-laws table-room staged-room deleted-room
+  goes : Er.Goes (edition-of v) ids (edition-laws v ids ids-in) B s Q GoodB balance-laws table-room staged-room deleted-room left-standing (start M) across-a-row
+  goes = Er.goes (edition-of v) ids (edition-laws v ids ids-in) B s Q GoodB balance-laws table-room staged-room deleted-room
 
   -- the first branch is longer than a row: its 513 appends are accepted
   pub example-first-branch : run M (start M) (appends 513 1 []) .standing ≡ up-to 513
-  example-first-branch = Er.goes-first edition-1 edition-1-laws ids B s Q GoodB balance-laws table-room staged-room deleted-room .left
+  example-first-branch = Er.goes-first (edition-of v) ids (edition-laws v ids ids-in) B s Q GoodB balance-laws table-room staged-room deleted-room .left
 
   pub example-legal : Legal M (start M) across-a-row
   example-legal = goes .legal
@@ -55,7 +57,7 @@ module _ (ids : Parent → List ℕ) (B : Borrowed edition-1) (s : Parent → Pl
   example-standing = goes .left
 
   theorem : StepsOk M (start M) across-a-row × Agrees M ended
-  theorem = fork-undo ids B s across-a-row example-legal example-keys-apart
+  theorem = fork-undo v ids ids-in B s across-a-row example-legal example-keys-apart
 
   pub example-undos : StepsOk M (start M) across-a-row
   example-undos = theorem .0
@@ -71,30 +73,30 @@ module _ (ids : Parent → List ℕ) (B : Borrowed edition-1) (s : Parent → Pl
   example-unspent n h = theorem .1 .copies 0 n h ∙ ap (λ (cs : List Call). ledger-spent cs 0 n) example-standing ∙ plain-up-to 511 .unspent n
 
 -- ---- such buffers exist: lists of zeros with room for cap records each
-pub room-of : (n m : ℕ) → n ≤ m → n ≤ length (replicate {A = ℕ} m 0)
-room-of n m h = omega (arith, length-replicate {A = ℕ} m 0)
+pub room-of : (n : ℕ) → n ≤ length (replicate {A = ℕ} n 0)
+room-of n = omega (arith, length-replicate {A = ℕ} n 0)
 
-abbrev pub zeroed : ℕ → Borrowed edition-1
-zeroed cap = record {
+abbrev pub zeroed : (v : RowEdition) → ℕ → Borrowed (edition-of v)
+zeroed v cap = record {
   table-cap = cap;
   staged-cap = cap;
   deleted-cap = cap;
   places = λ ch. replicate 512 (pos 0);
-  table = replicate (cap * 10288) 0;
-  staged = replicate (cap * 10288) 0;
+  table = replicate (cap * record-size v) 0;
+  staged = replicate (cap * record-size v) 0;
   deleted = replicate (cap * 32) 0;
   places-in = λ ch. omega (arith, length-replicate {A = ℤ} 512 (pos 0));
-  table-in = room-of (cap * 10288) (cap * 10288) (omega arith);
-  staged-in = room-of (cap * 10288) (cap * 10288) (omega arith);
-  deleted-in = room-of (cap * 32) (cap * 32) (omega arith);
+  table-in = room-of (cap * record-size v);
+  staged-in = room-of (cap * record-size v);
+  deleted-in = room-of (cap * 32);
 }
 
 unfoldable pub no-tokens : Places
 no-tokens = record { ids = replicate 4096 0; amounts = replicate 128 (pos 0); ids-in = length-replicate {A = ℕ} 4096 0; amounts-in = length-replicate {A = ℤ} 128 (pos 0) }
 
-module _ (ids : Parent → List ℕ) (cap : ℕ) (h : 600 ≤ cap) where
+module _ (v : RowEdition) (ids : Parent → List ℕ) (ids-in : (p : Parent) → length (ids p) ≡ 32) (cap : ℕ) (h : 600 ≤ cap) where
   abbrev N : Machine
-  N = index-machine edition-1 ids (zeroed cap) (λ p. no-tokens)
+  N = index-machine (edition-of v) ids (zeroed v cap) (λ p. no-tokens)
 
   pub premises-met : Legal N (start N) across-a-row × KeysApart N (InUse N (start N) across-a-row)
-  premises-met = (example-legal ids (zeroed cap) (λ p. no-tokens) h h h, example-keys-apart ids (zeroed cap) (λ p. no-tokens) h h h)
+  premises-met = (example-legal v ids ids-in (zeroed v cap) (λ p. no-tokens) h h h, example-keys-apart v ids ids-in (zeroed v cap) (λ p. no-tokens) h h h)

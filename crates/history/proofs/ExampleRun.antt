@@ -28,7 +28,7 @@ use Rattle.history.specs.Index.{Index, do-append, do-pop, do-flip, do-fl
 use Rattle.history.specs.Machine.{Borrowed}
 use Rattle.history.specs.ForkUndo.{Places}
 use Rattle.history.specs.Example.{append-box, appends, up-to, across-a-row, spend-in-the-row, back-across-the-row, another-branch, left-standing}
-use Rattle.history.proofs.State.{EditionLaws}
+use Rattle.history.specs.EditionLaws.{EditionLaws}
 use Rattle.history.proofs.Lists.{length-table}
 use Rattle.history.proofs.Sim as Sm
 use Rattle.history.proofs.IndexTheorem as Ix
@@ -38,19 +38,19 @@ goes-well : {S A B : Type 0} (f : A → B) (X : Made S A) (Y : Res B) → map-re
 goes-well f (accepted a) Y e n = (a, refl, sym e)
 goes-well f (refused-leaving k s) Y e n = absurd (n k (sym e))
 
-module _ (E : Edition) (L : EditionLaws E) (ids : Parent → List ℕ) (B : Borrowed E) (s : Parent → Places) (Q : Wh.Balances) (GoodB : Q .Bal → Type 0) (BL : Wh.BalanceLaws (Ix.W E L ids B s Q) Q GoodB)
+module _ (E : Edition) (ids : Parent → List ℕ) (L : EditionLaws E ids) (B : Borrowed E) (s : Parent → Places) (Q : Wh.Balances) (GoodB : Q .Bal → Type 0) (BL : Wh.BalanceLaws (Ix.W E ids L B s Q) Q GoodB)
     (table-room : 600 ≤ B .table-cap) (staged-room : 600 ≤ B .staged-cap) (deleted-room : 600 ≤ B .deleted-cap) where
   abbrev W : St.Env
-  W = Ix.W E L ids B s Q
+  W = Ix.W E ids L B s Q
 
   abbrev code : Gs.Coded W
-  code = Ix.code E L ids B s Q
+  code = Ix.code E ids L B s Q
 
   abbrev M : Mc.Machine
-  M = Ix.machine E L ids B s Q
+  M = Ix.machine E ids L B s Q
 
   abbrev abs : Index → St.Store W
-  abs b = Ix.abs E L ids B s Q b
+  abs b = Ix.abs E ids L B s Q b
 
   apart : Mc.KeysApart M FirstRow
   apart d e s t u v k = (u .0 ∙ sym (v .0), u .1 ∙ sym (v .1))
@@ -59,16 +59,16 @@ module _ (E : Edition) (L : EditionLaws E) (ids : Parent → List ℕ) (B : Borr
   Good σ = Gs.Good W code FirstRow σ
 
   abbrev Fine : Index → Type 0
-  Fine b = Sm.Fine (Ix.M E L ids B s Q) (Ix.N E L ids B s Q) abs (Ix.Inv E L ids B s Q) Good b
+  Fine b = Sm.Fine (Ix.M E ids L B s Q) (Ix.N E ids L B s Q) abs (Ix.Inv E ids L B s Q) Good b
 
   abbrev Tidy : Index → Type 0
   Tidy b = Gs.Tidy W code FirstRow (abs b)
 
-  abbrev sims : Sm.Sims (Ix.M E L ids B s Q) (Ix.N E L ids B s Q) abs (Ix.Inv E L ids B s Q) Good
-  sims = Ix.sims E L ids B s Q FirstRow
+  abbrev sims : Sm.Sims (Ix.M E ids L B s Q) (Ix.N E ids L B s Q) abs (Ix.Inv E ids L B s Q) Good
+  sims = Ix.sims E ids L B s Q FirstRow
 
   laws : Op.Laws M FirstRow Fine Tidy GoodB
-  laws = Sm.lower-laws (Ix.M E L ids B s Q) (Ix.N E L ids B s Q) abs (Ix.Inv E L ids B s Q) Good FirstRow (Gs.Tidy W code FirstRow) GoodB (Wh.store-laws W Q code GoodB BL FirstRow apart) sims
+  laws = Sm.lower-laws (Ix.M E ids L B s Q) (Ix.N E ids L B s Q) abs (Ix.Inv E ids L B s Q) Good FirstRow (Gs.Tidy W code FirstRow) GoodB (Wh.store-laws W Q code GoodB BL FirstRow apart) sims
 
   abbrev State : Type 0
   State = Mc.State M

@@ -55,7 +55,8 @@ use Rattle.history.specs.Index.{Part, part, Index, index, set-part, with
 use Rattle.history.proofs.Tables.{tab, put, lookup-is, row-opt}
 use Rattle.history.proofs.Tables as Tab
 use Rattle.history.proofs.State as S
-use Rattle.history.proofs.State.{EditionLaws, HeadFits, head-fits, fit-head, push-to, all-set, same-set, Capacities, head-of, spills-of}
+use Rattle.history.specs.EditionLaws.{EditionLaws}
+use Rattle.history.proofs.State.{HeadFits, head-fits, fit-head, push-to, all-set, same-set, Capacities, head-of, spills-of}
 use Rattle.history.proofs.Lists.{ite-le, full-is, put-table}
 use Rattle.history.proofs.PopSim.{read-same}
 use Rattle.history.proofs.FlipLists.{copy-of, copy-abs, new-of, first-new, is-seen, first-seen, first-in, order-same, lead-res, low-of, search-same, look-res, hit-of, walk-same}
@@ -82,7 +83,7 @@ check-eq l e = rw (eq-eqb (length l) 512 e)
 turn-take : (l : List ℤ) (n i : ℕ) → i < n → take n (flipped-at (At i) l) ≡ flipped-at (At i) (take n l)
 turn-take l n i h = take-set-lt n l i (negℤ (getD l i (pos 0))) h ∙ ap (λ (x : ℤ). set (take n l) i (negℤ x)) (sym (getD-take n l i (pos 0) h))
 
-module _ (E : Edition) (L : EditionLaws E) (ids : Parent → List ℕ) (caps : Capacities) where
+module _ (E : Edition) (ids : Parent → List ℕ) (L : EditionLaws E ids) (caps : Capacities) where
   abbrev W : St.Env
   W = S.env E ids caps
 
@@ -213,28 +214,28 @@ module _ (E : Edition) (L : EditionLaws E) (ids : Parent → List ℕ) (caps : C
       row-by found.Nothing (found.At j) = row-at (E .size) j (x .table)
       row-by found.Nothing found.Nothing = []
 
-      read-by : (f g : Found) (l : List ℤ) → read-placed E Box w (place-of f g) ≡ good l → E .decode Box (row-by f g) ≡ good l
+      read-by : (f g : Found) (l : List ℤ) → read-placed E Box w n (place-of f g) ≡ good l → E .decode Box (ids p) (pos n) (row-by f g) ≡ good l
       read-by (found.At i) g l h = h
       read-by found.Nothing (found.At j) l h = h
       read-by found.Nothing found.Nothing l h = let z : _≡_ {A = ℕ} 0 1 = cc in absurd (omega arith)
 
-      redo-found : (f g : Found) → f ≡ f₁ → g ≡ f₂ → (l new : List ℤ) → read-placed E Box w (place-of f g) ≡ good l
-          → St.found-redone W (boxes p) (or-else (row-opt f (records (E .size) (c .count) (x .staged))) (row-opt g (records (E .size) (x .table-counts .count) (x .table)))) new ≡ E .with-boxes (row-by f g) new
-      redo-found (found.At i) g e d l new h = ap (λ (r : List ℕ). E .with-boxes (stored-row r) new) (record-at (E .size) (c .count) i (x .staged) (found-in key (E .size) (c .count) (x .staged) i (found.At i) e refl))
+      redo-found : (f g : Found) → f ≡ f₁ → g ≡ f₂ → (l new : List ℤ) → read-placed E Box w n (place-of f g) ≡ good l
+          → St.found-redone W (boxes p) n (or-else (row-opt f (records (E .size) (c .count) (x .staged))) (row-opt g (records (E .size) (x .table-counts .count) (x .table)))) new ≡ E .with-boxes (ids p) (pos n) (row-by f g) new
+      redo-found (found.At i) g e d l new h = ap (λ (r : List ℕ). E .with-boxes (ids p) (pos n) (stored-row r) new) (record-at (E .size) (c .count) i (x .staged) (found-in key (E .size) (c .count) (x .staged) i (found.At i) e refl))
       redo-found found.Nothing (found.At j) e d l new h =
-          ap (λ (r : List ℕ). E .with-boxes (stored-row r) new) (record-at (E .size) (x .table-counts .count) j (x .table) (found-in key (E .size) (x .table-counts .count) (x .table) j (found.At j) d refl))
+          ap (λ (r : List ℕ). E .with-boxes (ids p) (pos n) (stored-row r) new) (record-at (E .size) (x .table-counts .count) j (x .table) (found-in key (E .size) (x .table-counts .count) (x .table) j (found.At j) d refl))
       redo-found found.Nothing found.Nothing e d l new h = let z : _≡_ {A = ℕ} 0 1 = cc in absurd (omega arith)
 
-      redo-same : (l new : List ℤ) → read-spill n ≡ good l → St.redone W (abs b) (boxes p) n new ≡ E .with-boxes (row-by f₁ f₂) new
+      redo-same : (l new : List ℤ) → read-spill n ≡ good l → St.redone W (abs b) (boxes p) n new ≡ E .with-boxes (ids p) (pos n) (row-by f₁ f₂) new
       unfolding spill-read place-at
       redo-same l new h =
-          (λ i. St.found-redone W (boxes p) (or-else (lookup-is (records (E .size) (c .count) (x .staged)) key i) (lookup-is (records (E .size) (x .table-counts .count) (x .table)) key i)) new)
+          (λ i. St.found-redone W (boxes p) n (or-else (lookup-is (records (E .size) (c .count) (x .staged)) key i) (lookup-is (records (E .size) (x .table-counts .count) (x .table)) key i)) new)
           ∙ redo-found f₁ f₂ refl refl l new h
 
       abbrev finish : Tab.Table → Res (St.Store W)
       finish t = done (St.with-staging W (abs b) t)
 
-      module _ (i : ℕ) (l : List ℤ) (few : length (flipped-at (At i) l) ≤ 512) (little : Gs.Small 9223372036854775808 (flipped-at (At i) l)) where
+      module _ (i : ℕ) (l : List ℤ) (low : n < 2147483647) (few : length (flipped-at (At i) l) ≤ 512) (little : Gs.Small 9223372036854775808 (flipped-at (At i) l)) where
         abbrev new : List ℤ
         new = flipped-at (At i) l
 
@@ -245,28 +246,28 @@ module _ (E : Edition) (L : EditionLaws E) (ids : Parent → List ℕ) (caps : C
             rw y (put-does found.Nothing e row m (full-val found.Nothing e ∙ y))
         by-room e row m false h = rw (le-leb cap (c .count) (ltb-false (c .count) cap h)) (no 16)
 
-        flipped-row : (row : List ℕ) → E .decode Box row ≡ good l → row-flipped E row i ≡ E .with-boxes row new
+        flipped-row : (row : List ℕ) → E .decode Box (ids p) (pos n) row ≡ good l → row-flipped E w n row i ≡ E .with-boxes (ids p) (pos n) row new
         unfolding row-flipped
-        flipped-row row h = ap (λ (r : RowRead). E .with-boxes row (flipped-at (At i) (boxes-in E r))) h
+        flipped-row row h = ap (λ (r : RowRead). E .with-boxes (ids p) (pos n) row (flipped-at (At i) (boxes-in E r))) h
 
-        by-find : (f g : Found) → f ≡ f₁ → g ≡ f₂ → read-placed E Box w (place-of f g) ≡ good l
+        by-find : (f g : Found) → f ≡ f₁ → g ≡ f₂ → read-placed E Box w n (place-of f g) ≡ good l
             → Does (stage-from E w cap n i (place-of f g))
-            (then-do (cond (not (is-found f) && leb cap (c .count)) (refused 16) (done (put (abs b .staging) key (E .with-boxes (row-by f g) new)))) finish)
+            (then-do (cond (not (is-found f) && leb cap (c .count)) (refused 16) (done (put (abs b .staging) key (E .with-boxes (ids p) (pos n) (row-by f g) new)))) finish)
         by-find (found.At j) g e d h =
             let row : List ℕ = row-at (E .size) j (x .staged) in
-            from (ap (λ (y : List ℕ). stage j (c .count) key y) (flipped-row row h)) (put-does (found.At j) e (E .with-boxes row new) (L .redo-length row l new h few little) (full-val (found.At j) e))
+            from (ap (λ (y : List ℕ). stage j (c .count) key y) (flipped-row row h)) (put-does (found.At j) e (E .with-boxes (ids p) (pos n) row new) (L .redo-length p n row l new low h few little) (full-val (found.At j) e))
         by-find found.Nothing (found.At k) e d h =
             let row : List ℕ = row-at (E .size) k (x .table) in
             from (ap (λ (y : List ℕ). cond (ltb (c .count) cap) (stage (c .count) (c .count + 1) key y) (refuse 16)) (flipped-row row h))
-            (by-room e (E .with-boxes row new) (L .redo-length row l new h few little) (ltb (c .count) cap) refl)
+            (by-room e (E .with-boxes (ids p) (pos n) row new) (L .redo-length p n row l new low h few little) (ltb (c .count) cap) refl)
         by-find found.Nothing found.Nothing e d h = let z : _≡_ {A = ℕ} 0 1 = cc in absurd (omega arith)
 
         stage-does : read-spill n ≡ good l → Does (stage-at E w cap n i) (then-do (St.stage W (abs b) key (St.redone W (abs b) (boxes p) n new)) finish)
         unfolding stage-at spill-read place-at
         stage-does h =
             to (by-find f₁ f₂ refl refl h)
-            (ap (λ (u : Bool). then-do (cond u (refused 16) (done (put (abs b .staging) key (E .with-boxes (row-by f₁ f₂) new)))) finish) (sym (full-val f₁ refl))
-            ∙ ap (λ (y : Res Tab.Table). then-do y finish) (sym (stage-is (E .with-boxes (row-by f₁ f₂) new)))
+            (ap (λ (u : Bool). then-do (cond u (refused 16) (done (put (abs b .staging) key (E .with-boxes (ids p) (pos n) (row-by f₁ f₂) new)))) finish) (sym (full-val f₁ refl))
+            ∙ ap (λ (y : Res Tab.Table). then-do y finish) (sym (stage-is (E .with-boxes (ids p) (pos n) (row-by f₁ f₂) new)))
             ∙ ap (λ (r : List ℕ). then-do (St.stage W (abs b) key r) finish) (sym (redo-same l new h)))
 
     -- ---- rows below the spill count are read alike
@@ -321,7 +322,7 @@ module _ (E : Edition) (L : EditionLaws E) (ids : Parent → List ℕ) (caps : C
           let a : flipped-at (At i) (row-or (rd n)) ≡ flipped-at (At i) (g .0) = ap (flipped-at (At i)) r in
           let few : length (flipped-at (At i) (g .0)) ≤ 512 = omega (arith, sym (ap length a) ∙ Se.split-length sp, g .2) in
           let little : Gs.Small 9223372036854775808 (flipped-at (At i) (g .0)) = rw a at (Gs.small-split sp (g .3)) in
-          to (stage-does n i (g .0) few little (g .1)) (ap (λ (l : List ℤ). on-hit (record { at = n; new = l })) (sym a))
+          to (stage-does n i (g .0) (omega (arith, k, I .spills-in (boxes p))) few little (g .1)) (ap (λ (l : List ℤ). on-hit (record { at = n; new = l })) (sym a))
 
       by-low : (seen : Bool) (X : Res ℕ) → St.halve rd t spills 0 spills ≡ X
           → Does (after-search E w cap t d seen (low-of X)) (then-do X (λ lo. then-do (St.walk 511 rd e lo seen) on-hit))

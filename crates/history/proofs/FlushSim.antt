@@ -40,7 +40,8 @@ use Rattle.fork_model.proofs.Results.{map-res, result-of}
 use Rattle.history.specs.Index.{Index, index, after-flush, do-flush}
 use Rattle.history.proofs.Tables.{Bytes, Table, tab, put, remove, in-dec, ite-in, write-all, remove-all, fresh, fresh-is}
 use Rattle.history.proofs.State as S
-use Rattle.history.proofs.State.{EditionLaws, Capacities}
+use Rattle.history.specs.EditionLaws.{EditionLaws}
+use Rattle.history.proofs.State.{Capacities}
 use Rattle.history.proofs.Lists.{put-table, remove-table, remove-keeps, capacity-without, length-table}
 
 -- a record as a list that passes 25 holds it
@@ -102,7 +103,7 @@ not-full size c key l b h = by-case (find-key key (keys size (c .count) l)) h
     by-case (At i) h = refl
     by-case Nothing h = lt-leb (c .capacity) (c .count) (omega arith)
 
-module _ (E : Edition) (L : EditionLaws E) (dels : List (List ℕ)) where
+module _ (E : Edition) (ids : Parent → List ℕ) (L : EditionLaws E ids) (dels : List (List ℕ)) where
   abbrev tabled : Listed → Table
   tabled t = tab (records (E .size) (t .counts .count) (t .bytes))
 
@@ -184,7 +185,7 @@ module _ (E : Edition) (L : EditionLaws E) (dels : List (List ℕ)) where
       }
 
 -- ---- the flush
-module _ (E : Edition) (L : EditionLaws E) (ids : Parent → List ℕ) (caps : Capacities) where
+module _ (E : Edition) (ids : Parent → List ℕ) (L : EditionLaws E ids) (caps : Capacities) where
   abbrev W : St.Env
   W = S.env E ids caps
 
@@ -220,13 +221,13 @@ module _ (E : Edition) (L : EditionLaws E) (ids : Parent → List ℕ) (caps : C
     stored = all-stored E rs (λ i h. record-sized (E .size) (x .staged-counts .count) i (x .staged) (lf .in-staged .bounds .within) (omega (arith, length-records (E .size) (x .staged-counts .count) (x .staged))))
         (lf .in-staged .lengths)
 
-    puts : new ≤ x .table-counts .capacity - x .table-counts .count → AllDoes E L (deleted-keys E x) rs (listed (x .table-counts) (x .table)) (put-undeleted E (deleted-keys E x) rs (listed (x .table-counts) (x .table)))
-    puts h = put-all-does E L (deleted-keys E x) rs (listed (x .table-counts) (x .table)) stored (lf .in-table) (omega (arith, lf .in-table .bounds .counted))
+    puts : new ≤ x .table-counts .capacity - x .table-counts .count → AllDoes E ids L (deleted-keys E x) rs (listed (x .table-counts) (x .table)) (put-undeleted E (deleted-keys E x) rs (listed (x .table-counts) (x .table)))
+    puts h = put-all-does E ids L (deleted-keys E x) rs (listed (x .table-counts) (x .table)) stored (lf .in-table) (omega (arith, lf .in-table .bounds .counted))
 
     gone : new ≤ x .table-counts .capacity - x .table-counts .count
-        → GoneDoes E L (deleted-keys E x) (deleted-keys E x) (put-undeleted E (deleted-keys E x) rs (listed (x .table-counts) (x .table))) (table-after E x)
+        → GoneDoes E ids L (deleted-keys E x) (deleted-keys E x) (put-undeleted E (deleted-keys E x) rs (listed (x .table-counts) (x .table))) (table-after E x)
     unfolding table-after
-    gone h = remove-all-does E L (deleted-keys E x) (deleted-keys E x) (put-undeleted E (deleted-keys E x) rs (listed (x .table-counts) (x .table))) (puts h .keeps)
+    gone h = remove-all-does E ids L (deleted-keys E x) (deleted-keys E x) (put-undeleted E (deleted-keys E x) rs (listed (x .table-counts) (x .table))) (puts h .keeps)
 
     done-same : new ≤ x .table-counts .capacity - x .table-counts .count → map-res abs (end (flushed E x)) ≡ done (St.flushed W (abs b))
     unfolding flushed records

@@ -1,9 +1,9 @@
 -- The fork-undo theorem of the index in bytes, for any edition that keeps its laws and any balances that keep theirs.
 use mathlib.Core.Path.{_≡_, refl, sym, ap, _∙_}
 use mathlib.Core.List.{List}
-use Prim.Native.Nat.{ℕ, _*_, _≤_}
+use Prim.Native.Nat.{ℕ, _*_, _≤_, _<_}
 use native.Mathlib.Omega.{arith}
-use lib.IntN.{ℤ}
+use lib.IntN.{ℤ, pos}
 use lib.ListN.{length}
 use Rattle.records.specs.Records.{records}
 use Rattle.records.specs.Find.{distinct}
@@ -13,7 +13,7 @@ use Rattle.records.proofs.CheckLaws.{bounds-of}
 use Rattle.segment_id.specs.declared.Kind.the-variants.{Box, Tx}
 use Rattle.buffer_core.specs.Edition.{Edition}
 use Rattle.buffer_core.proofs.ListLaws.{fit-lists}
-use Rattle.ledger.specs.Ledger.{Parent, Series, boxes, txs, id-dec}
+use Rattle.ledger.specs.Ledger.{Parent, Series, boxes, txs, parent-of, id-dec}
 use Rattle.ledger.specs.Run.{done}
 use Rattle.ledger.specs.Run as Mc
 use Rattle.fork_model.proofs.Table as Tb
@@ -22,12 +22,13 @@ use Rattle.fork_model.proofs.GoodStore as Gs
 use Rattle.fork_model.proofs.FlushLaws as Fl
 use Rattle.fork_model.proofs.Whole as Wh
 use Rattle.fork_model.proofs.Results.{result-of, result-keeping}
-use Rattle.history.specs.Index.{Index, kind-of, to-res, do-flush}
+use Rattle.history.specs.Index.{Index, kind-of, id-of, to-res, do-flush}
 use Rattle.history.specs.Machine.{Borrowed, none-of, start}
 use Rattle.history.specs.ForkUndo.{Places, index-machine}
 use Rattle.history.specs.Sound.{Sound}
 use Rattle.history.proofs.State as S
-use Rattle.history.proofs.State.{EditionLaws, Capacities, fit-head}
+use Rattle.history.specs.EditionLaws.{Small, EditionLaws}
+use Rattle.history.proofs.State.{Capacities, fit-head}
 use Rattle.history.proofs.Lists.{length-table}
 use Rattle.history.proofs.RefusalLaws.{refusals-leave}
 use Rattle.history.proofs.Sim as Sm
@@ -44,7 +45,7 @@ none-keys : (cap : ℕ) (l : List ℕ) → cap * 32 ≤ length l → KeysOk (non
 unfolding records distinct
 none-keys cap l h = record { bounds = bounds-of 32 (none-of cap) l (omega arith) h; apart = refl }
 
-module _ (E : Edition) (L : EditionLaws E) (ids : Parent → List ℕ) (B : Borrowed E) (s : Parent → Places) (Q : Wh.Balances) where
+module _ (E : Edition) (ids : Parent → List ℕ) (L : EditionLaws E ids) (B : Borrowed E) (s : Parent → Places) (Q : Wh.Balances) where
   abbrev begin : Index
   begin = start E B
 
@@ -64,13 +65,13 @@ module _ (E : Edition) (L : EditionLaws E) (ids : Parent → List ℕ) (B : Borr
   abbrev pub Inv : Index → Type 0
   Inv b = S.Inv E ids caps b
 
-  again : (ch : Series) (row : List ℕ) (l new : List ℤ) → to-res (E .decode (kind-of ch) row) ≡ done l → length new ≤ 512 → S.Small new
-      → to-res (E .decode (kind-of ch) (S.redone E ids caps ch row new)) ≡ done new
-  again (boxes p) row l new e h sm = ap to-res (L .redo-decode row l new (Fp.good-of (E .decode Box row) l e) h sm)
-  again (txs p) row l new e h sm = ap to-res (L .decode-encode Tx new h sm)
+  again : (ch : Series) (n : ℕ) (row : List ℕ) (l new : List ℤ) → n < 2147483647 → to-res (E .decode (kind-of ch) (id-of E ids ch) (pos n) row) ≡ done l → length new ≤ 512 → Small new
+      → to-res (E .decode (kind-of ch) (id-of E ids ch) (pos n) (S.redone E ids caps ch n row new)) ≡ done new
+  again (boxes p) n row l new u e h sm = ap to-res (L .redo-decode p n row l new u (Fp.good-of (E .decode Box (ids p) (pos n) row) l e) h sm)
+  again (txs p) n row l new u e h sm = ap to-res (L .decode-encode Tx p n new u h sm)
 
   pub code : Gs.Coded W
-  code = record { plain = λ ch l h sm. ap to-res (L .decode-encode (kind-of ch) l h sm); again = again }
+  code = record { plain = λ ch n l u h sm. ap to-res (L .decode-encode (kind-of ch) (parent-of ch) n l u h sm); again = again }
 
   abbrev pub M : Mc.Machine
   M = Wh.machine W Q
@@ -103,22 +104,22 @@ module _ (E : Edition) (L : EditionLaws E) (ids : Parent → List ℕ) (B : Borr
     staging-full = λ b I h. omega (arith, length-table (E .size) (b .lists .staged-counts .count) (b .lists .staged), I .staged-at);
     deletion-full = λ b I h. omega (arith, length-keys 32 (b .lists .deleted-counts .count) (b .lists .deleted), I .deleted-at);
     append = λ b ch n I G. record {
-      same = Ap.append-same E L ids caps b ch I (G .small ch) n ∙ sym (result-keeping (abs b) (St.append-store W (abs b) ch n));
-      keeps = λ d e. Ap.append-inv E L ids caps b ch I (G .small ch) n d e;
+      same = Ap.append-same E ids L caps b ch I (G .small ch) n ∙ sym (result-keeping (abs b) (St.append-store W (abs b) ch n));
+      keeps = λ d e. Ap.append-inv E ids L caps b ch I (G .small ch) n d e;
     };
     pop = λ b ch I G. record {
-      same = Po.pop-same E L ids caps b ch I ∙ sym (result-keeping (abs b) (St.pop-store W (abs b) ch));
-      keeps = λ d e. Po.pop-inv E L ids caps b ch I d e;
+      same = Po.pop-same E ids L caps b ch I ∙ sym (result-keeping (abs b) (St.pop-store W (abs b) ch));
+      keeps = λ d e. Po.pop-inv E ids L caps b ch I d e;
     };
     spend = λ b p t I G.
-        let D = Fp.spend-does E L ids caps b p I (G .small (boxes p)) (G .full (boxes p)) t in
+        let D = Fp.spend-does E ids L caps b p I (G .small (boxes p)) (G .full (boxes p)) t in
         record { same = D .same ∙ sym (result-keeping (abs b) (St.spend-store W (abs b) p t)); keeps = D .keeps };
     unspend = λ b p t I G.
-        let D = Fp.unspend-does E L ids caps b p I (G .small (boxes p)) (G .full (boxes p)) t in
+        let D = Fp.unspend-does E ids L caps b p I (G .small (boxes p)) (G .full (boxes p)) t in
         record { same = D .same ∙ sym (result-keeping (abs b) (St.unspend-store W (abs b) p t)); keeps = D .keeps };
     flush = λ b I G. record {
-      same = Fu.flush-same E L ids caps b I ∙ sym (result-keeping (abs b) (St.flush-store W (abs b)));
-      keeps = λ d e. Fu.flush-inv E L ids caps b I d e;
+      same = Fu.flush-same E ids L caps b I ∙ sym (result-keeping (abs b) (St.flush-store W (abs b)));
+      keeps = λ d e. Fu.flush-inv E ids L caps b I d e;
     };
   }
 
@@ -126,7 +127,7 @@ module _ (E : Edition) (L : EditionLaws E) (ids : Parent → List ℕ) (B : Borr
   pub flush-deletes : (U : Series → ℕ → Type 0) → Mc.KeysApart M U → (b d : Index) → Inv b → Gs.Good W code U (abs b) → result-of (do-flush E ids b) ≡ done d
       → (k : List ℕ) → Gs.In W code k (abs b .deletion) → Tb.Absent (List ℕ) (List ℕ) id-dec k (abs d .table)
   flush-deletes U apart b d I G e k h =
-      Fl.flush-deletes W code U apart (abs b) (abs d) G (Sm.map-keeps-done abs (result-of (do-flush E ids b)) d (St.flush-store W (abs b)) (Fu.flush-same E L ids caps b I) e) k h
+      Fl.flush-deletes W code U apart (abs b) (abs d) G (Sm.map-keeps-done abs (result-of (do-flush E ids b)) d (St.flush-store W (abs b)) (Fu.flush-same E ids L caps b I) e) k h
 
   -- the index in bytes, with balances
   abbrev pub machine : Mc.Machine

@@ -9,7 +9,7 @@ pub mod FlipSim
 pub mod RefusalLaws
 pub mod Sim
 pub mod IndexTheorem
-pub mod EditionOne
+pub mod Editions
 pub mod ForkUndoLaw
 pub mod ExampleRules
 pub mod ExampleRun

@@ -34,7 +34,7 @@ use Rattle.buffer_core.specs.Spills.{Sources, place-at, read-placed, spill-read
 use Rattle.buffer_core.specs.Append.{counts-of}
 use Rattle.buffer_core.specs.Pop.{Popping, popping, Lists, lists, count-without, bytes-without, last-of, without-last, row-head, staged-at, deleted-at, merged, merge-of, unspill-of, pop-core, lists-ok, pop-ok, pop-of}
 use Rattle.buffer_core.proofs.ListLaws.{ListsFit, lists-fit, fit-lists}
-use Rattle.ledger.specs.Ledger.{Parent, Series, series-dec, ite, id-dec}
+use Rattle.ledger.specs.Ledger.{parent-of, Parent, Series, series-dec, ite, id-dec}
 use Rattle.ledger.specs.Run.{Res, done, refused}
 use Rattle.ledger.specs.Run as Mc
 use Rattle.fork_model.proofs.Store as St
@@ -45,7 +45,8 @@ use Rattle.fork_model.proofs.Results.{map-res, map-pop, result-of}
 use Rattle.history.specs.Index.{Part, part, Index, index, kind-of, set-part, after-pop, to-res, id-of, do-pop, sources-of, row-of-spill, entries-of}
 use Rattle.history.proofs.Tables.{Bytes, tab, remove, lookup-is, row-opt, in-dec}
 use Rattle.history.proofs.State as S
-use Rattle.history.proofs.State.{EditionLaws, HeadFits, head-fits, fit-head, push-to, all-set, same-set, Capacities, head-of, spills-of}
+use Rattle.history.specs.EditionLaws.{EditionLaws}
+use Rattle.history.proofs.State.{HeadFits, head-fits, fit-head, push-to, all-set, same-set, Capacities, head-of, spills-of}
 use Rattle.history.proofs.Lists.{full-keys, remove-table, remove-keeps, capacity-without, put-keys}
 
 -- ---- the row of a spill number, in the staged spills or in the table
@@ -64,19 +65,19 @@ module _ (E : Edition) (ids : Parent → List ℕ) (caps : Capacities) where
     n₁ = b .lists .table-counts .count
 
     by-found : (f g : Found) → f ≡ find-key k₁ (keys (E .size) m₁ (b .lists .staged)) → g ≡ find-key k₁ (keys (E .size) n₁ (b .lists .table))
-        → to-res (read-placed E (kind-of ch) (sources-of E ids b ch) (place-of f g))
-        ≡ St.decoded W₁ ch (or-else (row-opt f (records (E .size) m₁ (b .lists .staged))) (row-opt g (records (E .size) n₁ (b .lists .table))))
+        → to-res (read-placed E (kind-of ch) (sources-of E ids b ch) s (place-of f g))
+        ≡ St.decoded W₁ ch s (or-else (row-opt f (records (E .size) m₁ (b .lists .staged))) (row-opt g (records (E .size) n₁ (b .lists .table))))
     by-found (At i) g e d =
-        ap (λ (r : List ℕ). to-res (E .decode (kind-of ch) (stored-row r))) (sym (record-at (E .size) m₁ i (b .lists .staged) (found-in k₁ (E .size) m₁ (b .lists .staged) i (At i) e refl)))
+        ap (λ (r : List ℕ). to-res (E .decode (kind-of ch) (id-of E ids ch) (pos s) (stored-row r))) (sym (record-at (E .size) m₁ i (b .lists .staged) (found-in k₁ (E .size) m₁ (b .lists .staged) i (At i) e refl)))
     by-found Nothing (At j) e d =
-        ap (λ (r : List ℕ). to-res (E .decode (kind-of ch) (stored-row r))) (sym (record-at (E .size) n₁ j (b .lists .table) (found-in k₁ (E .size) n₁ (b .lists .table) j (At j) d refl)))
+        ap (λ (r : List ℕ). to-res (E .decode (kind-of ch) (id-of E ids ch) (pos s) (stored-row r))) (sym (record-at (E .size) n₁ j (b .lists .table) (found-in k₁ (E .size) n₁ (b .lists .table) j (At j) d refl)))
     by-found Nothing Nothing e d = refl
 
     pub read-same : row-of-spill E ids b ch s ≡ St.store-row W₁ (S.abs E ids caps b) ch s
     unfolding spill-read place-at
     read-same =
         by-found (find-key k₁ (keys (E .size) m₁ (b .lists .staged))) (find-key k₁ (keys (E .size) n₁ (b .lists .table))) refl refl
-        ∙ sym (λ i. St.decoded W₁ ch (or-else (lookup-is (records (E .size) m₁ (b .lists .staged)) k₁ i) (lookup-is (records (E .size) n₁ (b .lists .table)) k₁ i)))
+        ∙ sym (λ i. St.decoded W₁ ch s (or-else (lookup-is (records (E .size) m₁ (b .lists .staged)) k₁ i) (lookup-is (records (E .size) n₁ (b .lists .table)) k₁ i)))
 
   flat-same : (f g : ℕ → Res (List ℤ)) (n : ℕ) → ((s : ℕ) → f s ≡ g s) → flat f n ≡ flat g n
   unfolding flat
@@ -116,7 +117,7 @@ last-row zs head m h =
     ∙ getD-take (suc m) zs m (pos 0) (omega arith)
 
 -- ---- the pop
-module _ (E : Edition) (L : EditionLaws E) (ids : Parent → List ℕ) (caps : Capacities) where
+module _ (E : Edition) (ids : Parent → List ℕ) (L : EditionLaws E ids) (caps : Capacities) where
   abbrev W : St.Env
   W = S.env E ids caps
 
@@ -230,9 +231,9 @@ module _ (E : Edition) (L : EditionLaws E) (ids : Parent → List ℕ) (caps : C
       taken-same (good []) m = refl
       taken-same (good (z ∷ zs)) m = let e : eqb (suc (length zs)) 0 ≡ false = ne-eqb (suc (length zs)) 0 (λ e. omega arith) in rw e (some-same (z ∷ zs) (omega arith) (m (z ∷ zs) refl))
 
-      few : (q : Place) (zs : List ℤ) → read-placed E kind (sources-of E ids b ch) q ≡ good zs → length zs ≤ 512
-      few (Staged i) zs e = L .decode-few kind _ zs e
-      few (Table i) zs e = L .decode-few kind _ zs e
+      few : (q : Place) (zs : List ℤ) → read-placed E kind (sources-of E ids b ch) s q ≡ good zs → length zs ≤ 512
+      few (Staged i) zs e = L .decode-few kind (parent-of ch) s _ zs e
+      few (Table i) zs e = L .decode-few kind (parent-of ch) s _ zs e
       few Missing zs e = let z : _≡_ {A = ℕ} 0 1 = cc in absurd (omega arith)
 
       read-few : (zs : List ℤ) → spill-read E kind (sources-of E ids b ch) s ≡ good zs → length zs ≤ 512

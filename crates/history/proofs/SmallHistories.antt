@@ -14,7 +14,9 @@ use Rattle.records.specs.Changes.{clear-records}
 use Rattle.records.specs.Checks.{lengths-ok, records-ok, keys-ok}
 use Rattle.buffer_core.specs.declared.Direction.{Direction}
 use Rattle.buffer_core.specs.declared.Direction.the-variants.{Spend, Unspend}
-use Rattle.buffer_core.specs.Edition.{Edition, good, edition-1}
+use Rattle.index_types.specs.declared.RowEdition.{RowEdition}
+use Rattle.index_types.specs.declared.RowEdition.the-variants.{One}
+use Rattle.buffer_core.specs.Edition.{Edition, good, edition-of, edition-1}
 use Rattle.buffer_core.specs.Spills.{place-at, spill-read}
 use Rattle.buffer_core.specs.Append.{counts-of, append-of, append-ok, append-core, spill-of}
 use Rattle.buffer_core.specs.Pop.{lists, pop-of, pop-ok, pop-core, lists-ok}
@@ -30,8 +32,8 @@ use Rattle.history.specs.ForkUndo.{Places, index-machine}
 use Rattle.history.specs.Sound.{Sound}
 
 -- heads of 512 places, lists without room
-abbrev pub heads-only : Borrowed edition-1
-heads-only = record {
+abbrev pub heads-only : (v : RowEdition) → Borrowed (edition-of v)
+heads-only v = record {
   table-cap = 0;
   staged-cap = 0;
   deleted-cap = 0;
@@ -47,7 +49,7 @@ heads-only = record {
 
 module _ (s : Parent → Places) where
   abbrev M : Machine
-  M = index-machine edition-1 (λ p. []) heads-only s
+  M = index-machine edition-1 (λ p. []) (heads-only One) s
 
   -- what the undo of the newest standing call answers, after the steps
   abbrev answer-of : Made (State M) (Undone M) → List ℤ

@@ -23,20 +23,6 @@ use Rattle.fork_model.proofs.Store as St
 use Rattle.history.specs.Index.{Part, part, Index, kind-of, set-part, to-res, id-of}
 use Rattle.history.proofs.Tables.{Bytes, Table, tab}
 
-abbrev pub Small : List ℤ → Type 0
-Small l = (x : ℤ) → List·Memᴰ x l → natAbs x < 9223372036854775808
-
--- what is asked of an edition
-pub record EditionLaws (E : Edition) : Type 0 where
-  pub wide : 34 + E .limit ≤ E .size
-  pub short : E .size < 65536
-  pub key-length : (k : Kind) (p : List ℕ) (n : ℤ) → length (E .key k p n) ≡ 32
-  pub encode-length : (k : Kind) (l : List ℤ) → length l ≤ 512 → Small l → length (E .encode k l) ≤ E .limit
-  pub decode-encode : (k : Kind) (l : List ℤ) → length l ≤ 512 → Small l → E .decode k (E .encode k l) ≡ good l
-  pub redo-length : (row : List ℕ) (l new : List ℤ) → E .decode Box row ≡ good l → length new ≤ 512 → Small new → length (E .with-boxes row new) ≤ E .limit
-  pub redo-decode : (row : List ℕ) (l new : List ℤ) → E .decode Box row ≡ good l → length new ≤ 512 → Small new → E .decode Box (E .with-boxes row new) ≡ good new
-  pub decode-few : (k : Kind) (row : List ℕ) (l : List ℤ) → E .decode k row ≡ good l → length l ≤ 512
-
 -- ---- a head that passes 25
 pub record HeadFits (p : Part) : Type 0 where
   pub len-in : p .head .len ≤ 512
@@ -69,9 +55,9 @@ module _ (E : Edition) (ids : Parent → List ℕ) (caps : Capacities) where
   key-of-spill ch s = E .key (kind-of ch) (id-of E ids ch) (pos s)
 
   -- a row with other numbers of its kind
-  abbrev pub redone : Series → List ℕ → List ℤ → List ℕ
-  redone (boxes p) row l = E .with-boxes row l
-  redone (txs p) row l = E .encode Tx l
+  abbrev pub redone : Series → ℕ → List ℕ → List ℤ → List ℕ
+  redone (boxes p) s row l = E .with-boxes (ids p) (pos s) row l
+  redone (txs p) s row l = E .encode Tx (ids p) (pos s) l
 
   abbrev pub env : St.Env
   env = record {
@@ -81,8 +67,8 @@ module _ (E : Edition) (ids : Parent → List ℕ) (caps : Capacities) where
     key-dec = id-dec;
     key = key-of-spill;
     Row = Bytes;
-    enc = λ ch l. E .encode (kind-of ch) l;
-    dec = λ ch row. to-res (E .decode (kind-of ch) row);
+    enc = λ ch s l. E .encode (kind-of ch) (id-of E ids ch) (pos s) l;
+    dec = λ ch s row. to-res (E .decode (kind-of ch) (id-of E ids ch) (pos s) row);
     redo = redone;
     table-cap = caps .table;
     staged-cap = caps .staged;

@@ -7,6 +7,7 @@ use native.Mathlib.Omega.{arith}
 use native.Mathlib.Decide.{ℕ-discrete}
 use lib.IntN.{ℤ, pos, negsuc, _+ℤ_, natAbs}
 use lib.Signed.{_≤ℤ_}
+use lib.ListN.{replicate, length-replicate}
 use Rattle.stores.specs.Stores.{write}
 use Rattle.stores.specs.Equal.{same-bytes}
 use Rattle.signed.specs.Checked.{checked}
@@ -16,12 +17,14 @@ use Rattle.records.specs.Changes.{clear-records}
 use Rattle.records.specs.Checks.{lengths-ok, records-ok, keys-ok}
 use Rattle.balance.specs.Tokens.{place-from, add-token, subtract-token, change-tokens, closed-up}
 use Rattle.balance.specs.Boxes.{buffers-ok, change-box}
-use Rattle.buffer_core.specs.Edition.{edition-1}
+use Rattle.index_types.specs.declared.RowEdition.{RowEdition}
+use Rattle.index_types.specs.declared.RowEdition.the-variants.{One, Two}
+use Rattle.buffer_core.specs.Edition.{edition-of}
 use Rattle.buffer_core.specs.Append.{append-of, append-ok, append-core, spill-of}
 use Rattle.buffer_core.specs.Pop.{pop-of, pop-ok, pop-core, lists-ok}
 use Rattle.buffer_core.specs.Flip.{flip-of, flip-ok, flip-core, flip-effect, in-order, in-rows, search-by, walk-from}
 use Rattle.buffer_core.specs.Flush.{flush-of, flush-core, flushed, table-after, put-undeleted, remove-keys, new-count}
-use Rattle.ledger.specs.Ledger.{TokenId, id-dec, Series, boxes, series-dec, ite, Call, append, spend, debit, absℤ, ledger-numbers, Rules}
+use Rattle.ledger.specs.Ledger.{Parent, TokenId, id-dec, Series, boxes, series-dec, ite, Call, append, spend, debit, absℤ, ledger-numbers, Rules}
 use Rattle.ledger.specs.Run.{done, refused, flat, Machine, Conf, start, run, answers, Legal, InUse, KeysApart, StepsOk, Agrees}
 use Rattle.ledger.proofs.ShortLaws.{short-apart}
 use Rattle.history.specs.ForkUndo.{index-machine}
@@ -30,51 +33,7 @@ use Rattle.history.proofs.SmallHistories.{heads-only}
 use Rattle.history.proofs.ExampleLaws.{no-tokens}
 use Rattle.history.proofs.ForkUndoLaw.{fork-undo}
 
--- lists without room: no row is made
-abbrev M : Machine
-M = index-machine edition-1 (λ p. []) heads-only (λ p. no-tokens)
-
-abbrev ended : Conf M
-ended = run M (start M) two-parents
-
--- the three refused calls and the undone ones do not stand
-pub two-parents-stand : ended .standing ≡ two-parents-standing
-unfolding run ite series-dec ℕ-discrete append-of append-ok append-core spill-of records-ok lengths-ok distinct records no-tokens
-    flip-of flip-ok flip-core flip-effect in-order in-rows search-by walk-from pop-of pop-ok pop-core flush-of flush-core flushed table-after put-undeleted remove-keys new-count lists-ok keys-ok clear-records write
-    buffers-ok change-box place-from add-token subtract-token change-tokens closed-up checked same-bytes
-two-parents-stand = refl
-
--- what each step answers: the three refused calls with their numbers, and the undos of a debit, a credit and a spend with none
-pub two-parents-answers : answers M (start M) two-parents
-    ≡ done [] ∷ done [] ∷ done [] ∷ refused 17 ∷ done [] ∷ refused 15 ∷ done [] ∷ refused 23 ∷ done [] ∷ done [] ∷ done [] ∷ done [] ∷ done [] ∷ done [] ∷ done [] ∷ []
-unfolding answers run ite series-dec ℕ-discrete append-of append-ok append-core spill-of records-ok lengths-ok distinct records no-tokens
-    flip-of flip-ok flip-core flip-effect in-order in-rows search-by walk-from pop-of pop-ok pop-core flush-of flush-core flushed table-after put-undeleted remove-keys new-count lists-ok keys-ok clear-records write
-    buffers-ok change-box place-from add-token subtract-token change-tokens closed-up checked same-bytes
-two-parents-answers = refl
-
--- before the fork the second parent holds what the credit and the debit give, the refused credit nothing, and the spent number is marked
-pub before-nanos : M .nano-of (run M (start M) (before-the-fork []) .now .bals 1) ≡ pos 6
-unfolding run ite series-dec ℕ-discrete append-of append-ok append-core spill-of records-ok lengths-ok distinct records no-tokens
-    flip-of flip-ok flip-core flip-effect in-order in-rows search-by walk-from flush-of flush-core flushed table-after put-undeleted remove-keys new-count lists-ok keys-ok clear-records write
-    buffers-ok change-box place-from add-token subtract-token change-tokens closed-up checked same-bytes
-before-nanos = refl
-
-pub before-amount : M .amount-of (run M (start M) (before-the-fork []) .now .bals 1) token-of-sevens ≡ pos 3
-unfolding run ite series-dec id-dec ℕ-discrete append-of append-ok append-core spill-of records-ok lengths-ok distinct records no-tokens
-    flip-of flip-ok flip-core flip-effect in-order in-rows search-by walk-from flush-of flush-core flushed table-after put-undeleted remove-keys new-count lists-ok keys-ok clear-records write
-    buffers-ok change-box place-from add-token subtract-token change-tokens closed-up checked same-bytes
-before-amount = refl
-
-pub before-entries : M .entries (run M (start M) (before-the-fork []) .now .store) (boxes 0) ≡ negsuc 4 ∷ []
-unfolding run flat ite series-dec ℕ-discrete append-of append-ok append-core spill-of records-ok lengths-ok distinct records no-tokens
-    flip-of flip-ok flip-core flip-effect in-order in-rows search-by walk-from flush-of flush-core flushed table-after put-undeleted remove-keys new-count lists-ok keys-ok clear-records write
-    buffers-ok change-box place-from add-token subtract-token change-tokens closed-up checked same-bytes
-before-entries = refl
-
-pub two-parents-apart : KeysApart M (InUse M (start M) two-parents)
-two-parents-apart = short-apart M two-parents (omega arith)
-
--- ---- the standing calls keep the history rules after each step
+-- ---- the rules that the standing calls keep after each step
 none : (m : ℤ) (n : ℕ) → List·Memᴰ m [] → natAbs m ≤ n
 none m n t = absurd (List·Memᴰ·not-nil t)
 
@@ -110,16 +69,72 @@ last-rules = (record { rises = λ m t. let e : natAbs m ≡ 5 = ap natAbs (List�
 stands : {a : Call} {cs : List Call} → (a ∷ cs) ≢ []
 stands e = nil≢cons (sym e)
 
-pub two-parents-legal : Legal M (start M) two-parents
+abbrev zero-ids : Parent → List ℕ
+zero-ids p = replicate 32 0
+
+-- ---- in either edition
+
+-- lists without room: no row is made
+abbrev M : RowEdition → Machine
+M v = index-machine (edition-of v) zero-ids (heads-only v) (λ p. no-tokens)
+
+abbrev ended : (v : RowEdition) → Conf (M v)
+ended v = run (M v) (start (M v)) two-parents
+
+-- the three refused calls and the undone ones do not stand
+pub two-parents-stand : (v : RowEdition) → ended v .standing ≡ two-parents-standing
+unfolding run ite series-dec ℕ-discrete append-of append-ok append-core spill-of records-ok lengths-ok distinct records no-tokens
+    flip-of flip-ok flip-core flip-effect in-order in-rows search-by walk-from pop-of pop-ok pop-core flush-of flush-core flushed table-after put-undeleted remove-keys new-count lists-ok keys-ok clear-records write
+    buffers-ok change-box place-from add-token subtract-token change-tokens closed-up checked same-bytes
+two-parents-stand One = refl
+two-parents-stand Two = refl
+
+-- what each step answers: the three refused calls with their numbers, and the undos of a debit, a credit and a spend with none
+pub two-parents-answers : (v : RowEdition) → answers (M v) (start (M v)) two-parents
+    ≡ done [] ∷ done [] ∷ done [] ∷ refused 17 ∷ done [] ∷ refused 15 ∷ done [] ∷ refused 23 ∷ done [] ∷ done [] ∷ done [] ∷ done [] ∷ done [] ∷ done [] ∷ done [] ∷ []
+unfolding answers run ite series-dec ℕ-discrete append-of append-ok append-core spill-of records-ok lengths-ok distinct records no-tokens
+    flip-of flip-ok flip-core flip-effect in-order in-rows search-by walk-from pop-of pop-ok pop-core flush-of flush-core flushed table-after put-undeleted remove-keys new-count lists-ok keys-ok clear-records write
+    buffers-ok change-box place-from add-token subtract-token change-tokens closed-up checked same-bytes
+two-parents-answers One = refl
+two-parents-answers Two = refl
+
+-- before the fork the second parent holds what the credit and the debit give, the refused credit nothing, and the spent number is marked
+pub before-nanos : (v : RowEdition) → M v .nano-of (run (M v) (start (M v)) (before-the-fork []) .now .bals 1) ≡ pos 6
+unfolding run ite series-dec ℕ-discrete append-of append-ok append-core spill-of records-ok lengths-ok distinct records no-tokens
+    flip-of flip-ok flip-core flip-effect in-order in-rows search-by walk-from flush-of flush-core flushed table-after put-undeleted remove-keys new-count lists-ok keys-ok clear-records write
+    buffers-ok change-box place-from add-token subtract-token change-tokens closed-up checked same-bytes
+before-nanos One = refl
+before-nanos Two = refl
+
+pub before-amount : (v : RowEdition) → M v .amount-of (run (M v) (start (M v)) (before-the-fork []) .now .bals 1) token-of-sevens ≡ pos 3
+unfolding run ite series-dec id-dec ℕ-discrete append-of append-ok append-core spill-of records-ok lengths-ok distinct records no-tokens
+    flip-of flip-ok flip-core flip-effect in-order in-rows search-by walk-from flush-of flush-core flushed table-after put-undeleted remove-keys new-count lists-ok keys-ok clear-records write
+    buffers-ok change-box place-from add-token subtract-token change-tokens closed-up checked same-bytes
+before-amount One = refl
+before-amount Two = refl
+
+pub before-entries : (v : RowEdition) → M v .entries (run (M v) (start (M v)) (before-the-fork []) .now .store) (boxes 0) ≡ negsuc 4 ∷ []
+unfolding run flat ite series-dec ℕ-discrete append-of append-ok append-core spill-of records-ok lengths-ok distinct records no-tokens
+    flip-of flip-ok flip-core flip-effect in-order in-rows search-by walk-from flush-of flush-core flushed table-after put-undeleted remove-keys new-count lists-ok keys-ok clear-records write
+    buffers-ok change-box place-from add-token subtract-token change-tokens closed-up checked same-bytes
+before-entries One = refl
+before-entries Two = refl
+
+pub two-parents-apart : (v : RowEdition) → KeysApart (M v) (InUse (M v) (start (M v)) two-parents)
+two-parents-apart v = short-apart (M v) two-parents (omega arith)
+
+pub two-parents-legal : (v : RowEdition) → Legal (M v) (start (M v)) two-parents
 unfolding Legal run ite series-dec ℕ-discrete append-of append-ok append-core spill-of records-ok lengths-ok distinct records no-tokens
     flip-of flip-ok flip-core flip-effect in-order in-rows search-by walk-from pop-of pop-ok pop-core flush-of flush-core flushed table-after put-undeleted remove-keys new-count lists-ok keys-ok clear-records write
     buffers-ok change-box place-from add-token subtract-token change-tokens closed-up checked same-bytes
-two-parents-legal =
+two-parents-legal One =
+    ((tt, omega arith), first-append, ((tt, omega arith), two-appends, ((tt, omega arith), appends, ((tt, omega arith), appends, ((tt, omega arith), spent, ((tt, omega arith), spent, ((tt, (omega arith, (refl, omega arith, tt))), credited, ((tt, (omega arith, tt)), credited, ((tt, (omega arith, tt)), debited, (tt, debited, ((tt, stands), credited, ((tt, stands), spent, ((tt, stands), appends, (tt, appends, ((tt, omega arith), last-rules, tt)))))))))))))))
+two-parents-legal Two =
     ((tt, omega arith), first-append, ((tt, omega arith), two-appends, ((tt, omega arith), appends, ((tt, omega arith), appends, ((tt, omega arith), spent, ((tt, omega arith), spent, ((tt, (omega arith, (refl, omega arith, tt))), credited, ((tt, (omega arith, tt)), credited, ((tt, (omega arith, tt)), debited, (tt, debited, ((tt, stands), credited, ((tt, stands), spent, ((tt, stands), appends, (tt, appends, ((tt, omega arith), last-rules, tt)))))))))))))))
 
 -- ---- what the theorem says of it
-pub two-parents-hold : StepsOk M (start M) two-parents × Agrees M ended
-two-parents-hold = fork-undo (λ p. []) heads-only (λ p. no-tokens) two-parents two-parents-legal two-parents-apart
+pub two-parents-hold : (v : RowEdition) → StepsOk (M v) (start (M v)) two-parents × Agrees (M v) (ended v)
+two-parents-hold v = fork-undo v zero-ids (λ p. length-replicate {A = ℕ} 32 0) (heads-only v) (λ p. no-tokens) two-parents (two-parents-legal v) (two-parents-apart v)
 
-pub two-parents-numbers : (ch : Series) → map absℤ (M .entries (ended .now .store) ch) ≡ ledger-numbers two-parents-standing ch
-two-parents-numbers ch = two-parents-hold .1 .numbers ch ∙ ap (λ (cs : List Call). ledger-numbers cs ch) two-parents-stand
+pub two-parents-numbers : (v : RowEdition) (ch : Series) → map absℤ (M v .entries (ended v .now .store) ch) ≡ ledger-numbers two-parents-standing ch
+two-parents-numbers v ch = two-parents-hold v .1 .numbers ch ∙ ap (λ (cs : List Call). ledger-numbers cs ch) (two-parents-stand v)

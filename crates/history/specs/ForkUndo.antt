@@ -1,4 +1,4 @@
--- The index that the fork-undo theorem speaks of: its operations are the definitions that the contracts of the public functions cite, at edition 1.
+-- The index that the fork-undo theorem speaks of: its operations are the definitions that the contracts of the public functions cite, at either edition of the rows.
 -- `Rattle.ledger.specs.Ledger` is the ledger and the history rules ("The plain record that demand 3 compares with"). `Rattle.ledger.specs.Run` says what a
 -- list of calls, undos and flushes does, which lists are legal, and what the theorem promises of them (`ForkUndo`): each undo is accepted unless the staged
 -- (16) or the deleted spills (21) are full, an undone append returns its number, and afterwards the index holds exactly what the standing calls alone give.
@@ -11,13 +11,15 @@ use lib.ListN.{length}
 use Rattle.index_types.specs.Limits.{segment-threshold, token-limit, token-id-bytes}
 use Rattle.balance.specs.declared.Balance.{Balance}
 use Rattle.buffer_core.specs.declared.Direction.the-variants.{Spend, Unspend}
-use Rattle.buffer_core.specs.Edition.{Edition, edition-1}
+use Rattle.index_types.specs.declared.RowEdition.{RowEdition}
+use Rattle.buffer_core.specs.Edition.{Edition, edition-of}
 use Rattle.balance_laws.specs.Calls.{credited, debited, tokens-in}
 use Rattle.ledger.specs.Ledger.{Parent, amount-in}
 use Rattle.ledger.specs.Run.{Machine}
 use Rattle.ledger.specs.Run as Run
 use Rattle.history.specs.Index.{Index, kind-of, id-of, do-append, do-pop, do-flip, do-flush, entries-of}
 use Rattle.history.specs.Machine.{Borrowed, start}
+use Rattle.history.specs.EditionLaws.{EditionLaws}
 
 -- "Empty: each count, length and nanoErgs 0": an empty balance, whatever its 128 places hold
 pub record Places : Type 0 where
@@ -62,11 +64,17 @@ module _ (E : Edition) (ids : Parent → List ℕ) (B : Borrowed E) (s : Parent 
     key = λ ch n. E .key (kind-of ch) (id-of E ids ch) (pos n);
   }
 
--- for all parents' ids, all capacities and whatever the borrowed buffers hold at the start: every legal list in which no two row keys in use are equal.
--- "Only the list writes parents and buffers"; that "25 never arises" stands in Sound.antt
+-- for every edition of the rows that has the laws, all capacities and whatever the borrowed buffers hold at the start: every legal list in which no two row
+-- keys in use are equal. "Only the list writes parents and buffers"; that "25 never arises" stands in Sound.antt
+abbrev pub TheoremOf : Type 0
+TheoremOf = (E : Edition) (ids : Parent → List ℕ) → EditionLaws E ids → (B : Borrowed E) (s : Parent → Places) → Run.ForkUndo (index-machine E ids B s)
+
+-- either edition has them, for all parents' ids of 32 bytes
 abbrev pub Theorem : Type 0
-Theorem = (ids : Parent → List ℕ) (B : Borrowed edition-1) (s : Parent → Places) → Run.ForkUndo (index-machine edition-1 ids B s)
+Theorem =
+    (v : RowEdition) (ids : Parent → List ℕ) → ((p : Parent) → length (ids p) ≡ 32)
+    → (B : Borrowed (edition-of v)) (s : Parent → Places) → Run.ForkUndo (index-machine (edition-of v) ids B s)
 
 -- "A refusal .. changes nothing": a step starts from what the one before left in parts, lists and balances, and where that one was refused, it is what was there
 abbrev pub Refusals : Type 0
-Refusals = (ids : Parent → List ℕ) (B : Borrowed edition-1) (s : Parent → Places) → Run.RefusalsLeave (index-machine edition-1 ids B s)
+Refusals = (v : RowEdition) (ids : Parent → List ℕ) (B : Borrowed (edition-of v)) (s : Parent → Places) → Run.RefusalsLeave (index-machine (edition-of v) ids B s)

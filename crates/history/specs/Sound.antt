@@ -8,7 +8,8 @@ use lib.ListN.{length}
 use Rattle.index_types.specs.Limits.{segment-threshold, token-limit, token-id-bytes}
 use Rattle.signed.specs.Sign.{is-negative}
 use Rattle.balance.specs.declared.Balance.{Balance}
-use Rattle.buffer_core.specs.Edition.{Edition, edition-1}
+use Rattle.index_types.specs.declared.RowEdition.{RowEdition}
+use Rattle.buffer_core.specs.Edition.{Edition, edition-of}
 use Rattle.buffer_core.specs.Spills.{head-ok}
 use Rattle.buffer_core.specs.Pop.{lists-ok}
 use Rattle.ledger.specs.Ledger.{Parent, Series}
@@ -20,7 +21,9 @@ use Rattle.history.specs.ForkUndo.{Places, index-machine}
 
 -- no call, undo or flush of a legal list is refused with 25
 abbrev pub NeverBroken : Type 0
-NeverBroken = (ids : Parent → List ℕ) (B : Borrowed edition-1) (s : Parent → Places) → Run.Never25 (index-machine edition-1 ids B s)
+NeverBroken =
+    (v : RowEdition) (ids : Parent → List ℕ) → ((p : Parent) → length (ids p) ≡ 32)
+    → (B : Borrowed (edition-of v)) (s : Parent → Places) → Run.Never25 (index-machine (edition-of v) ids B s)
 
 pub record Sound (E : Edition) (ids : Parent → List ℕ) (b : Index) : Type 0 where
   -- "25 head above 512, .. or a lent buffer too short for its stated capacity": the tests pass
@@ -28,7 +31,7 @@ pub record Sound (E : Edition) (ids : Parent → List ℕ) (b : Index) : Type 0 
   pub lists : lists-ok E (b .lists) ≡ true
   -- "11 its spill count negative" does not arise
   pub counts : (ch : Series) → is-negative (b .parts ch .head .spills) ≡ false
-  -- every row below the spill count can be read, and is full: 12, 1 to 6, 8, 13 for its length and 20 do not arise
+  -- every row below the spill count can be read, and is full: 12, 1 to 6, 8, 35, 13 for its length and 20 do not arise
   pub rows : (ch : Series) (n : ℕ) → n < natAbs (b .parts ch .head .spills) → (zs : List ℤ) × (row-of-spill E ids b ch n ≡ done zs) × (length zs ≡ segment-threshold)
 
 -- 25 of a credit or a debit: no more tokens than 128 places hold
@@ -37,16 +40,17 @@ pub record SoundBalance (b : Balance) : Type 0 where
   pub amounts : length (b .amounts) ≡ token-limit
   pub count : b .count ≤ token-limit
 
-module _ (ids : Parent → List ℕ) (B : Borrowed edition-1) (s : Parent → Places) where
-  abbrev pub after : List Step → Run.State (index-machine edition-1 ids B s)
-  after ss = Run.run (index-machine edition-1 ids B s) (Run.start (index-machine edition-1 ids B s)) ss .now
+module _ (v : RowEdition) (ids : Parent → List ℕ) (B : Borrowed (edition-of v)) (s : Parent → Places) where
+  abbrev pub after : List Step → Run.State (index-machine (edition-of v) ids B s)
+  after ss = Run.run (index-machine (edition-of v) ids B s) (Run.start (index-machine (edition-of v) ids B s)) ss .now
 
   abbrev pub LegalApart : List Step → Type 0
   LegalApart ss =
-      Run.Legal (index-machine edition-1 ids B s) (Run.start (index-machine edition-1 ids B s)) ss
-      × Run.KeysApart (index-machine edition-1 ids B s) (Run.InUse (index-machine edition-1 ids B s) (Run.start (index-machine edition-1 ids B s)) ss)
+      Run.Legal (index-machine (edition-of v) ids B s) (Run.start (index-machine (edition-of v) ids B s)) ss
+      × Run.KeysApart (index-machine (edition-of v) ids B s) (Run.InUse (index-machine (edition-of v) ids B s) (Run.start (index-machine (edition-of v) ids B s)) ss)
 
 abbrev pub StaysSound : Type 0
 StaysSound =
-    (ids : Parent → List ℕ) (B : Borrowed edition-1) (s : Parent → Places) (ss : List Step) → LegalApart ids B s ss
-    → Sound edition-1 ids (after ids B s ss .store) × ((p : Parent) → SoundBalance (after ids B s ss .bals p))
+    (v : RowEdition) (ids : Parent → List ℕ) → ((p : Parent) → length (ids p) ≡ 32)
+    → (B : Borrowed (edition-of v)) (s : Parent → Places) (ss : List Step) → LegalApart v ids B s ss
+    → Sound (edition-of v) ids (after v ids B s ss .store) × ((p : Parent) → SoundBalance (after v ids B s ss .bals p))

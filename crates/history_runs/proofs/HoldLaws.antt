@@ -5,10 +5,11 @@ use mathlib.Core.Bool.{Bool, true, false}
 use mathlib.Core.List.{List, [], _∷_, _++_, map}
 use Prim.Native.Nat.{ℕ, _<_, _≤_}
 use lib.IntN.{ℤ, natAbs}
-use lib.ListN.{take}
+use lib.ListN.{length, take}
 use Rattle.balance.specs.declared.Balance.{Balance}
 use Rattle.buffer_core.specs.declared.Direction.{Direction}
 use Rattle.buffer_core.specs.declared.Direction.the-variants.{Spend, Unspend}
+use Rattle.index_types.specs.declared.RowEdition.the-variants.{One}
 use Rattle.buffer_core.specs.Edition.{edition-1}
 use Rattle.buffer_core.specs.Pop.{Lists}
 use Rattle.buffer_core.specs.Spills.{sources, spill-read}
@@ -287,9 +288,9 @@ module _ (parents : ℕ) (ids : Parent → List ℕ) (B : Borrowed edition-1) (p
 
   -- the fork-undo theorem of what the runner does: from a state that holds what the machine starts with, calls that spell a legal list of steps in which no
   -- two row keys in use are equal: every undo says what it should, and at the end the state agrees with the standing calls
-  pub fork-undo-runs : (s : State) → H (Run.start W .now) s → (ts : List Step) (xs : List Call) → Spells parents ids B places (Run.start W) ts xs → Run.Legal W (Run.start W) ts
+  pub fork-undo-runs : ((p : Parent) → length (ids p) ≡ 32) → (s : State) → H (Run.start W .now) s → (ts : List Step) (xs : List Call) → Spells parents ids B places (Run.start W) ts xs → Run.Legal W (Run.start W) ts
       → Run.KeysApart W (Run.InUse W (Run.start W) ts)
       → StepsSaid parents ids B places (Run.start W) s ts xs (heard xs s) × Agrees parents (Run.run W (Run.start W) ts .standing) (made xs s)
-  fork-undo-runs s h ts xs m l k =
-      let f = fork-undo ids B places ts l k in
+  fork-undo-runs long s h ts xs m l k =
+      let f = fork-undo One ids long B places ts l k in
       (run-said ts xs (Run.start W) s h m (f .0), agrees (Run.run W (Run.start W) ts) (made xs s) (run-holds ts xs (Run.start W) s h m) (f .1))

@@ -24,7 +24,7 @@ use Rattle.history.specs.ForkUndo.{Places}
 use Rattle.runner.specs.Run.{Run, may-go, runs, start, run-of}
 use Rattle.runner.proofs.RunLaws.{runs-stop, run-passed}
 use Rattle.runner.proofs.PieceLaws.{runs-go, turn-stops, turn-goes, after}
-use Rattle.history_runs.specs.View.{ids-in}
+use Rattle.history_runs.specs.View.{ids-in, filled}
 use Rattle.call_runs.specs.Made.{made, heard, said-at, said-from, Stand}
 use Rattle.call_runs.proofs.AnswerLaws.{runs-alike, answer-there}
 use Rattle.history_runs.specs.Runs.{says-of, Spells, StepsSaid, Agrees, Empty}
@@ -131,19 +131,19 @@ module _ (parents : ℕ) (input : List ℕ) where
     -- holds exactly what the standing calls alone give, which the answers tell
     pub record Theorem : Type 0 where
       pub said : answered ≡ map says-of (Mc.answers M (Mc.start M) ts)
-      pub undos : StepsSaid parents (ids-in s) (borrowed parents places s E) places (Mc.start M) s ts xs answered
+      pub undos : StepsSaid parents (filled (ids-in s)) (borrowed parents places s E) places (Mc.start M) s ts xs answered
       pub agrees : Agrees parents (Mc.told [] ts (Mc.answers M (Mc.start M) ts)) (out .now)
 
     -- the fork-undo theorem of what the public function `run_calls` leaves: from an empty state, on an input whose calls spell a legal list of steps in which no
     -- two row keys in use are equal, and with room for the answers
     pub fork-undo-of-input : state-ok edition-1 parents s ≡ true → length xs ≤ length popped → length xs * 2 ≤ length answers → Stand parents input 0 xs
-        → Spells parents (ids-in s) (borrowed parents places s E) places (Mc.start M) ts xs → Mc.Legal M (Mc.start M) ts → Mc.KeysApart M (Mc.InUse M (Mc.start M) ts) → Theorem
+        → Spells parents (filled (ids-in s)) (borrowed parents places s E) places (Mc.start M) ts xs → Mc.Legal M (Mc.start M) ts → Mc.KeysApart M (Mc.InUse M (Mc.start M) ts) → Theorem
     fork-undo-of-input ok numbers codes m p l k =
         let f = fork-undo-from-empty parents places s E ts xs p l k in
         let told = run-of-answers s answers popped xs ok numbers codes m in
         record {
-          said = told ∙ run-heard parents (ids-in s) (borrowed parents places s E) places ts xs (Mc.start M) s (start-holds parents places s E) p;
-          undos = subst (StepsSaid parents (ids-in s) (borrowed parents places s E) places (Mc.start M) s ts xs) (sym told) (f .0);
+          said = told ∙ run-heard parents (filled (ids-in s)) (borrowed parents places s E) places ts xs (Mc.start M) s (start-holds parents places s E) p;
+          undos = subst (StepsSaid parents (filled (ids-in s)) (borrowed parents places s E) places (Mc.start M) s ts xs) (sym told) (f .0);
           agrees = subst (λ (cs : List ledger.Call). Agrees parents cs (out .now)) (standing-told M ts (Mc.start M))
               (subst (Agrees parents (Mc.run M (Mc.start M) ts .standing)) (sym (run-of-made s answers popped xs ok numbers codes m)) (f .1));
         }

@@ -1,6 +1,6 @@
 -- No call changes the length of a head.
 use Prim.Native.Nat.{ℕ, _-_, _≤_}
-use mathlib.Core.Path.{_≡_, refl, sym, _∙_}
+use mathlib.Core.Path.{_≡_, refl, _∙_}
 use mathlib.Core.List.{List}
 use native.Mathlib.Omega.{arith}
 use lib.Dec.{eqb, leb, ltb}
@@ -16,12 +16,14 @@ use Rattle.buffer_core.specs.Append.{Appending, spilled, spill-of, append-core,
 use Rattle.segment_id.specs.Key.{row-key}
 use Rattle.segment_core.specs.Loading.{padded}
 use Rattle.buffer_core.specs.declared.Direction.{Direction}
+use Rattle.index_types.specs.declared.RowEdition.the-variants.{One}
 use Rattle.buffer_core.specs.Edition.{edition-1, RowRead, bad, good}
 use Rattle.buffer_core.specs.Spills.{sources, spill-read}
 use Rattle.buffer_core.specs.Pop.{Popping, Lists, row-head, merged, merge-of, unspill-of, pop-core, pop-ok, pop-of}
 use Rattle.buffer_core.specs.Flip.{Flipping, Effect, refuse, flip-head, stage, done-by, flip-effect, flip-core, flip-ok, flip-of}
 use Rattle.buffer_core.proofs.RefusedLaws.{both}
-use Rattle.spill_rows.proofs.SpillLaws.{padded-length, spill-under, under-few}
+use Rattle.row_edition.proofs.ReadingLaws.{padded-length}
+use Rattle.spill_rows.proofs.SpillLaws.{spill-few}
 use Rattle.history.proofs.AppendSim.{length-one}
 
 -- ---- append
@@ -62,8 +64,7 @@ module _ (b : Lists) (head : List ℤ) (room : 512 ≤ length head) where
       (both Long·pop (ltb 0 (h .len)) (length-set head (h .len - 1) (pos 0))
       (both Long·pop (eqb (natAbs (h .spills)) 0) refl
       (merge-long (spill-read edition-1 kind (sources parent (b .staged) (b .staged-counts .count) (b .table) (b .table-counts .count)) spills)
-      (λ zs e. under-few kind (row-key parent kind (pos spills)) (b .staged) (b .staged-counts .count) (b .table) (b .table-counts .count) zs
-      (sym (spill-under kind parent (b .staged) (b .staged-counts .count) (b .table) (b .table-counts .count) spills) ∙ e))
+      (spill-few One kind parent (b .staged) (b .staged-counts .count) (b .table) (b .table-counts .count) spills)
       (row-key parent kind (pos spills)) spills)))) refl
 
 -- ---- spend and unspend

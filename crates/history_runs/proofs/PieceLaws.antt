@@ -12,6 +12,7 @@ use borrow.Author.Tests.{le-leb}
 use Rattle.records.proofs.CheckLaws.{and-true}
 use Rattle.segment_id.specs.declared.Kind.the-variants.{Box, Tx}
 use Rattle.balance.specs.declared.Balance.{Balance}
+use Rattle.index_types.specs.declared.RowEdition.the-variants.{One}
 use Rattle.buffer_core.specs.Edition.{edition-1}
 use Rattle.calls.specs.declared.Call.{Call}
 use Rattle.calls.specs.Calls.{call-at, size-of}
@@ -32,11 +33,11 @@ use Rattle.ledger.proofs.PrefixLaws.{legal-front, apart-front}
 use Rattle.history.specs.Machine.{Borrowed}
 use Rattle.history.specs.ForkUndo.{Places}
 use Rattle.history.proofs.ForkUndoLaw.{stays-sound}
-use Rattle.history_runs.specs.View.{ids-in, balance-in}
+use Rattle.history_runs.specs.View.{ids-in, filled, balance-in}
 use Rattle.call_runs.specs.Made.{made, heard, said-from, Stand}
 use Rattle.history_runs.specs.Runs.{Piece, bytes-of, in-pieces, said-in-pieces, Roomy, says-of, Spells, StepsSaid, Agrees, Empty}
 use Rattle.history_runs.proofs.HoldLaws.{run-holds, run-heard}
-use Rattle.history_runs.proofs.StartLaws.{borrowed, start-holds, W, fork-undo-from-empty}
+use Rattle.history_runs.proofs.StartLaws.{filled-long, borrowed, start-holds, W, fork-undo-from-empty}
 use Rattle.history_runs.proofs.InputLaws.{Room, goes, room-after, few, run-of-made, run-of-answers}
 
 -- the bytes of the calls
@@ -233,9 +234,9 @@ module _ (parents : ℕ) (places : Parent → Places) (s : State) (E : Empty par
     pub us : List Step
     pub vs : List Step
     pub is : ts ≡ us ++ vs
-    pub spelled : Spells parents (ids-in s) B places c us ys
+    pub spelled : Spells parents (filled (ids-in s)) B places c us ys
 
-  front : (ys zs : List Call) (ts : List Step) (c : Mc.Conf M) → Spells parents (ids-in s) B places c ts (ys ++ zs) → Front c ts ys
+  front : (ys zs : List Call) (ts : List Step) (c : Mc.Conf M) → Spells parents (filled (ids-in s)) B places c ts (ys ++ zs) → Front c ts ys
   unfolding Spells
   front [] zs ts c m = record { us = []; vs = ts; is = refl; spelled = tt }
   front (y ∷ ys) zs [] c m = absurd m
@@ -243,14 +244,14 @@ module _ (parents : ℕ) (places : Parent → Places) (s : State) (E : Empty par
       let f = front ys zs ts (Mc.step M c t) (m .1) in
       record { us = t ∷ f .us; vs = f .vs; is = ap (λ (l : List Step). t ∷ l) (f .is); spelled = (m .0, f .spelled) }
 
-  pub passes : (ts : List Step) (xs : List Call) → Spells parents (ids-in s) B places (Mc.start M) ts xs → Mc.Legal M (Mc.start M) ts → Mc.KeysApart M (Mc.InUse M (Mc.start M) ts) → Passes parents s xs
+  pub passes : (ts : List Step) (xs : List Call) → Spells parents (filled (ids-in s)) B places (Mc.start M) ts xs → Mc.Legal M (Mc.start M) ts → Mc.KeysApart M (Mc.InUse M (Mc.start M) ts) → Passes parents s xs
   passes ts xs m l k ys zs e =
-      let f = front ys zs ts (Mc.start M) (subst (Spells parents (ids-in s) B places (Mc.start M) ts) e m) in
+      let f = front ys zs ts (Mc.start M) (subst (Spells parents (filled (ids-in s)) B places (Mc.start M) ts) e m) in
       let us = f .us in
       let legal = legal-front M us (f .vs) (Mc.start M) (subst (Mc.Legal M (Mc.start M)) (f .is) l) in
       let apart = apart-front M us (f .vs) (Mc.start M) (subst (λ (x : List Step). Mc.KeysApart M (Mc.InUse M (Mc.start M) x)) (f .is) k) in
-      let h = run-holds parents (ids-in s) B places us ys (Mc.start M) s (start-holds parents places s E) (f .spelled) in
-      let sound = stays-sound (ids-in s) B places us (legal, apart) .1 in
+      let h = run-holds parents (filled (ids-in s)) B places us ys (Mc.start M) s (start-holds parents places s E) (f .spelled) in
+      let sound = stays-sound One (filled (ids-in s)) (filled-long (ids-in s)) B places us (legal, apart) .1 in
       state-passes parents (made ys s) (h .ready)
       (λ p q. subst (λ (b : Balance). b .count ≤ 128) (sym (h .balances p q)) (sound p .count))
 
@@ -267,18 +268,18 @@ module _ (parents : ℕ) (places : Parent → Places) (s : State) (E : Empty par
     -- the last run holds exactly what the standing calls alone give, which the answers tell
     pub record Theorem : Type 0 where
       pub said : answered ≡ map says-of (Mc.answers M (Mc.start M) ts)
-      pub undos : StepsSaid parents (ids-in s) B places (Mc.start M) s ts xs answered
+      pub undos : StepsSaid parents (filled (ids-in s)) B places (Mc.start M) s ts xs answered
       pub agrees : Agrees parents (Mc.told [] ts (Mc.answers M (Mc.start M) ts)) (in-pieces parents s [] qs)
 
     -- the fork-undo theorem of a runner that reads its input in pieces, from an empty state. Nothing is asked of where the pieces are cut
-    pub fork-undo-in-pieces : Roomy (length xs) qs → Stand parents (bytes-of qs) 0 xs → Spells parents (ids-in s) B places (Mc.start M) ts xs
+    pub fork-undo-in-pieces : Roomy (length xs) qs → Stand parents (bytes-of qs) 0 xs → Spells parents (filled (ids-in s)) B places (Mc.start M) ts xs
         → Mc.Legal M (Mc.start M) ts → Mc.KeysApart M (Mc.InUse M (Mc.start M) ts) → Theorem
     fork-undo-in-pieces r t m l k =
         let f = fork-undo-from-empty parents places s E ts xs m l k in
         let g = pieces-made parents qs [] s xs (length xs) nothing-left (omega arith) r (passes ts xs m l k) t in
         record {
-          said = g .1 ∙ run-heard parents (ids-in s) B places ts xs (Mc.start M) s (start-holds parents places s E) m;
-          undos = subst (StepsSaid parents (ids-in s) B places (Mc.start M) s ts xs) (sym (g .1)) (f .0);
+          said = g .1 ∙ run-heard parents (filled (ids-in s)) B places ts xs (Mc.start M) s (start-holds parents places s E) m;
+          undos = subst (StepsSaid parents (filled (ids-in s)) B places (Mc.start M) s ts xs) (sym (g .1)) (f .0);
           agrees = subst (λ (cs : List ledger.Call). Agrees parents cs (in-pieces parents s [] qs)) (standing-told M ts (Mc.start M))
               (subst (Agrees parents (Mc.run M (Mc.start M) ts .standing)) (sym (g .0)) (f .1));
         }

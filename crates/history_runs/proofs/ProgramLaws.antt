@@ -34,7 +34,7 @@ use Rattle.ledger.proofs.AnswerLaws.{standing-told}
 use Rattle.history.specs.Index.{kind-of}
 use Rattle.history.specs.Machine.{Borrowed}
 use Rattle.history.specs.ForkUndo.{Places, empty-balance}
-use Rattle.history_runs.specs.View.{ids-in, balance-in}
+use Rattle.history_runs.specs.View.{ids-in, filled, balance-in}
 use Rattle.history_runs.specs.Runs.{says-of, Spells, StepsSaid, Agrees, Empty}
 use Rattle.history_runs.proofs.StartLaws.{borrowed, start-holds, W, fork-undo-from-empty}
 use Rattle.history_runs.proofs.HoldLaws.{run-heard}
@@ -142,16 +142,16 @@ module _ (numbers : List ℤ) (lengths : List ℕ) (spills : List ℤ) (n code :
   pub record Theorem (ts : List Step) : Type 0 where
     pub all : Stand 2 (T .input) 0 xs
     pub said : heard xs starting ≡ map says-of (Mc.answers M (Mc.start M) ts)
-    pub undos : StepsSaid 2 (ids-in starting) B starting-places (Mc.start M) starting ts xs (heard xs starting)
+    pub undos : StepsSaid 2 (filled (ids-in starting)) B starting-places (Mc.start M) starting ts xs (heard xs starting)
     pub agrees : Agrees 2 (Mc.told [] ts (Mc.answers M (Mc.start M) ts)) left
 
-  pub fork-undo-of-program : (ts : List Step) → Spells 2 (ids-in starting) B starting-places (Mc.start M) ts xs → Mc.Legal M (Mc.start M) ts
+  pub fork-undo-of-program : (ts : List Step) → Spells 2 (filled (ids-in starting)) B starting-places (Mc.start M) ts xs → Mc.Legal M (Mc.start M) ts
       → Mc.KeysApart M (Mc.InUse M (Mc.start M) ts) → Theorem ts
   fork-undo-of-program ts m l k =
       let f = fork-undo-from-empty 2 starting-places starting starting-empty ts xs m l k in
       record {
         all = along-all 2 (T .input) xs 0 byte (T .delivered .stand) none-left;
-        said = run-heard 2 (ids-in starting) B starting-places ts xs (Mc.start M) starting (start-holds 2 starting-places starting starting-empty) m;
+        said = run-heard 2 (filled (ids-in starting)) B starting-places ts xs (Mc.start M) starting (start-holds 2 starting-places starting starting-empty) m;
         undos = f .0;
         agrees = subst (λ (cs : List ledger.Call). Agrees 2 cs left) (standing-told M ts (Mc.start M))
             (subst (Agrees 2 (Mc.run M (Mc.start M) ts .standing)) (sym (T .delivered .now-is)) (f .1));

@@ -21,6 +21,7 @@ use Rattle.balance.specs.declared.Balance.{Balance}
 use Rattle.balance.specs.Boxes.{buffers-ok, change-box}
 use Rattle.balance.specs.Tokens.{place-from, add-token, subtract-token, change-tokens}
 use Rattle.buffer_core.specs.declared.Direction.the-variants.{Spend, Unspend}
+use Rattle.index_types.specs.declared.RowEdition.the-variants.{One}
 use Rattle.buffer_core.specs.Edition.{edition-1}
 use Rattle.buffer_core.specs.Append.{append-of, append-ok, append-core, spill-of}
 use Rattle.buffer_core.specs.Pop.{lists, pop-of, pop-ok, pop-core, lists-ok}
@@ -41,7 +42,7 @@ use Rattle.history.specs.Index.{entries-of}
 use Rattle.history.specs.Machine.{none-of}
 use Rattle.history.specs.ForkUndo.{Places}
 use Rattle.history.proofs.SmallHistories.{heads-only}
-use Rattle.history_runs.specs.View.{ids-in, view, balance-in, changed, one-token}
+use Rattle.history_runs.specs.View.{ids-in, filled, view, balance-in, changed, one-token}
 use Rattle.history_runs.specs.Runs.{Piece, in-pieces, said-in-pieces, says-of, M, Spells}
 
 -- two parents with nothing in them, and lists without room
@@ -137,7 +138,7 @@ six-left = refl
 
 module _ (places : Parent → Places) where
   abbrev W : Mc.Machine
-  W = M 2 (ids-in nothing) heads-only places
+  W = M 2 (filled (ids-in nothing)) (heads-only One) places
 
   -- what the runner says is what the steps answer
   pub steps-answer : map says-of (answers W (Mc.start W) steps) ≡ said-by-run
@@ -145,7 +146,7 @@ module _ (places : Parent → Places) where
       flip-of flip-ok flip-core flip-effect in-order in-rows search-by walk-from pop-of pop-ok pop-core flush-of flush-core flushed table-after put-undeleted remove-keys new-count clear-records write
   steps-answer = refl
 
-  pub calls-spell : Spells 2 (ids-in nothing) heads-only places (Mc.start W) steps calls
+  pub calls-spell : Spells 2 (filled (ids-in nothing)) (heads-only One) places (Mc.start W) steps calls
   unfolding Spells ite series-dec ℕ-discrete append-of append-ok append-core spill-of records-ok checks.lengths-ok keys-ok lists-ok distinct records
       flip-of flip-ok flip-core flip-effect in-order in-rows search-by walk-from pop-of pop-ok pop-core flush-of flush-core flushed table-after put-undeleted remove-keys new-count clear-records write
   calls-spell = ((omega arith, refl), ((omega arith, refl), ((omega arith, refl), (refl, ((omega arith, refl), ((omega arith, refl), tt))))))

@@ -25,7 +25,6 @@ use Rattle.buffer_core.specs.Append.{appending, counts-of, append-ok, append-of
 use Rattle.buffer_core.specs.Pop.{Lists, lists, lists-ok, popping, pop-ok, pop-of}
 use Rattle.buffer_core.specs.Flip.{Flipping, flipping, flip-ok, flip-core, flip-of}
 use Rattle.buffer_core.specs.Flush.{flushing, flush-of}
-use Rattle.flip_core.proofs.KeepLaws.{flip-refused}
 use Rattle.calls.specs.declared.Call.the-variants.{Append, Flip, Pop, Flush}
 use Rattle.call_steps.specs.State.{State, state, parent-id, head-at, length-at, spills-at, head-counts, head-of, with-head, Within, Ready}
 use Rattle.call_steps.specs.Steps.{counts-in, lengths-by, spills-by, appended-by, append-by, of-append, popped-by, pop-by, of-pop, flipped-by, flip-by, of-flip, flushed-by, flush-by, of-flush, step-of}

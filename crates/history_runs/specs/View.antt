@@ -1,10 +1,10 @@
 -- The runner's state seen as the index of the fork-undo theorem, and what it means that a call of the runner is an operation of the theorem's.
 use mathlib.Core.Path.{_≡_}
 use mathlib.Core.Bool.{Bool, true, false}
-use mathlib.Core.List.{List, [], _∷_}
+use mathlib.Core.List.{List, [], _∷_, _++_}
 use Prim.Native.Nat.{ℕ}
 use lib.IntN.{ℤ}
-use lib.ListN.{replicate}
+use lib.ListN.{take, replicate}
 use Rattle.balance.specs.declared.Balance.{Balance}
 use Rattle.call_steps.specs.State.{State, parent-id, head-counts, head-of, balance-of}
 use Rattle.call_steps.specs.Steps.{Stepping, number-popped}
@@ -17,6 +17,10 @@ use Rattle.history.specs.Index.{Part, part, Index, index, kind-of}
 -- a parent's id, in its place
 abbrev pub ids-in : State → Parent → List ℕ
 ids-in s p = parent-id p (s .ids)
+
+-- ids of 32 bytes for every parent, as the theorem asks: those given, where they have 32 bytes
+abbrev pub filled : (Parent → List ℕ) → Parent → List ℕ
+filled ids p = take 32 (ids p ++ replicate 32 0)
 
 -- a parent's boxes or transactions: the counts of the head and its 512 places
 abbrev pub part-in : State → Series → Part

@@ -18,6 +18,12 @@ pub const ADDRESS_LIMIT: usize = 15675;
 
 // ---- types
 
+// An edition of the spill rows. The second writes the parent, the kind and the spill number before the body.
+pub enum RowEdition {
+    One,
+    Two,
+}
+
 // How many records a list holds, and how many it has room for.
 pub struct ListCounts {
     pub count: usize,

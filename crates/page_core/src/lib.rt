@@ -8,7 +8,7 @@ ghost use lib.ListN.{length, take};
 ghost use Rattle.records.specs.Records.{keys};
 ghost use Rattle.records.specs.Find.{distinct};
 ghost use Rattle.entries.specs.Unspent.{unspent-newest-first, stretch, page-places};
-ghost use Rattle.buffer_core.specs.Edition.{edition-1};
+ghost use Rattle.buffer_core.specs.Edition.{edition-of, record-size};
 ghost use Rattle.buffer_core.specs.Spills.{sources};
 ghost use Rattle.buffer_core.specs.Rows.{rows-up};
 ghost use Rattle.buffer_core.specs.Flip.{row-checked};
@@ -18,6 +18,7 @@ ghost use Rattle.spill_rows.specs.Steps.{read-of};
 ghost use Rattle.page_entries.specs.Steps.{Ready, Filled};
 ghost use Rattle.page_core.specs.Steps.{numbers-in, rows-flat};
 use index_types::Paged;
+use index_types::RowEdition;
 use index_types::SEGMENT_THRESHOLD;
 use index_types::Tallied;
 use index_types::Tally;
@@ -26,6 +27,7 @@ use spill_rows::Read;
 
 // Puts the row of a spill number into a page. A refused row puts nothing; none is met, since all are checked before.
 fn put_row<'a>(
+    edition: RowEdition,
     parent: &[u8; 32],
     number: usize,
     staged: &'a [u8],
@@ -37,13 +39,14 @@ fn put_row<'a>(
     filling: Filling,
     page: &mut [i64; entries::PAGE],
 ) -> Filling
-    requires { ⌜ («staged_count» * 10288 ≤ length (now staged)) × («table_count» * 10288 ≤ length (now table)) × (number < 2147483648)
-        × (distinct (keys 10288 «table_count» (now table)) ≡ true) × Ready wanted filling (now page) ⌝ }
-    ensures { λ r. ⌜ Filled wanted (unspent-newest-first (numbers-in (row-checked edition-1 (sources (now (parent .entry)) (now (staged .entry)) «staged_count» (now (table .entry)) «table_count») number)))
+    requires { ⌜ («staged_count» * record-size edition ≤ length (now staged)) × («table_count» * record-size edition ≤ length (now table)) × (number < 2147483648)
+        × (distinct (keys (record-size edition) «table_count» (now table)) ≡ true) × Ready wanted filling (now page) ⌝ }
+    ensures { λ r. ⌜ Filled wanted (unspent-newest-first (numbers-in (row-checked (edition-of edition) (sources (now (parent .entry)) (now (staged .entry)) «staged_count» (now (table .entry)) «table_count») number)))
         filling (now (page .entry)) r (now (page .exit)) ⌝ }
 {
     let mut row = [0i64; SEGMENT_THRESHOLD];
     let read = spill_rows::read_checked(
+        edition,
         parent,
         number,
         staged,
@@ -61,6 +64,7 @@ fn put_row<'a>(
 
 // Puts the rows into a page, from the newest down, until it is full.
 fn put_rows<'a>(
+    edition: RowEdition,
     parent: &[u8; 32],
     spills: usize,
     staged: &'a [u8],
@@ -72,9 +76,9 @@ fn put_rows<'a>(
     filling: Filling,
     page: &mut [i64; entries::PAGE],
 ) -> Filling
-    requires { ⌜ («staged_count» * 10288 ≤ length (now staged)) × («table_count» * 10288 ≤ length (now table)) × (spills < 2147483648)
-        × (distinct (keys 10288 «table_count» (now table)) ≡ true) × Ready wanted filling (now page) ⌝ }
-    ensures { λ r. ⌜ Filled wanted (unspent-newest-first (rows-flat (row-checked edition-1 (sources (now (parent .entry)) (now (staged .entry)) «staged_count» (now (table .entry)) «table_count»)) 0 spills))
+    requires { ⌜ («staged_count» * record-size edition ≤ length (now staged)) × («table_count» * record-size edition ≤ length (now table)) × (spills < 2147483648)
+        × (distinct (keys (record-size edition) «table_count» (now table)) ≡ true) × Ready wanted filling (now page) ⌝ }
+    ensures { λ r. ⌜ Filled wanted (unspent-newest-first (rows-flat (row-checked (edition-of edition) (sources (now (parent .entry)) (now (staged .entry)) «staged_count» (now (table .entry)) «table_count»)) 0 spills))
         filling (now (page .entry)) r (now (page .exit)) ⌝ }
 {
     let mut filled = filling;
@@ -86,6 +90,7 @@ fn put_rows<'a>(
         }
         n -= 1;
         filled = put_row(
+            edition,
             parent,
             n,
             staged,
@@ -103,6 +108,7 @@ fn put_rows<'a>(
 
 // Checks every row from spill 0 up as a tally does, also those that the page needs nothing of.
 fn check_rows<'a>(
+    edition: RowEdition,
     parent: &[u8; 32],
     rows: usize,
     staged: &'a [u8],
@@ -111,9 +117,9 @@ fn check_rows<'a>(
     table_count: usize,
     hints: &[u16],
 ) -> Read
-    requires { ⌜ («staged_count» * 10288 ≤ length (now staged)) × («table_count» * 10288 ≤ length (now table)) × (rows < 2147483648)
-        × (distinct (keys 10288 «table_count» (now table)) ≡ true) ⌝ }
-    ensures { λ r. ⌜ r ≡ read-of (rows-up (row-checked edition-1 (sources (now (parent .entry)) (now (staged .entry)) «staged_count» (now (table .entry)) «table_count»)) 0 rows) ⌝ }
+    requires { ⌜ («staged_count» * record-size edition ≤ length (now staged)) × («table_count» * record-size edition ≤ length (now table)) × (rows < 2147483648)
+        × (distinct (keys (record-size edition) «table_count» (now table)) ≡ true) ⌝ }
+    ensures { λ r. ⌜ r ≡ read-of (rows-up (row-checked (edition-of edition) (sources (now (parent .entry)) (now (staged .entry)) «staged_count» (now (table .entry)) «table_count»)) 0 rows) ⌝ }
 {
     let none = Tally {
         unspent: 0,
@@ -121,6 +127,7 @@ fn check_rows<'a>(
         unknown: 0,
     };
     let tallied = tally_core::count_rows(
+        edition,
         parent,
         rows,
         none,
@@ -138,6 +145,7 @@ fn check_rows<'a>(
 
 // Fills a page from the head and the rows and copies it out. The answer is how many numbers stand in it.
 fn put_page<'a>(
+    edition: RowEdition,
     parent: &[u8; 32],
     spills: usize,
     head: &[i64],
@@ -151,11 +159,11 @@ fn put_page<'a>(
     wanted: usize,
     out: &mut [i64],
 ) -> usize
-    requires { ⌜ («staged_count» * 10288 ≤ length (now staged)) × («table_count» * 10288 ≤ length (now table)) × (spills < 2147483648)
-        × (distinct (keys 10288 «table_count» (now table)) ≡ true) × (len ≤ length (now head)) × (wanted ≤ page-places) × (page-places ≤ length (now out)) ⌝ }
+    requires { ⌜ («staged_count» * record-size edition ≤ length (now staged)) × («table_count» * record-size edition ≤ length (now table)) × (spills < 2147483648)
+        × (distinct (keys (record-size edition) «table_count» (now table)) ≡ true) × (len ≤ length (now head)) × (wanted ≤ page-places) × (page-places ≤ length (now out)) ⌝ }
     ensures { λ r. ⌜ paging (Numbers r) (now (out .exit))
         ≡ put-page (stretch offset wanted (unspent-newest-first
-        (rows-flat (row-checked edition-1 (sources (now (parent .entry)) (now (staged .entry)) «staged_count» (now (table .entry)) «table_count»)) 0 spills ++ take len (now (head .entry)))))
+        (rows-flat (row-checked (edition-of edition) (sources (now (parent .entry)) (now (staged .entry)) «staged_count» (now (table .entry)) «table_count»)) 0 spills ++ take len (now (head .entry)))))
         (now (out .entry)) ⌝ }
 {
     let mut page = [0i64; entries::PAGE];
@@ -165,6 +173,7 @@ fn put_page<'a>(
     };
     let of_head = page_entries::put_newest(head, len, wanted, start, &mut page);
     let filled = put_rows(
+        edition,
         parent,
         spills,
         staged,
@@ -182,6 +191,7 @@ fn put_page<'a>(
 
 // The rows are checked, then the page is filled.
 fn page_hinted<'a>(
+    edition: RowEdition,
     parent: &[u8; 32],
     spills: usize,
     head: &[i64],
@@ -195,13 +205,14 @@ fn page_hinted<'a>(
     wanted: usize,
     out: &mut [i64],
 ) -> Paged
-    requires { ⌜ («staged_count» * 10288 ≤ length (now staged)) × («table_count» * 10288 ≤ length (now table)) × (spills < 2147483648)
-        × (distinct (keys 10288 «table_count» (now table)) ≡ true) × (len ≤ length (now head)) × (wanted ≤ page-places) × (page-places ≤ length (now out)) ⌝ }
+    requires { ⌜ («staged_count» * record-size edition ≤ length (now staged)) × («table_count» * record-size edition ≤ length (now table)) × (spills < 2147483648)
+        × (distinct (keys (record-size edition) «table_count» (now table)) ≡ true) × (len ≤ length (now head)) × (wanted ≤ page-places) × (page-places ≤ length (now out)) ⌝ }
     ensures { λ r. ⌜ paging r (now (out .exit))
-        ≡ page-over (rows-up (row-checked edition-1 (sources (now (parent .entry)) (now (staged .entry)) «staged_count» (now (table .entry)) «table_count»)) 0 spills)
+        ≡ page-over (rows-up (row-checked (edition-of edition) (sources (now (parent .entry)) (now (staged .entry)) «staged_count» (now (table .entry)) «table_count»)) 0 spills)
         (take len (now (head .entry))) offset wanted (now (out .entry)) ⌝ }
 {
     let read = check_rows(
+        edition,
         parent,
         spills,
         staged,
@@ -213,6 +224,7 @@ fn page_hinted<'a>(
     match read {
         Read::Good => {
             let count = put_page(
+                edition,
                 parent,
                 spills,
                 head,
@@ -234,6 +246,7 @@ fn page_hinted<'a>(
 
 // page_hinted for a table of few records.
 fn page_few<'a>(
+    edition: RowEdition,
     parent: &[u8; 32],
     spills: usize,
     head: &[i64],
@@ -246,14 +259,15 @@ fn page_few<'a>(
     wanted: usize,
     out: &mut [i64],
 ) -> Paged
-    requires { ⌜ («staged_count» * 10288 ≤ length (now staged)) × («table_count» * 10288 ≤ length (now table)) × (spills < 2147483648)
-        × (distinct (keys 10288 «table_count» (now table)) ≡ true) × (len ≤ length (now head)) × (wanted ≤ page-places) × (page-places ≤ length (now out)) ⌝ }
+    requires { ⌜ («staged_count» * record-size edition ≤ length (now staged)) × («table_count» * record-size edition ≤ length (now table)) × (spills < 2147483648)
+        × (distinct (keys (record-size edition) «table_count» (now table)) ≡ true) × (len ≤ length (now head)) × (wanted ≤ page-places) × (page-places ≤ length (now out)) ⌝ }
     ensures { λ r. ⌜ paging r (now (out .exit))
-        ≡ page-over (rows-up (row-checked edition-1 (sources (now (parent .entry)) (now (staged .entry)) «staged_count» (now (table .entry)) «table_count»)) 0 spills)
+        ≡ page-over (rows-up (row-checked (edition-of edition) (sources (now (parent .entry)) (now (staged .entry)) «staged_count» (now (table .entry)) «table_count»)) 0 spills)
         (take len (now (head .entry))) offset wanted (now (out .entry)) ⌝ }
 {
     let none = [0u16; 1];
     page_hinted(
+        edition,
         parent,
         spills,
         head,
@@ -271,6 +285,7 @@ fn page_few<'a>(
 
 // page_hinted for a table of many records: where they stand is noted first.
 fn page_many<'a>(
+    edition: RowEdition,
     parent: &[u8; 32],
     spills: usize,
     head: &[i64],
@@ -283,15 +298,17 @@ fn page_many<'a>(
     wanted: usize,
     out: &mut [i64],
 ) -> Paged
-    requires { ⌜ («staged_count» * 10288 ≤ length (now staged)) × («table_count» * 10288 ≤ length (now table)) × (spills < 2147483648)
-        × (distinct (keys 10288 «table_count» (now table)) ≡ true) × (len ≤ length (now head)) × (wanted ≤ page-places) × (page-places ≤ length (now out)) ⌝ }
+    requires { ⌜ («staged_count» * record-size edition ≤ length (now staged)) × («table_count» * record-size edition ≤ length (now table)) × (spills < 2147483648)
+        × (distinct (keys (record-size edition) «table_count» (now table)) ≡ true) × (len ≤ length (now head)) × (wanted ≤ page-places) × (page-places ≤ length (now out)) ⌝ }
     ensures { λ r. ⌜ paging r (now (out .exit))
-        ≡ page-over (rows-up (row-checked edition-1 (sources (now (parent .entry)) (now (staged .entry)) «staged_count» (now (table .entry)) «table_count»)) 0 spills)
+        ≡ page-over (rows-up (row-checked (edition-of edition) (sources (now (parent .entry)) (now (staged .entry)) «staged_count» (now (table .entry)) «table_count»)) 0 spills)
         (take len (now (head .entry))) offset wanted (now (out .entry)) ⌝ }
 {
     let mut hints = [0u16; 16384];
-    record_hints::note_places(table, buffer_core::RECORD, table_count, &mut hints);
+    let size = buffer_core::record_size(edition);
+    record_hints::note_places(table, size, table_count, &mut hints);
     page_hinted(
+        edition,
         parent,
         spills,
         head,
@@ -309,6 +326,7 @@ fn page_many<'a>(
 
 // The page over the rows and the first numbers of the head, or the code of the first row that is refused.
 pub fn page_rows<'a>(
+    edition: RowEdition,
     parent: &[u8; 32],
     spills: usize,
     head: &[i64],
@@ -321,14 +339,15 @@ pub fn page_rows<'a>(
     wanted: usize,
     out: &mut [i64],
 ) -> Paged
-    requires { ⌜ («staged_count» * 10288 ≤ length (now staged)) × («table_count» * 10288 ≤ length (now table)) × (spills < 2147483648)
-        × (distinct (keys 10288 «table_count» (now table)) ≡ true) × (len ≤ length (now head)) × (wanted ≤ page-places) × (page-places ≤ length (now out)) ⌝ }
+    requires { ⌜ («staged_count» * record-size edition ≤ length (now staged)) × («table_count» * record-size edition ≤ length (now table)) × (spills < 2147483648)
+        × (distinct (keys (record-size edition) «table_count» (now table)) ≡ true) × (len ≤ length (now head)) × (wanted ≤ page-places) × (page-places ≤ length (now out)) ⌝ }
     ensures { λ r. ⌜ paging r (now (out .exit))
-        ≡ page-over (rows-up (row-checked edition-1 (sources (now (parent .entry)) (now (staged .entry)) «staged_count» (now (table .entry)) «table_count»)) 0 spills)
+        ≡ page-over (rows-up (row-checked (edition-of edition) (sources (now (parent .entry)) (now (staged .entry)) «staged_count» (now (table .entry)) «table_count»)) 0 spills)
         (take len (now (head .entry))) offset wanted (now (out .entry)) ⌝ }
 {
     if table_count <= 128 {
         return page_few(
+            edition,
             parent,
             spills,
             head,
@@ -343,6 +362,7 @@ pub fn page_rows<'a>(
         );
     }
     page_many(
+        edition,
         parent,
         spills,
         head,

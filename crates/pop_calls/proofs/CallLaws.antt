@@ -7,17 +7,18 @@ use lib.IntN.{ℤ}
 use Rattle.index_types.specs.declared.ListCounts.{ListCounts}
 use Rattle.segment_id.specs.declared.Kind.{Kind}
 use Rattle.index_types.specs.declared.HeadCounts.{HeadCounts}
+use Rattle.index_types.specs.declared.RowEdition.{RowEdition}
 use Rattle.index_types.specs.declared.Popped.{Popped}
 use Rattle.index_types.specs.declared.Popped.the-variants as popped
-use Rattle.buffer_core.specs.Edition.{edition-1}
+use Rattle.buffer_core.specs.Edition.{edition-of}
 use Rattle.buffer_core.specs.Pop.{Popping, popping, Lists, pop-ok, pop-core, pop-of}
 
-module _ (kind : Kind) (parent : List ℕ) (h : HeadCounts) (b : Lists) (head : List ℤ) where
-  pub pop-25 : pop-ok edition-1 h b head ≡ false → popping (popped.Refused 25) head (b .staged) (b .deleted) ≡ pop-of edition-1 kind parent h b head
+module _ (v : RowEdition) (kind : Kind) (parent : List ℕ) (h : HeadCounts) (b : Lists) (head : List ℤ) where
+  pub pop-25 : pop-ok (edition-of v) h b head ≡ false → popping (popped.Refused 25) head (b .staged) (b .deleted) ≡ pop-of (edition-of v) kind parent h b head
   unfolding pop-of
   pop-25 e = rw e
 
-  pub pop-goes : pop-ok edition-1 h b head ≡ true → (o : Popping) → o ≡ pop-core edition-1 kind parent h b head → o ≡ pop-of edition-1 kind parent h b head
+  pub pop-goes : pop-ok (edition-of v) h b head ≡ true → (o : Popping) → o ≡ pop-core (edition-of v) kind parent h b head → o ≡ pop-of (edition-of v) kind parent h b head
   unfolding pop-of
   pop-goes e o d = rw e d
 

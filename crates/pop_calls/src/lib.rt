@@ -1,7 +1,7 @@
 // Pop of a box number or a transaction number, for any buffers.
 ghost use mathlib.Core.Path.{_≡_};
 ghost use Rattle.segment_id.specs.declared.Kind.the-variants.{Box, Tx};
-ghost use Rattle.buffer_core.specs.Edition.{edition-1};
+ghost use Rattle.buffer_core.specs.Edition.{edition-of};
 ghost use Rattle.buffer_core.specs.Pop.{popping, lists, pop-of};
 ghost use Rattle.buffer_checks.specs.Answers.{as-popped-box, as-popped-tx};
 use index_types::BoxNumber;
@@ -10,11 +10,13 @@ use index_types::ListCounts;
 use index_types::Popped;
 use index_types::PoppedBox;
 use index_types::PoppedTx;
+use index_types::RowEdition;
 use index_types::TxNumber;
 use segment_id::Kind;
 
 // A pop of either kind.
 fn pop_entry(
+    edition: RowEdition,
     kind: Kind,
     parent: &[u8; 32],
     counts: HeadCounts,
@@ -27,10 +29,11 @@ fn pop_entry(
     deleted: &mut [u8],
 ) -> Popped
     ensures { λ r. ⌜ popping r (now (head .exit)) (now (staged .exit)) (now (deleted .exit))
-        ≡ pop-of edition-1 kind (now (parent .entry)) counts
+        ≡ pop-of (edition-of edition) kind (now (parent .entry)) counts
         (lists «staged_counts» (now (staged .entry)) «table_counts» (now (table .entry)) «deleted_counts» (now (deleted .entry))) (now (head .entry)) ⌝ }
 {
     if buffer_checks::pop_ok(
+        edition,
         counts,
         head,
         staged_counts,
@@ -41,6 +44,7 @@ fn pop_entry(
         deleted,
     ) {
         return pop_core::pop(
+            edition,
             kind,
             parent,
             counts,
@@ -58,6 +62,7 @@ fn pop_entry(
 
 // The last box number of the head; on an empty head the newest row becomes the head first.
 pub fn pop_box_entry(
+    edition: RowEdition,
     parent: &[u8; 32],
     counts: HeadCounts,
     head: &mut [i64],
@@ -69,10 +74,11 @@ pub fn pop_box_entry(
     deleted: &mut [u8],
 ) -> PoppedBox
     ensures { λ r. ⌜ popping (as-popped-box r) (now (head .exit)) (now (staged .exit)) (now (deleted .exit))
-        ≡ pop-of edition-1 Box (now (parent .entry)) counts
+        ≡ pop-of (edition-of edition) Box (now (parent .entry)) counts
         (lists «staged_counts» (now (staged .entry)) «table_counts» (now (table .entry)) «deleted_counts» (now (deleted .entry))) (now (head .entry)) ⌝ }
 {
     let popped = pop_entry(
+        edition,
         Kind::Box,
         parent,
         counts,
@@ -94,6 +100,7 @@ pub fn pop_box_entry(
 
 // The same for transactions.
 pub fn pop_tx_entry(
+    edition: RowEdition,
     parent: &[u8; 32],
     counts: HeadCounts,
     head: &mut [i64],
@@ -105,10 +112,11 @@ pub fn pop_tx_entry(
     deleted: &mut [u8],
 ) -> PoppedTx
     ensures { λ r. ⌜ popping (as-popped-tx r) (now (head .exit)) (now (staged .exit)) (now (deleted .exit))
-        ≡ pop-of edition-1 Tx (now (parent .entry)) counts
+        ≡ pop-of (edition-of edition) Tx (now (parent .entry)) counts
         (lists «staged_counts» (now (staged .entry)) «table_counts» (now (table .entry)) «deleted_counts» (now (deleted .entry))) (now (head .entry)) ⌝ }
 {
     let popped = pop_entry(
+        edition,
         Kind::Tx,
         parent,
         counts,

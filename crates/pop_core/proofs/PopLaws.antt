@@ -23,14 +23,17 @@ use Rattle.segment_id.specs.declared.Kind.{Kind}
 use Rattle.segment_core.specs.Loading.{padded}
 use Rattle.index_types.specs.declared.HeadCounts.{HeadCounts}
 use Rattle.index_types.specs.declared.Popped.the-variants.{Number, Refused}
-use Rattle.buffer_core.specs.Edition.{edition-1, RowRead, bad, good}
+use Rattle.index_types.specs.declared.RowEdition.{RowEdition}
+use Rattle.buffer_core.specs.Edition.{RowRead, bad, good, record-size, edition-of}
+use Rattle.buffer_core.specs.Spills.{sources, spill-read}
 use Rattle.buffer_core.specs.Append.{counts-of}
 use Rattle.buffer_core.specs.Pop.{Popping, popping, Lists, lists, count-without, bytes-without, last-of, without-last, merged, merge-of, unspill-of, pop-core}
 use Rattle.buffer_core.proofs.HeadLaws.{spills-below}
-use Rattle.spill_rows.specs.declared.SpillRead.{SpillRead}
-use Rattle.spill_rows.specs.declared.SpillRead.the-variants as read
-use Rattle.spill_rows.specs.Steps.{SpillInto, read-under}
-use Rattle.spill_rows.proofs.SpillLaws.{padded-length, spill-under, under-few}
+use Rattle.row_edition.specs.declared.SpillRead.{SpillRead}
+use Rattle.row_edition.specs.declared.SpillRead.the-variants as read
+use Rattle.row_edition.specs.Steps.{SpillInto}
+use Rattle.row_edition.proofs.ReadingLaws.{padded-length}
+use Rattle.spill_rows.proofs.SpillLaws.{spill-few}
 use Rattle.pop_core.specs.Ready.{PopReady, MergeReady, Merges}
 
 -- ---- a key's record leaves a list
@@ -45,35 +48,35 @@ module _ (size : ℕ) (c : ListCounts) (l : List ℕ) (f g : Found) (e : f ≡ g
 
 -- ---- a row is merged back
 
-module _ (list : List ℤ) (n spills : ℕ) (key : List ℕ) (c : ListCounts) (staged : List ℕ) (e : ListCounts) (deleted : List ℕ) (head : List ℤ) where
+module _ (ed : RowEdition) (list : List ℤ) (n spills : ℕ) (key : List ℕ) (c : ListCounts) (staged : List ℕ) (e : ListCounts) (deleted : List ℕ) (head : List ℤ) where
   pub merge-done : (h₁ h₂ : List ℤ) (v s : ℤ) (c′ : ListCounts) (staged′ : List ℕ) (m : ℕ) (deleted′ : List ℕ) → h₁ ≡ write 0 list head
       → v ≡ last-of n h₁ → h₂ ≡ without-last n h₁ → s ≡ pos spills
-      → c′ ≡ count-without (find-key key (keys 10288 (c .count) staged)) c → staged′ ≡ bytes-without 10288 (find-key key (keys 10288 (c .count) staged)) c staged
+      → c′ ≡ count-without (find-key key (keys (record-size ed) (c .count) staged)) c → staged′ ≡ bytes-without (record-size ed) (find-key key (keys (record-size ed) (c .count) staged)) c staged
       → m ≡ count-after (find-key key (keys 32 (e .count) deleted)) (e .count) → deleted′ ≡ put-record 32 (e .count) key key deleted
-      → Merges list n spills key c staged e deleted head (popping (Number v (counts-of (n - 1) s) c′ (with-count m e)) h₂ staged′ deleted′)
+      → Merges ed list n spills key c staged e deleted head (popping (Number v (counts-of (n - 1) s) c′ (with-count m e)) h₂ staged′ deleted′)
   unfolding merged
   merge-done h₁ h₂ v s c′ staged′ m deleted′ e₁ e₂ e₃ e₄ e₅ e₆ e₇ e₈ zs d table p q = rw (e₂, e₃, e₁, e₄, e₅, e₆, e₇, e₈, p, q)
 
 -- ---- the ways out of an unspill
 
-module _ (kind : Kind) (parent : List ℕ) (spills : ℕ) (c : ListCounts) (staged : List ℕ) (d : ListCounts) (table : List ℕ) (e : ListCounts) (deleted : List ℕ)
+module _ (ed : RowEdition) (kind : Kind) (parent : List ℕ) (spills : ℕ) (c : ListCounts) (staged : List ℕ) (d : ListCounts) (table : List ℕ) (e : ListCounts) (deleted : List ℕ)
     (head : List ℤ) (key : List ℕ) (is : key ≡ row-key parent kind (pos spills)) (a : SpillRead) (list : List ℤ)
-    (p : SpillInto (read-under edition-1 kind key staged (c .count) table (d .count)) a list) where
+    (p : SpillInto (spill-read (edition-of ed) kind (sources parent staged (c .count) table (d .count)) spills) a list) where
   abbrev out : Popping
-  out = unspill-of edition-1 kind parent spills (lists c staged d table e deleted) head
+  out = unspill-of (edition-of ed) kind parent spills (lists c staged d table e deleted) head
 
   abbrev row : RowRead
-  row = read-under edition-1 kind key staged (c .count) table (d .count)
+  row = spill-read (edition-of ed) kind (sources parent staged (c .count) table (d .count)) spills
 
-  unspill-is : merge-of edition-1 row key spills (lists c staged d table e deleted) head ≡ out
+  unspill-is : merge-of (edition-of ed) row key spills (lists c staged d table e deleted) head ≡ out
   unfolding unspill-of
-  unspill-is = rw (spill-under kind parent staged (c .count) table (d .count) spills, ← is)
+  unspill-is = rw (← is)
 
   pub unspill-bad : (code : ℕ) → a ≡ read.Refused code → popping (Refused code) head staged deleted ≡ out
   unfolding merge-of
   unspill-bad code q = by-row row p ∙ unspill-is
     where
-      by-row : (x : RowRead) → SpillInto x a list → popping (Refused code) head staged deleted ≡ merge-of edition-1 x key spills (lists c staged d table e deleted) head
+      by-row : (x : RowRead) → SpillInto x a list → popping (Refused code) head staged deleted ≡ merge-of (edition-of ed) x key spills (lists c staged d table e deleted) head
       by-row (bad y) s = let f : code ≡ y = cc in rw f
       by-row (good zs) s = let f : a ≡ read.Numbers (length zs) = s .0 in let z : _≡_ {A = ℕ} 0 1 = cc in absurd (omega arith)
 
@@ -94,7 +97,7 @@ module _ (kind : Kind) (parent : List ℕ) (spills : ℕ) (c : ListCounts) (stag
         by-row (good zs) f s =
             let g : a ≡ read.Numbers (length zs) = s .0 in
             let h : n ≡ length zs = cc in
-            let w = under-few kind key staged (c .count) table (d .count) zs f in
+            let w = spill-few ed kind parent staged (c .count) table (d .count) spills zs f in
             record { numbers = zs; good-row = f; counted = h; pads = s .1; few = omega arith; listed = ap length (s .1) ∙ padded-length zs w }
 
     pub unspill-20 : n ≡ 0 → popping (Refused 20) head staged deleted ≡ out
@@ -106,14 +109,14 @@ module _ (kind : Kind) (parent : List ℕ) (spills : ℕ) (c : ListCounts) (stag
       unfolding merge-of
       unspill-21 f = rw (got .good-row, ne-eqb (length (got .numbers)) 0 (λ z. h (got .counted ∙ z)), f) at unspill-is
 
-      pub unspill-done : full-for 32 e key deleted ≡ false → (o : Popping) → Merges list n spills key c staged e deleted head o → o ≡ out
+      pub unspill-done : full-for 32 e key deleted ≡ false → (o : Popping) → Merges ed list n spills key c staged e deleted head o → o ≡ out
       unfolding merge-of
       unspill-done f o m =
           m (got .numbers) d table (got .pads) (got .counted)
           ∙ (rw (got .good-row, ne-eqb (length (got .numbers)) 0 (λ z. h (got .counted ∙ z)), f) at unspill-is)
 
-      pub merge-ready : full-for 32 e key deleted ≡ false → spills < 2147483648 → length key ≡ 32 → PopReady (lists c staged d table e deleted) head
-          → MergeReady list n spills key c staged e deleted head
+      pub merge-ready : full-for 32 e key deleted ≡ false → spills < 2147483648 → length key ≡ 32 → PopReady ed (lists c staged d table e deleted) head
+          → MergeReady ed list n spills key c staged e deleted head
       merge-ready f b k r =
           record {
             long = r .long;
@@ -129,24 +132,24 @@ module _ (kind : Kind) (parent : List ℕ) (spills : ℕ) (c : ListCounts) (stag
 
 -- ---- the ways out of a pop
 
-module _ (kind : Kind) (parent : List ℕ) (h : HeadCounts) (b : Lists) (head : List ℤ) where
-  pub pop-11 : is-negative (h .spills) ≡ true → popping (Refused 11) head (b .staged) (b .deleted) ≡ pop-core edition-1 kind parent h b head
+module _ (ed : RowEdition) (kind : Kind) (parent : List ℕ) (h : HeadCounts) (b : Lists) (head : List ℤ) where
+  pub pop-11 : is-negative (h .spills) ≡ true → popping (Refused 11) head (b .staged) (b .deleted) ≡ pop-core (edition-of ed) kind parent h b head
   unfolding pop-core
   pop-11 k = rw k
 
   module _ (k : is-negative (h .spills) ≡ false) where
     pub pop-last : 0 < h .len → (v s : ℤ) (head′ : List ℤ) → v ≡ last-of (h .len) head → s ≡ h .spills → head′ ≡ without-last (h .len) head
         → popping (Number v (counts-of (h .len - 1) s) (b .staged-counts) (b .deleted-counts)) head′ (b .staged) (b .deleted)
-        ≡ pop-core edition-1 kind parent h b head
+        ≡ pop-core (edition-of ed) kind parent h b head
     unfolding pop-core
     pop-last m v s head′ p q r = rw (k, lt-ltb 0 (h .len) m, p, q, r)
 
     module _ (m : h .len ≤ 0) (n : ℕ) (e : n ≡ natAbs (h .spills)) where
-      pub pop-19 : n ≡ 0 → popping (Refused 19) head (b .staged) (b .deleted) ≡ pop-core edition-1 kind parent h b head
+      pub pop-19 : n ≡ 0 → popping (Refused 19) head (b .staged) (b .deleted) ≡ pop-core (edition-of ed) kind parent h b head
       unfolding pop-core
       pop-19 z = rw (k, le-ltb 0 (h .len) m, ← e, eq-eqb n 0 z)
 
-      pub pop-row : (n ≡ 0 → ⊥) → (o : Popping) → o ≡ unspill-of edition-1 kind parent (n - 1) b head → o ≡ pop-core edition-1 kind parent h b head
+      pub pop-row : (n ≡ 0 → ⊥) → (o : Popping) → o ≡ unspill-of (edition-of ed) kind parent (n - 1) b head → o ≡ pop-core (edition-of ed) kind parent h b head
       unfolding pop-core
       pop-row z o q = rw (k, le-ltb 0 (h .len) m, ← e, ne-eqb n 0 z) q
 

@@ -5,16 +5,17 @@ ghost use lib.ListN.{length};
 ghost use Rattle.index_types.specs.Limits.{segment-threshold};
 ghost use Rattle.records.specs.Records.{keys};
 ghost use Rattle.records.specs.Find.{find-key};
-ghost use Rattle.buffer_core.specs.Edition.{edition-1};
+ghost use Rattle.buffer_core.specs.Edition.{edition-of};
 ghost use Rattle.buffer_core.specs.Pop.{popping, lists, count-without, bytes-without, last-of, without-last, unspill-of, pop-core};
 ghost use Rattle.pop_core.specs.Ready.{PopReady, MergeReady, Merges};
 use index_types::HeadCounts;
 use index_types::ListCounts;
 use index_types::Popped;
+use index_types::RowEdition;
 use index_types::SEGMENT_THRESHOLD;
 use records::Found;
+use row_edition::SpillRead;
 use segment_id::Kind;
-use spill_rows::SpillRead;
 
 // Takes the last of the head's numbers; its place becomes 0.
 fn take_last(head: &mut [i64], len: usize) -> i64
@@ -28,16 +29,16 @@ fn take_last(head: &mut [i64], len: usize) -> i64
 }
 
 // Removes the record with the key, if there is one, and gives the counts.
-fn unstage(staged: &mut [u8], counts: ListCounts, key: &[u8]) -> ListCounts
-    requires { ⌜ counts .count * 10288 ≤ length (now staged) ⌝ }
-    ensures { λ r. ⌜ (r ≡ count-without (find-key (now (key .entry)) (keys 10288 (counts .count) (now (staged .entry)))) counts)
-        × (now (staged .exit) ≡ bytes-without 10288 (find-key (now (key .entry)) (keys 10288 (counts .count) (now (staged .entry)))) counts (now (staged .entry))) ⌝ }
+fn unstage(staged: &mut [u8], size: usize, counts: ListCounts, key: &[u8]) -> ListCounts
+    requires { ⌜ (32 ≤ size) × (counts .count * size ≤ length (now staged)) ⌝ }
+    ensures { λ r. ⌜ (r ≡ count-without (find-key (now (key .entry)) (keys size (counts .count) (now (staged .entry)))) counts)
+        × (now (staged .exit) ≡ bytes-without size (find-key (now (key .entry)) (keys size (counts .count) (now (staged .entry)))) counts (now (staged .entry))) ⌝ }
 {
     let count = counts.count;
-    let found = records::find(staged, buffer_core::RECORD, count, key);
+    let found = records::find(staged, size, count, key);
     match found {
         Found::At(i) => {
-            record_changes::remove(staged, buffer_core::RECORD, count, i);
+            record_changes::remove(staged, size, count, i);
             ListCounts {
                 count: count - 1,
                 capacity: counts.capacity,
@@ -49,6 +50,7 @@ fn unstage(staged: &mut [u8], counts: ListCounts, key: &[u8]) -> ListCounts
 
 // The n numbers of a row become the head, which loses its last; the row's key leaves the staged spills and joins the deleted ones.
 fn merge(
+    edition: RowEdition,
     list: &[i64],
     n: usize,
     spills: usize,
@@ -59,13 +61,14 @@ fn merge(
     deleted_counts: ListCounts,
     deleted: &mut [u8],
 ) -> Popped
-    requires { ⌜ MergeReady (now list) n spills (now key) «staged_counts» (now staged) «deleted_counts» (now deleted) (now head) ⌝ }
-    ensures { λ r. ⌜ Merges (now (list .entry)) n spills (now (key .entry)) «staged_counts» (now (staged .entry)) «deleted_counts» (now (deleted .entry)) (now (head .entry))
+    requires { ⌜ MergeReady edition (now list) n spills (now key) «staged_counts» (now staged) «deleted_counts» (now deleted) (now head) ⌝ }
+    ensures { λ r. ⌜ Merges edition (now (list .entry)) n spills (now (key .entry)) «staged_counts» (now (staged .entry)) «deleted_counts» (now (deleted .entry)) (now (head .entry))
         (popping r (now (head .exit)) (now (staged .exit)) (now (deleted .exit))) ⌝ }
 {
     stores::copy_numbers(head, 0, list);
     let number = take_last(head, n);
-    let staged_after = unstage(staged, staged_counts, key);
+    let size = buffer_core::record_size(edition);
+    let staged_after = unstage(staged, size, staged_counts, key);
     let count = record_changes::put_key(deleted, deleted_counts.count, key);
     let rows = signed::i32_from_usize(spills);
     Popped::Number(
@@ -84,6 +87,7 @@ fn merge(
 
 // A pop from an empty head with spills + 1 rows: the newest becomes the head. One row is read, so no hints are made.
 fn unspill(
+    edition: RowEdition,
     kind: Kind,
     parent: &[u8; 32],
     spills: usize,
@@ -95,16 +99,19 @@ fn unspill(
     deleted_counts: ListCounts,
     deleted: &mut [u8],
 ) -> Popped
-    requires { ⌜ (spills < 2147483648) × PopReady (lists «staged_counts» (now staged) «table_counts» (now table) «deleted_counts» (now deleted)) (now head) ⌝ }
+    requires { ⌜ (spills < 2147483648) × PopReady edition (lists «staged_counts» (now staged) «table_counts» (now table) «deleted_counts» (now deleted)) (now head) ⌝ }
     ensures { λ r. ⌜ popping r (now (head .exit)) (now (staged .exit)) (now (deleted .exit))
-        ≡ unspill-of edition-1 kind (now (parent .entry)) spills
+        ≡ unspill-of (edition-of edition) kind (now (parent .entry)) spills
         (lists «staged_counts» (now (staged .entry)) «table_counts» (now (table .entry)) «deleted_counts» (now (deleted .entry))) (now (head .entry)) ⌝ }
 {
     let key = spill_rows::spill_key(kind, parent, spills);
     let none = [0u16; 1];
     let mut list = [0i64; SEGMENT_THRESHOLD];
     let read = spill_rows::read_under(
+        edition,
         kind,
+        parent,
+        spills,
         &key,
         staged,
         staged_counts.count,
@@ -123,6 +130,7 @@ fn unspill(
                 return Popped::Refused(refusal::DELETED_FULL);
             }
             merge(
+                edition,
                 &list,
                 n,
                 spills,
@@ -139,6 +147,7 @@ fn unspill(
 
 // The last number of the head; an empty head takes the newest row first.
 pub fn pop(
+    edition: RowEdition,
     kind: Kind,
     parent: &[u8; 32],
     counts: HeadCounts,
@@ -150,9 +159,9 @@ pub fn pop(
     deleted_counts: ListCounts,
     deleted: &mut [u8],
 ) -> Popped
-    requires { ⌜ (counts .len ≤ segment-threshold) × PopReady (lists «staged_counts» (now staged) «table_counts» (now table) «deleted_counts» (now deleted)) (now head) ⌝ }
+    requires { ⌜ (counts .len ≤ segment-threshold) × PopReady edition (lists «staged_counts» (now staged) «table_counts» (now table) «deleted_counts» (now deleted)) (now head) ⌝ }
     ensures { λ r. ⌜ popping r (now (head .exit)) (now (staged .exit)) (now (deleted .exit))
-        ≡ pop-core edition-1 kind (now (parent .entry)) counts
+        ≡ pop-core (edition-of edition) kind (now (parent .entry)) counts
         (lists «staged_counts» (now (staged .entry)) «table_counts» (now (table .entry)) «deleted_counts» (now (deleted .entry))) (now (head .entry)) ⌝ }
 {
     let len = counts.len;
@@ -177,6 +186,7 @@ pub fn pop(
         return Popped::Refused(refusal::NOTHING_TO_POP);
     }
     unspill(
+        edition,
         kind,
         parent,
         rows - 1,

@@ -12,6 +12,7 @@ use call_steps::PARENT_NUMBERS;
 use call_steps::Said;
 use call_steps::SpillCounts;
 use call_steps::Stepped;
+use index_types::RowEdition;
 use index_types::SEGMENT_THRESHOLD;
 use index_types::TOKEN_LIMIT;
 
@@ -64,6 +65,7 @@ fn lists_ok(staged: &[u8], table: &[u8], deleted: &[u8], counts: SpillCounts) ->
     let table_counts = counts.table;
     let deleted_counts = counts.deleted;
     segment_buffer::lists_ok(
+        RowEdition::One,
         staged_counts,
         staged,
         table_counts,

@@ -13,11 +13,12 @@ use Rattle.entries.specs.Order.{order-ok}
 use Rattle.segment_core.specs.Loading.{padded}
 use Rattle.buffer_core.specs.Edition.{RowRead, good, bad}
 use Rattle.buffer_core.specs.Flip.{check-row}
-use Rattle.spill_rows.specs.declared.SpillRead.{SpillRead}
-use Rattle.spill_rows.specs.declared.SpillRead.the-variants.{Numbers, Refused}
+use Rattle.row_edition.specs.declared.SpillRead.{SpillRead}
+use Rattle.row_edition.specs.declared.SpillRead.the-variants.{Numbers, Refused}
 use Rattle.spill_rows.specs.declared.Read.{Read}
 use Rattle.spill_rows.specs.declared.Read.the-variants.{Good, Faulty}
-use Rattle.spill_rows.specs.Steps.{SpillInto, read-of, CheckedInto}
+use Rattle.row_edition.specs.Steps.{SpillInto}
+use Rattle.spill_rows.specs.Steps.{read-of, CheckedInto}
 
 pub nope : {X : Type 0} → _≡_ {A = ℕ} 0 1 → X
 nope e = let f : ⊥ = omega arith in absurd f

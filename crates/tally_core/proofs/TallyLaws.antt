@@ -16,7 +16,7 @@ use Rattle.entries.specs.Tally.{figures, plus}
 use Rattle.entries.proofs.TallyLaws.{adds-up, figures-append, plus-none, plus-comm, plus-assoc}
 use Rattle.index_types.specs.declared.Tallied.{Tallied}
 use Rattle.index_types.specs.declared.Tallied.the-variants.{Counts, Refused}
-use Rattle.buffer_core.specs.Edition.{RowRead, good, bad, edition-1}
+use Rattle.buffer_core.specs.Edition.{Edition, RowRead, good, bad}
 use Rattle.buffer_core.specs.Spills.{Sources, spill-read}
 use Rattle.buffer_core.specs.Rows.{then-more, then-rows, rows-up}
 use Rattle.buffer_core.specs.Flip.{check-row, row-checked}
@@ -63,9 +63,9 @@ counted-bad (bad d) r out c code e = let a = c .answer in let z : code ≡ d = c
 
 -- ---- a turn of the loop, and its end
 
-module _ (w : Sources) (n m : ℕ) (t : Tally) (h : n < m) where
+module _ (E : Edition) (w : Sources) (n m : ℕ) (t : Tally) (h : n < m) where
   abbrev f : ℕ → RowRead
-  f i = row-checked edition-1 w i
+  f i = row-checked E w i
 
   left : m - n ≡ suc (m - (n + 1))
   left = omega arith
@@ -73,7 +73,7 @@ module _ (w : Sources) (n m : ℕ) (t : Tally) (h : n < m) where
   pub turn : (more : Tally) → Counts more ≡ counted (f n) → (t′ : Tally) → t′ ≡ plus t more → tally-rows f n (m - n) t ≡ tally-rows f (n + 1) (m - (n + 1)) t′
   unfolding tally-rows
   turn more e t′ p =
-      let r = row-of (spill-read edition-1 _ w n) more e in
+      let r = row-of (spill-read E _ w n) more e in
       let a : t′ ≡ plus t (figures (r .numbers)) = p ∙ ap (plus t) (r .figured) in
       rw left (ap (λ (x : RowRead). tally-row x t (λ u. tally-rows f (n + 1) (m - (n + 1)) u)) (r .is) ∙ ap (λ (u : Tally). tally-rows f (n + 1) (m - (n + 1)) u) (sym a))
 
@@ -85,9 +85,9 @@ module _ (w : Sources) (n m : ℕ) (t : Tally) (h : n < m) where
       by-row (good zs) e = absurd (no-counts code (figures zs) e)
       by-row (bad d) e = let z : code ≡ d = cc in ap Refused z
 
-pub past : (w : Sources) (n m : ℕ) (t : Tally) → m ≤ n → tally-rows (row-checked edition-1 w) n (m - n) t ≡ Counts t
+pub past : (E : Edition) (w : Sources) (n m : ℕ) (t : Tally) → m ≤ n → tally-rows (row-checked E w) n (m - n) t ≡ Counts t
 unfolding tally-rows
-past w n m t h = let z : m - n ≡ 0 = omega arith in rw z
+past E w n m t h = let z : m - n ≡ 0 = omega arith in rw z
 
 -- ---- row by row, and as one list
 
@@ -119,17 +119,17 @@ module _ (f : ℕ → RowRead) where
 
 -- ---- the ways out
 
-module _ (w : Sources) (spills : ℤ) (zs : List ℤ) where
-  pub tally-10 : order-ok zs ≡ false → Refused 10 ≡ tally-core edition-1 w spills zs
+module _ (E : Edition) (w : Sources) (spills : ℤ) (zs : List ℤ) where
+  pub tally-10 : order-ok zs ≡ false → Refused 10 ≡ tally-core E w spills zs
   unfolding tally-core
   tally-10 e = rw e
 
-  pub tally-11 : order-ok zs ≡ true → is-negative spills ≡ true → Refused 11 ≡ tally-core edition-1 w spills zs
+  pub tally-11 : order-ok zs ≡ true → is-negative spills ≡ true → Refused 11 ≡ tally-core E w spills zs
   unfolding tally-core
   tally-11 e f = rw (e, f)
 
   pub tally-on : order-ok zs ≡ true → is-negative spills ≡ false → (n : ℕ) (t : Tally) → n ≡ natAbs spills → t ≡ figures zs
-      → (r : Tallied) → r ≡ tally-rows (row-checked edition-1 w) 0 n t → r ≡ tally-core edition-1 w spills zs
+      → (r : Tallied) → r ≡ tally-rows (row-checked E w) 0 n t → r ≡ tally-core E w spills zs
   unfolding tally-core
   tally-on e f n t a b r q =
-      rw (e, f) (q ∙ (λ i. tally-rows (row-checked edition-1 w) 0 (a i) (b i)) ∙ rows-then-head (row-checked edition-1 w) (natAbs spills) zs)
+      rw (e, f) (q ∙ (λ i. tally-rows (row-checked E w) 0 (a i) (b i)) ∙ rows-then-head (row-checked E w) (natAbs spills) zs)

@@ -6,7 +6,7 @@ ghost use lib.ListN.{length, take};
 ghost use Rattle.index_types.specs.Limits.{segment-threshold};
 ghost use Rattle.records.specs.Records.{keys};
 ghost use Rattle.records.specs.Find.{distinct};
-ghost use Rattle.buffer_core.specs.Edition.{edition-1};
+ghost use Rattle.buffer_core.specs.Edition.{edition-of, record-size};
 ghost use Rattle.buffer_core.specs.Spills.{sources};
 ghost use Rattle.buffer_core.specs.Flip.{row-checked};
 ghost use Rattle.buffer_core.specs.Tally.{tally-core};
@@ -15,6 +15,7 @@ ghost use Rattle.entries.specs.Tally.{plus};
 ghost use Rattle.tally_core.specs.Steps.{counted, tally-rows};
 use index_types::HeadCounts;
 use index_types::ListCounts;
+use index_types::RowEdition;
 use index_types::SEGMENT_THRESHOLD;
 use index_types::Tallied;
 use index_types::Tally;
@@ -22,6 +23,7 @@ use spill_rows::Read;
 
 // The figures of the row of a spill number, or the row's refusal code.
 fn count_row<'a>(
+    edition: RowEdition,
     parent: &[u8; 32],
     number: usize,
     staged: &'a [u8],
@@ -30,12 +32,13 @@ fn count_row<'a>(
     table_count: usize,
     hints: &[u16],
 ) -> Tallied
-    requires { ⌜ («staged_count» * 10288 ≤ length (now staged)) × («table_count» * 10288 ≤ length (now table)) × (number < 2147483648)
-        × (distinct (keys 10288 «table_count» (now table)) ≡ true) ⌝ }
-    ensures { λ r. ⌜ r ≡ counted (row-checked edition-1 (sources (now (parent .entry)) (now (staged .entry)) «staged_count» (now (table .entry)) «table_count») number) ⌝ }
+    requires { ⌜ («staged_count» * record-size edition ≤ length (now staged)) × («table_count» * record-size edition ≤ length (now table)) × (number < 2147483648)
+        × (distinct (keys (record-size edition) «table_count» (now table)) ≡ true) ⌝ }
+    ensures { λ r. ⌜ r ≡ counted (row-checked (edition-of edition) (sources (now (parent .entry)) (now (staged .entry)) «staged_count» (now (table .entry)) «table_count») number) ⌝ }
 {
     let mut row = [0i64; SEGMENT_THRESHOLD];
     let read = spill_rows::read_checked(
+        edition,
         parent,
         number,
         staged,
@@ -66,6 +69,7 @@ fn plus(a: Tally, b: Tally) -> Tally
 
 // Counts the entries of all rows from spill 0 up, on top of those counted so far.
 pub fn count_rows<'a>(
+    edition: RowEdition,
     parent: &[u8; 32],
     spills: usize,
     so_far: Tally,
@@ -75,14 +79,23 @@ pub fn count_rows<'a>(
     table_count: usize,
     hints: &[u16],
 ) -> Tallied
-    requires { ⌜ («staged_count» * 10288 ≤ length (now staged)) × («table_count» * 10288 ≤ length (now table)) × (spills < 2147483648)
-        × («so_far» .unspent ≤ segment-threshold) × («so_far» .spent ≤ segment-threshold) × («so_far» .unknown ≤ segment-threshold) × (distinct (keys 10288 «table_count» (now table)) ≡ true) ⌝ }
-    ensures { λ r. ⌜ r ≡ tally-rows (row-checked edition-1 (sources (now (parent .entry)) (now (staged .entry)) «staged_count» (now (table .entry)) «table_count»)) 0 spills «so_far» ⌝ }
+    requires { ⌜ («staged_count» * record-size edition ≤ length (now staged)) × («table_count» * record-size edition ≤ length (now table)) × (spills < 2147483648)
+        × («so_far» .unspent ≤ segment-threshold) × («so_far» .spent ≤ segment-threshold) × («so_far» .unknown ≤ segment-threshold) × (distinct (keys (record-size edition) «table_count» (now table)) ≡ true) ⌝ }
+    ensures { λ r. ⌜ r ≡ tally-rows (row-checked (edition-of edition) (sources (now (parent .entry)) (now (staged .entry)) «staged_count» (now (table .entry)) «table_count»)) 0 spills «so_far» ⌝ }
 {
     let mut t = so_far;
     let mut n = 0;
     while n < spills {
-        let row = count_row(parent, n, staged, staged_count, table, table_count, hints);
+        let row = count_row(
+            edition,
+            parent,
+            n,
+            staged,
+            staged_count,
+            table,
+            table_count,
+            hints,
+        );
         match row {
             Tallied::Counts(more) => {
                 t = plus(t, more);
@@ -98,6 +111,7 @@ pub fn count_rows<'a>(
 
 // count_rows for a table of few records.
 fn count_few<'a>(
+    edition: RowEdition,
     parent: &[u8; 32],
     spills: usize,
     so_far: Tally,
@@ -106,12 +120,13 @@ fn count_few<'a>(
     table: &'a [u8],
     table_count: usize,
 ) -> Tallied
-    requires { ⌜ («staged_count» * 10288 ≤ length (now staged)) × («table_count» * 10288 ≤ length (now table)) × (spills < 2147483648)
-        × («so_far» .unspent ≤ segment-threshold) × («so_far» .spent ≤ segment-threshold) × («so_far» .unknown ≤ segment-threshold) × (distinct (keys 10288 «table_count» (now table)) ≡ true) ⌝ }
-    ensures { λ r. ⌜ r ≡ tally-rows (row-checked edition-1 (sources (now (parent .entry)) (now (staged .entry)) «staged_count» (now (table .entry)) «table_count»)) 0 spills «so_far» ⌝ }
+    requires { ⌜ («staged_count» * record-size edition ≤ length (now staged)) × («table_count» * record-size edition ≤ length (now table)) × (spills < 2147483648)
+        × («so_far» .unspent ≤ segment-threshold) × («so_far» .spent ≤ segment-threshold) × («so_far» .unknown ≤ segment-threshold) × (distinct (keys (record-size edition) «table_count» (now table)) ≡ true) ⌝ }
+    ensures { λ r. ⌜ r ≡ tally-rows (row-checked (edition-of edition) (sources (now (parent .entry)) (now (staged .entry)) «staged_count» (now (table .entry)) «table_count»)) 0 spills «so_far» ⌝ }
 {
     let none = [0u16; 1];
     count_rows(
+        edition,
         parent,
         spills,
         so_far,
@@ -125,6 +140,7 @@ fn count_few<'a>(
 
 // count_rows for a table of many records: where they stand is noted first.
 fn count_many<'a>(
+    edition: RowEdition,
     parent: &[u8; 32],
     spills: usize,
     so_far: Tally,
@@ -133,13 +149,15 @@ fn count_many<'a>(
     table: &'a [u8],
     table_count: usize,
 ) -> Tallied
-    requires { ⌜ («staged_count» * 10288 ≤ length (now staged)) × («table_count» * 10288 ≤ length (now table)) × (spills < 2147483648)
-        × («so_far» .unspent ≤ segment-threshold) × («so_far» .spent ≤ segment-threshold) × («so_far» .unknown ≤ segment-threshold) × (distinct (keys 10288 «table_count» (now table)) ≡ true) ⌝ }
-    ensures { λ r. ⌜ r ≡ tally-rows (row-checked edition-1 (sources (now (parent .entry)) (now (staged .entry)) «staged_count» (now (table .entry)) «table_count»)) 0 spills «so_far» ⌝ }
+    requires { ⌜ («staged_count» * record-size edition ≤ length (now staged)) × («table_count» * record-size edition ≤ length (now table)) × (spills < 2147483648)
+        × («so_far» .unspent ≤ segment-threshold) × («so_far» .spent ≤ segment-threshold) × («so_far» .unknown ≤ segment-threshold) × (distinct (keys (record-size edition) «table_count» (now table)) ≡ true) ⌝ }
+    ensures { λ r. ⌜ r ≡ tally-rows (row-checked (edition-of edition) (sources (now (parent .entry)) (now (staged .entry)) «staged_count» (now (table .entry)) «table_count»)) 0 spills «so_far» ⌝ }
 {
     let mut hints = [0u16; 16384];
-    record_hints::note_places(table, buffer_core::RECORD, table_count, &mut hints);
+    let size = buffer_core::record_size(edition);
+    record_hints::note_places(table, size, table_count, &mut hints);
     count_rows(
+        edition,
         parent,
         spills,
         so_far,
@@ -153,6 +171,7 @@ fn count_many<'a>(
 
 // The entries of all rows, on top of those of the head.
 fn count_spills<'a>(
+    edition: RowEdition,
     parent: &[u8; 32],
     spills: usize,
     so_far: Tally,
@@ -161,12 +180,13 @@ fn count_spills<'a>(
     table: &'a [u8],
     table_count: usize,
 ) -> Tallied
-    requires { ⌜ («staged_count» * 10288 ≤ length (now staged)) × («table_count» * 10288 ≤ length (now table)) × (spills < 2147483648)
-        × («so_far» .unspent ≤ segment-threshold) × («so_far» .spent ≤ segment-threshold) × («so_far» .unknown ≤ segment-threshold) × (distinct (keys 10288 «table_count» (now table)) ≡ true) ⌝ }
-    ensures { λ r. ⌜ r ≡ tally-rows (row-checked edition-1 (sources (now (parent .entry)) (now (staged .entry)) «staged_count» (now (table .entry)) «table_count»)) 0 spills «so_far» ⌝ }
+    requires { ⌜ («staged_count» * record-size edition ≤ length (now staged)) × («table_count» * record-size edition ≤ length (now table)) × (spills < 2147483648)
+        × («so_far» .unspent ≤ segment-threshold) × («so_far» .spent ≤ segment-threshold) × («so_far» .unknown ≤ segment-threshold) × (distinct (keys (record-size edition) «table_count» (now table)) ≡ true) ⌝ }
+    ensures { λ r. ⌜ r ≡ tally-rows (row-checked (edition-of edition) (sources (now (parent .entry)) (now (staged .entry)) «staged_count» (now (table .entry)) «table_count»)) 0 spills «so_far» ⌝ }
 {
     if table_count <= 128 {
         return count_few(
+            edition,
             parent,
             spills,
             so_far,
@@ -177,6 +197,7 @@ fn count_spills<'a>(
         );
     }
     count_many(
+        edition,
         parent,
         spills,
         so_far,
@@ -189,6 +210,7 @@ fn count_spills<'a>(
 
 // 10, 11, then the head's entries and the rows.
 pub fn tally<'a>(
+    edition: RowEdition,
     parent: &[u8; 32],
     counts: HeadCounts,
     staged_counts: ListCounts,
@@ -197,8 +219,8 @@ pub fn tally<'a>(
     table: &'a [u8],
     head: &[i64],
 ) -> Tallied
-    requires { ⌜ FlipReady counts «staged_counts» (now staged) «table_counts» (now table) (now head) ⌝ }
-    ensures { λ r. ⌜ r ≡ tally-core edition-1 (sources (now (parent .entry)) (now (staged .entry)) («staged_counts» .count) (now (table .entry)) («table_counts» .count))
+    requires { ⌜ FlipReady edition counts «staged_counts» (now staged) «table_counts» (now table) (now head) ⌝ }
+    ensures { λ r. ⌜ r ≡ tally-core (edition-of edition) (sources (now (parent .entry)) (now (staged .entry)) («staged_counts» .count) (now (table .entry)) («table_counts» .count))
         (counts .spills) (take (counts .len) (now (head .entry))) ⌝ }
 {
     let len = counts.len;
@@ -210,6 +232,7 @@ pub fn tally<'a>(
         return Tallied::Refused(refusal::NEGATIVE_SPILL_COUNT);
     }
     count_spills(
+        edition,
         parent,
         signed::usize_from_i32(spills),
         entries::tally_entries(head, len),

@@ -8,6 +8,7 @@ ghost use lib.ListN.{length};
 use index_types::BoxNumber;
 use index_types::HeadCounts;
 use index_types::ListCounts;
+use index_types::RowEdition;
 use index_types::SEGMENT_THRESHOLD;
 use index_types::TxNumber;
 use segment_id::Kind;
@@ -63,7 +64,15 @@ fn append_box(name: &[u8], parent: &[u8; 32], given: Given, head: &mut [i64], st
     let counts = given.counts;
     let number = BoxNumber(given.number);
     let rows = given.staged;
-    let answer = segment_buffer::append_box_entry(parent, counts, number, rows, head, staged);
+    let answer = segment_buffer::append_box_entry(
+        RowEdition::One,
+        parent,
+        counts,
+        head,
+        number,
+        rows,
+        staged,
+    );
     show::appended(name, answer, head, staged);
 }
 
@@ -71,7 +80,15 @@ fn append_tx(name: &[u8], parent: &[u8; 32], given: Given, head: &mut [i64], sta
     let counts = given.counts;
     let number = TxNumber(given.number);
     let rows = given.staged;
-    let answer = segment_buffer::append_tx_entry(parent, counts, number, rows, head, staged);
+    let answer = segment_buffer::append_tx_entry(
+        RowEdition::One,
+        parent,
+        counts,
+        head,
+        number,
+        rows,
+        staged,
+    );
     show::appended(name, answer, head, staged);
 }
 
@@ -89,6 +106,7 @@ fn pop_box(
     let shelf = given.table;
     let keys = given.deleted;
     let answer = segment_buffer::pop_box_entry(
+        RowEdition::One,
         parent,
         counts,
         head,
@@ -116,6 +134,7 @@ fn pop_tx(
     let shelf = given.table;
     let keys = given.deleted;
     let answer = segment_buffer::pop_tx_entry(
+        RowEdition::One,
         parent,
         counts,
         head,
@@ -142,14 +161,15 @@ fn spend(
     let rows = given.staged;
     let shelf = given.table;
     let answer = segment_buffer::flip_box_segment_entry(
+        RowEdition::One,
         parent,
         counts,
+        head,
         target,
         rows,
         staged,
         shelf,
         table,
-        head,
     );
     show::flipped(name, answer, head, counts.len, staged);
 }
@@ -167,14 +187,15 @@ fn unspend(
     let rows = given.staged;
     let shelf = given.table;
     let answer = segment_buffer::unflip_box_segment_entry(
+        RowEdition::One,
         parent,
         counts,
+        head,
         target,
         rows,
         staged,
         shelf,
         table,
-        head,
     );
     show::flipped(name, answer, head, counts.len, staged);
 }
@@ -183,7 +204,15 @@ fn flush(name: &[u8], given: Given, staged: &mut [u8], table: &mut [u8], deleted
     let rows = given.staged;
     let shelf = given.table;
     let keys = given.deleted;
-    let answer = segment_buffer::flush_staged_spills(table, shelf, staged, rows, deleted, keys);
+    let answer = segment_buffer::flush_staged_spills(
+        RowEdition::One,
+        rows,
+        staged,
+        shelf,
+        table,
+        keys,
+        deleted,
+    );
     show::flushed(name, answer, staged, table, deleted);
 }
 
@@ -229,15 +258,16 @@ fn paged<'a>(
     let table_counts = given.table;
     let offset = signed::magnitude(given.number) as usize;
     let answer = segment_buffer::unspent_page(
+        RowEdition::One,
         parent,
         counts,
+        head,
+        offset,
+        length,
         staged_counts,
         staged,
         table_counts,
         table,
-        head,
-        offset,
-        length,
         places,
     );
     show::paged(name, answer, places);
@@ -263,16 +293,34 @@ fn ask<'a>(
     match call {
         Call::Page => page(name, parent, given, head, staged, table, s, at),
         Call::Tally => {
-            let answer = segment_buffer::tally(parent, counts, rows, staged, shelf, table, head);
+            let answer = segment_buffer::tally(
+                RowEdition::One,
+                parent,
+                counts,
+                head,
+                rows,
+                staged,
+                shelf,
+                table,
+            );
             show::tallied(name, answer);
         }
         Call::Lists => {
-            let fit = segment_buffer::lists_ok(rows, staged, shelf, table, keys, deleted);
+            let fit = segment_buffer::lists_ok(
+                RowEdition::One,
+                rows,
+                staged,
+                shelf,
+                table,
+                keys,
+                deleted,
+            );
             show::fit(name, fit);
         }
         _ => {
             let key = segment_id::row_key(parent, Kind::Box, counts.spills);
-            show::located(name, spills::locate_spill(staged, rows, table, shelf, &key));
+            let located = spills::locate_spill(RowEdition::One, &key, rows, staged, shelf, table);
+            show::located(name, located);
         }
     }
 }

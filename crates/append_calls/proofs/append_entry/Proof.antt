@@ -15,7 +15,7 @@ append-ok-requires c κs = search needs
 append-requires : tie.Need-append-requires
 append-requires c κs =
     let a = c .before .before .before .before .before .before .before .args in
-    append-ready (a .counts) (a .staged-counts) (now (a .head)) (now (a .staged)) (sym (c .before .before .before .append-ok .ensures) ∙ c .before .before .if1 .taken)
+    append-ready (a .edition) (a .counts) (a .staged-counts) (now (a .head)) (now (a .staged)) (sym (c .before .before .before .append-ok .ensures) ∙ c .before .before .if1 .taken)
 
 same-length : tie.Need-same-length
 same-length c = search needs
@@ -26,7 +26,7 @@ same-length-2 c = search needs
 returns : tie.Need-returns
 returns c =
     let a = c .before .before .before .before .before .before .before .before .before .before .before .args in
-    append-goes (a .kind) (now (a .parent)) (a .counts) (a .number) (a .staged-counts) (now (a .head)) (now (a .staged))
+    append-goes (a .edition) (a .kind) (now (a .parent)) (a .counts) (a .number) (a .staged-counts) (now (a .head)) (now (a .staged))
     (sym (c .before .before .before .before .before .before .before .append-ok .ensures) ∙ c .before .before .before .before .before .before .if1 .taken) _ (rw (back w64 (a .number) (search needs)) at (c .before .before .before .append .ensures))
 
 same-length-3 : tie.Need-same-length-3
@@ -38,7 +38,7 @@ same-length-4 c = search needs
 returns-2 : tie.Need-returns-2
 returns-2 c =
     let a = c .before .before .before .before .before .args in
-    append-25 (a .kind) (now (a .parent)) (a .counts) (a .number) (a .staged-counts) (now (a .head)) (now (a .staged)) (sym (c .before .append-ok .ensures) ∙ c .if1 .left)
+    append-25 (a .edition) (a .kind) (now (a .parent)) (a .counts) (a .number) (a .staged-counts) (now (a .head)) (now (a .staged)) (sym (c .before .append-ok .ensures) ∙ c .if1 .left)
 
 pub append-entry-spec : {M : Type 1} → statement M
 append-entry-spec =

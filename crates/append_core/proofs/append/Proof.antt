@@ -20,7 +20,7 @@ returns c =
     let s = c .before .before .before .before in
     let a = s .args in
     let e = back w32 (a .counts .spills) (search needs) in
-    append-11 (a .kind) (now (a .parent)) (a .counts) (a .number) (a .staged-counts) (now (a .head)) (now (a .staged)) (ap is-negative (sym e) ∙ sym (c .before .is-negative-i32 .ensures) ∙ c .if1 .taken)
+    append-11 (a .edition) (a .kind) (now (a .parent)) (a .counts) (a .number) (a .staged-counts) (now (a .head)) (now (a .staged)) (ap is-negative (sym e) ∙ sym (c .before .is-negative-i32 .ensures) ∙ c .if1 .taken)
 
 is-negative-requires : tie.Need-is-negative-requires
 is-negative-requires c κs = search needs
@@ -31,13 +31,13 @@ returns-2 c =
     let a = s .args in
     let e = back w32 (a .counts .spills) (search needs) in
     let v = back w64 (a .number) (s .fits .number) in
-    append-17 (a .kind) (now (a .parent)) (a .counts) (a .number) (a .staged-counts) (now (a .head)) (now (a .staged)) (ap is-negative (sym e) ∙ sym (c .before .before .before .is-negative-i32 .ensures) ∙ c .before .before .if1 .left) (ap is-negative (sym v) ∙ sym (c .before .is-negative .ensures) ∙ c .if2 .taken)
+    append-17 (a .edition) (a .kind) (now (a .parent)) (a .counts) (a .number) (a .staged-counts) (now (a .head)) (now (a .staged)) (ap is-negative (sym e) ∙ sym (c .before .before .before .is-negative-i32 .ensures) ∙ c .before .before .if1 .left) (ap is-negative (sym v) ∙ sym (c .before .is-negative .ensures) ∙ c .if2 .taken)
 
 put-number-requires : tie.Need-put-number-requires
 put-number-requires c κs = search needs
 
-add-t16 : tie.Need-add-t16
-add-t16 c = search needs
+add-t17 : tie.Need-add-t17
+add-t17 c = search needs
 
 same-length : tie.Need-same-length
 same-length c = search needs
@@ -48,7 +48,7 @@ returns-3 c =
     let a = s .args in
     let e = back w32 (a .counts .spills) (search needs) in
     let v = back w64 (a .number) (s .fits .number) in
-    append-end (a .kind) (now (a .parent)) (a .counts) (a .number) (a .staged-counts) (now (a .head)) (now (a .staged)) (ap is-negative (sym e) ∙ sym (c .before .before .before .before .before .before .before .is-negative-i32 .ensures) ∙ c .before .before .before .before .before .before .if1 .left) (ap is-negative (sym v) ∙ sym (c .before .before .before .before .before .is-negative .ensures) ∙ c .before .before .before .before .if2 .left) (c .before .before .before .if3 .taken) _ _ e (c .before .put-number .ensures ∙ ap (set (now (a .head)) (a .counts .len)) v)
+    append-end (a .edition) (a .kind) (now (a .parent)) (a .counts) (a .number) (a .staged-counts) (now (a .head)) (now (a .staged)) (ap is-negative (sym e) ∙ sym (c .before .before .before .before .before .before .before .is-negative-i32 .ensures) ∙ c .before .before .before .before .before .before .if1 .left) (ap is-negative (sym v) ∙ sym (c .before .before .before .before .before .is-negative .ensures) ∙ c .before .before .before .before .if2 .left) (c .before .before .before .if3 .taken) _ _ e (c .before .put-number .ensures ∙ ap (set (now (a .head)) (a .counts .len)) v)
 
 usize-from-i32-requires : tie.Need-usize-from-i32-requires
 usize-from-i32-requires c κs = sym (c .before .before .before .before .is-negative-i32 .ensures) ∙ c .before .before .before .if1 .left
@@ -76,7 +76,7 @@ returns-4 c =
     let a = s .args in
     let e = back w32 (a .counts .spills) (search needs) in
     let v = back w64 (a .number) (s .fits .number) in
-    append-spill (a .kind) (now (a .parent)) (a .counts) (a .number) (a .staged-counts) (now (a .head)) (now (a .staged)) (ap is-negative (sym e) ∙ sym (c .before .before .before .before .before .before .before .before .before .before .before .is-negative-i32 .ensures) ∙ c .before .before .before .before .before .before .before .before .before .before .if1 .left) (ap is-negative (sym v) ∙ sym (c .before .before .before .before .before .before .before .before .before .is-negative .ensures) ∙ c .before .before .before .before .before .before .before .before .if2 .left) (c .before .before .before .before .before .before .before .if3 .left) _ _ (c .before .before .before .before .before .before .usize-from-i32 .ensures ∙ ap natAbs e) (rw v at (c .before .before .before .spill .ensures))
+    append-spill (a .edition) (a .kind) (now (a .parent)) (a .counts) (a .number) (a .staged-counts) (now (a .head)) (now (a .staged)) (ap is-negative (sym e) ∙ sym (c .before .before .before .before .before .before .before .before .before .before .before .is-negative-i32 .ensures) ∙ c .before .before .before .before .before .before .before .before .before .before .if1 .left) (ap is-negative (sym v) ∙ sym (c .before .before .before .before .before .before .before .before .before .is-negative .ensures) ∙ c .before .before .before .before .before .before .before .before .if2 .left) (c .before .before .before .before .before .before .before .if3 .left) _ _ (c .before .before .before .before .before .before .usize-from-i32 .ensures ∙ ap natAbs e) (rw v at (c .before .before .before .spill .ensures))
 
 pub append-spec : {M : Type 1} → statement M
 append-spec =
@@ -87,7 +87,7 @@ append-spec =
     is-negative-requires
     returns-2
     put-number-requires
-    add-t16
+    add-t17
     same-length
     returns-3
     usize-from-i32-requires

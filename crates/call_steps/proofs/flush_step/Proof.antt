@@ -1,6 +1,7 @@
 use borrow.Author.Needs.{needs}
 use denote.Ref.{now}
 use Rattle.flush_core.proofs.KeepLaws.{flush-ready}
+use Rattle.index_types.specs.declared.RowEdition.the-variants.{One}
 use Rattle.call_steps.specs.Steps.{lists-with}
 use Rattle.call_steps.proofs.StepLaws.{flush-law}
 use Rattle.call_steps.proofs.flush_step.Statement.{statement}
@@ -15,7 +16,7 @@ flush-requires : tie.Need-flush-requires
 flush-requires c κs =
     let s = c .before .before .before .before .before .before .before .before .before in
     let a = s .args in
-    flush-ready (lists-with (a .counts) (now (a .staged)) (now (a .table)) (now (a .deleted))) (s .pre)
+    flush-ready One (lists-with (a .counts) (now (a .staged)) (now (a .table)) (now (a .deleted))) (s .pre)
 
 -- src/lib.rt:354:5
 after-flush-requires : tie.Need-after-flush-requires

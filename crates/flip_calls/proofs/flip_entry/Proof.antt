@@ -21,7 +21,7 @@ slice-aggregate-flip c = search needs
 flip-requires : tie.Need-flip-requires
 flip-requires c κs =
     let a = c .before .before .before .before .before .before .before .before .before .args in
-    flip-facts (a .counts) (a .staged-counts) (now (a .staged)) (a .table-counts) (now (a .table)) (now (a .head)) (sym (c .before .before .before .before .flip-ok .ensures) ∙ c .before .before .before .if1 .taken)
+    flip-facts (a .edition) (a .counts) (a .staged-counts) (now (a .staged)) (a .table-counts) (now (a .table)) (now (a .head)) (sym (c .before .before .before .before .flip-ok .ensures) ∙ c .before .before .before .if1 .taken)
 
 same-length : tie.Need-same-length
 same-length c = search needs
@@ -32,7 +32,7 @@ same-length-2 c = search needs
 returns : tie.Need-returns
 returns c =
     let a = c .before .before .before .before .before .before .before .before .before .before .before .before .before .args in
-    flip-goes (a .direction) (now (a .parent)) (a .counts) (a .target) (a .staged-counts) (now (a .staged)) (a .table-counts) (now (a .table)) (now (a .head)) (sym (c .before .before .before .before .before .before .before .before .flip-ok .ensures) ∙ c .before .before .before .before .before .before .before .if1 .taken) _ (rw (back w64 (a .target) (search needs)) at (c .before .before .before .flip .ensures))
+    flip-goes (a .edition) (a .direction) (now (a .parent)) (a .counts) (a .target) (a .staged-counts) (now (a .staged)) (a .table-counts) (now (a .table)) (now (a .head)) (sym (c .before .before .before .before .before .before .before .before .flip-ok .ensures) ∙ c .before .before .before .before .before .before .before .if1 .taken) _ (rw (back w64 (a .target) (search needs)) at (c .before .before .before .flip .ensures))
 
 same-length-3 : tie.Need-same-length-3
 same-length-3 c = search needs
@@ -43,7 +43,7 @@ same-length-4 c = search needs
 returns-2 : tie.Need-returns-2
 returns-2 c =
     let a = c .before .before .before .before .before .before .args in
-    flip-25 (a .direction) (now (a .parent)) (a .counts) (a .target) (a .staged-counts) (now (a .staged)) (a .table-counts) (now (a .table)) (now (a .head)) (sym (c .before .flip-ok .ensures) ∙ c .if1 .left)
+    flip-25 (a .edition) (a .direction) (now (a .parent)) (a .counts) (a .target) (a .staged-counts) (now (a .staged)) (a .table-counts) (now (a .table)) (now (a .head)) (sym (c .before .flip-ok .ensures) ∙ c .if1 .left)
 
 pub flip-entry-spec : {M : Type 1} → statement M
 flip-entry-spec =

@@ -21,7 +21,7 @@ returns c =
     let s = c .before .before .before .before .before .before in
     let a = s .args in
     let t = c .before .before .magnitude .ensures ∙ ap natAbs (back w64 (a .target) (s .fits .target)) in
-    flip-9 (a .direction) (now (a .parent)) (a .counts) (a .target) (a .staged-counts) (now (a .staged)) (a .table-counts) (now (a .table)) (now (a .head)) _ t (c .if1 .taken)
+    flip-9 (a .edition) (a .direction) (now (a .parent)) (a .counts) (a .target) (a .staged-counts) (now (a .staged)) (a .table-counts) (now (a .table)) (now (a .head)) _ t (c .if1 .taken)
 
 order-ok-requires : tie.Need-order-ok-requires
 order-ok-requires c κs = search needs
@@ -34,7 +34,7 @@ returns-2 c =
     let s = c .before .before .before .before .before .before .before .before .before in
     let a = s .args in
     let t = c .before .before .before .before .before .magnitude .ensures ∙ ap natAbs (back w64 (a .target) (s .fits .target)) in
-    flip-10 (a .direction) (now (a .parent)) (a .counts) (a .target) (a .staged-counts) (now (a .staged)) (a .table-counts) (now (a .table)) (now (a .head)) _ t (c .before .before .before .if1 .left) (sym (c .before .order-ok .ensures) ∙ not-true _ (c .if2 .taken))
+    flip-10 (a .edition) (a .direction) (now (a .parent)) (a .counts) (a .target) (a .staged-counts) (now (a .staged)) (a .table-counts) (now (a .table)) (now (a .head)) _ t (c .before .before .before .if1 .left) (sym (c .before .order-ok .ensures) ∙ not-true _ (c .if2 .taken))
 
 is-negative-i32-requires : tie.Need-is-negative-i32-requires
 is-negative-i32-requires c κs = search needs
@@ -48,7 +48,7 @@ returns-3 c =
     let a = s .args in
     let t = c .before .before .before .before .before .before .before .magnitude .ensures ∙ ap natAbs (back w64 (a .target) (s .fits .target)) in
     let e = back w32 (a .counts .spills) (search needs) in
-    flip-11 (a .direction) (now (a .parent)) (a .counts) (a .target) (a .staged-counts) (now (a .staged)) (a .table-counts) (now (a .table)) (now (a .head)) _ t (c .before .before .before .before .before .if1 .left) (sym (c .before .before .before .order-ok .ensures) ∙ not-false _ (c .before .before .if2 .left)) (ap is-negative (sym e) ∙ sym (c .before .is-negative-i32 .ensures) ∙ c .if3 .taken)
+    flip-11 (a .edition) (a .direction) (now (a .parent)) (a .counts) (a .target) (a .staged-counts) (now (a .staged)) (a .table-counts) (now (a .table)) (now (a .head)) _ t (c .before .before .before .before .before .if1 .left) (sym (c .before .before .before .order-ok .ensures) ∙ not-false _ (c .before .before .if2 .left)) (ap is-negative (sym e) ∙ sym (c .before .is-negative-i32 .ensures) ∙ c .if3 .taken)
 
 is-spend-requires : tie.Need-is-spend-requires
 is-spend-requires c κs = search needs
@@ -77,7 +77,7 @@ returns-4 c =
     let a = s .args in
     let t = c .before .before .before .before .before .before .before .before .before .before .before .before .before .before .before .magnitude .ensures ∙ ap natAbs (back w64 (a .target) (s .fits .target)) in
     let e = back w32 (a .counts .spills) (search needs) in
-    flip-on (a .direction) (now (a .parent)) (a .counts) (a .target) (a .staged-counts) (now (a .staged)) (a .table-counts) (now (a .table)) (now (a .head)) _ t (c .before .before .before .before .before .before .before .before .before .before .before .before .before .if1 .left) (sym (c .before .before .before .before .before .before .before .before .before .before .before .order-ok .ensures) ∙ not-false _ (c .before .before .before .before .before .before .before .before .before .before .if2 .left)) (ap is-negative (sym e) ∙ sym (c .before .before .before .before .before .before .before .before .before .is-negative-i32 .ensures) ∙ c .before .before .before .before .before .before .before .before .if3 .left) _ _ (c .before .before .before .before .before .before .before .is-spend .ensures) (c .before .before .before .before .before .before .usize-from-i32 .ensures ∙ ap natAbs e) _ (c .before .before .before .flip-in-order .ensures)
+    flip-on (a .edition) (a .direction) (now (a .parent)) (a .counts) (a .target) (a .staged-counts) (now (a .staged)) (a .table-counts) (now (a .table)) (now (a .head)) _ t (c .before .before .before .before .before .before .before .before .before .before .before .before .before .if1 .left) (sym (c .before .before .before .before .before .before .before .before .before .before .before .order-ok .ensures) ∙ not-false _ (c .before .before .before .before .before .before .before .before .before .before .if2 .left)) (ap is-negative (sym e) ∙ sym (c .before .before .before .before .before .before .before .before .before .is-negative-i32 .ensures) ∙ c .before .before .before .before .before .before .before .before .if3 .left) _ _ (c .before .before .before .before .before .before .before .is-spend .ensures) (c .before .before .before .before .before .before .usize-from-i32 .ensures ∙ ap natAbs e) _ (c .before .before .before .flip-in-order .ensures)
 
 pub flip-spec : {M : Type 1} → statement M
 flip-spec =

@@ -1,7 +1,7 @@
 -- `flip_core::flip_hinted` meets its contract: the halving gives the row where the walk begins, and the walk the entry.
 use native.Mathlib.Omega.{arith}
 use denote.Ref.{now}
-use Rattle.buffer_core.specs.Edition.{edition-1}
+use Rattle.buffer_core.specs.Edition.{edition-of}
 use Rattle.buffer_core.specs.Spills.{sources}
 use Rattle.buffer_core.specs.Flip.{lead-at, look-at}
 use Rattle.flip_search.proofs.SearchLaws.{search-most}
@@ -22,7 +22,7 @@ walk-down-requires : tie.Need-walk-down-requires
 walk-down-requires c κs =
     let a = c .before .before .before .before .before .before .before .before .before .args in
     let w = sources (now (a .parent)) (now (a .staged)) (a .staged-counts .count) (now (a .table)) (a .table-count) in
-    let k = search-most (lead-at edition-1 w) (a .target) 0 (a .spills) _ _ (omega arith) (c .before .before .before .before .search .ensures) (c .before .before .found .given .1) in
+    let k = search-most (lead-at (edition-of (a .edition)) w) (a .target) 0 (a .spills) _ _ (omega arith) (c .before .before .before .before .search .ensures) (c .before .before .found .given .1) in
     (c .before .before .before .before .before .before .before .before .before .pre .0 .bounds .within, c .before .before .before .before .before .before .before .before .before .pre .0 .within, omega (arith, c .before .before .before .before .before .before .before .before .before .pre .1), c .before .before .before .before .before .before .before .before .before .pre .0 .apart)
 
 enum-known-walk : tie.Need-enum-known-walk
@@ -32,8 +32,8 @@ stage-requires : tie.Need-stage-requires
 stage-requires c κs =
     let a = c .before .before .before .before .before .before .before .before .before .before .before .before .before .before .args in
     let w = sources (now (a .parent)) (now (a .staged)) (a .staged-counts .count) (now (a .table)) (a .table-count) in
-    let k = search-most (lead-at edition-1 w) (a .target) 0 (a .spills) _ _ (omega arith) (c .before .before .before .before .before .before .before .before .before .search .ensures) (c .before .before .before .before .before .before .before .found .given .1) in
-    let m = walk-hits (look-at edition-1 w (a .target) (a .spend)) _ (a .seen) _ _ _ (c .before .before .before .before .walk-down .ensures) (c .before .before .walk .given .1) in
+    let k = search-most (lead-at (edition-of (a .edition)) w) (a .target) 0 (a .spills) _ _ (omega arith) (c .before .before .before .before .before .before .before .before .before .search .ensures) (c .before .before .before .before .before .before .before .found .given .1) in
+    let m = walk-hits (look-at (edition-of (a .edition)) w (a .target) (a .spend)) _ (a .seen) _ _ _ (c .before .before .before .before .walk-down .ensures) (c .before .before .walk .given .1) in
     (c .before .before .before .before .before .before .before .before .before .before .before .before .before .before .pre .0, omega (arith, c .before .before .before .before .before .before .before .before .before .before .before .before .before .before .pre .1, m .0), row-takes _ (a .target) (a .spend) _ (c .before .before .before .before .before .before .before .before .before .before .before .before .before .before .pre .2) (m .1))
 
 enum-known-walk-2 : tie.Need-enum-known-walk-2
@@ -52,7 +52,7 @@ returns : tie.Need-returns
 returns c =
     let a = c .before .before .before .before .before .before .before .before .before .before .before .before .before .before .before .before .before .args in
     let w = sources (now (a .parent)) (now (a .staged)) (a .staged-counts .count) (now (a .table)) (a .table-count) in
-    rows-walked w (a .staged-counts) (now (a .staged)) (a .target) (a .spend) (a .spills) (a .seen) _ (c .before .before .before .before .before .before .before .before .before .before .before .before .search .ensures) _ (c .before .before .before .before .before .before .before .before .before .before .found .given .1) _ (c .before .before .before .before .before .before .before .walk-down .ensures) _ _ (walk-hit w (a .staged-counts) (now (a .staged)) _ _ _ _ _ (c .before .before .before .before .before .walk .given .1) (c .before .before .stage .ensures))
+    rows-walked (a .edition) w (a .staged-counts) (now (a .staged)) (a .target) (a .spend) (a .spills) (a .seen) _ (c .before .before .before .before .before .before .before .before .before .before .before .before .search .ensures) _ (c .before .before .before .before .before .before .before .before .before .before .found .given .1) _ (c .before .before .before .before .before .before .before .walk-down .ensures) _ _ (walk-hit (a .edition) w (a .staged-counts) (now (a .staged)) _ _ _ _ _ (c .before .before .before .before .before .walk .given .1) (c .before .before .stage .ensures))
 
 same-length-2 : tie.Need-same-length-2
 same-length-2 c = search needs
@@ -61,7 +61,7 @@ returns-2 : tie.Need-returns-2
 returns-2 c =
     let a = c .before .before .before .before .before .before .before .before .before .before .before .before .before .before .args in
     let w = sources (now (a .parent)) (now (a .staged)) (a .staged-counts .count) (now (a .table)) (a .table-count) in
-    rows-walked w (a .staged-counts) (now (a .staged)) (a .target) (a .spend) (a .spills) (a .seen) _ (c .before .before .before .before .before .before .before .before .before .search .ensures) _ (c .before .before .before .before .before .before .before .found .given .1) _ (c .before .before .before .before .walk-down .ensures) _ _ (walk-14 w (a .staged-counts) (now (a .staged)) _ _ (c .before .before .walk2 .given .1) (c .if1 .taken))
+    rows-walked (a .edition) w (a .staged-counts) (now (a .staged)) (a .target) (a .spend) (a .spills) (a .seen) _ (c .before .before .before .before .before .before .before .before .before .search .ensures) _ (c .before .before .before .before .before .before .before .found .given .1) _ (c .before .before .before .before .walk-down .ensures) _ _ (walk-14 (a .edition) w (a .staged-counts) (now (a .staged)) _ _ (c .before .before .walk2 .given .1) (c .if1 .taken))
 
 same-length-3 : tie.Need-same-length-3
 same-length-3 c = search needs
@@ -70,7 +70,7 @@ returns-3 : tie.Need-returns-3
 returns-3 c =
     let a = c .before .before .before .before .before .before .before .before .before .before .before .before .before .before .args in
     let w = sources (now (a .parent)) (now (a .staged)) (a .staged-counts .count) (now (a .table)) (a .table-count) in
-    rows-walked w (a .staged-counts) (now (a .staged)) (a .target) (a .spend) (a .spills) (a .seen) _ (c .before .before .before .before .before .before .before .before .before .search .ensures) _ (c .before .before .before .before .before .before .before .found .given .1) _ (c .before .before .before .before .walk-down .ensures) _ _ (walk-15 w (a .staged-counts) (now (a .staged)) _ _ (c .before .before .walk2 .given .1) (c .if1 .left))
+    rows-walked (a .edition) w (a .staged-counts) (now (a .staged)) (a .target) (a .spend) (a .spills) (a .seen) _ (c .before .before .before .before .before .before .before .before .before .search .ensures) _ (c .before .before .before .before .before .before .before .found .given .1) _ (c .before .before .before .before .walk-down .ensures) _ _ (walk-15 (a .edition) w (a .staged-counts) (now (a .staged)) _ _ (c .before .before .walk2 .given .1) (c .if1 .left))
 
 same-length-4 : tie.Need-same-length-4
 same-length-4 c = search needs
@@ -79,7 +79,7 @@ returns-4 : tie.Need-returns-4
 returns-4 c =
     let a = c .before .before .before .before .before .before .before .before .before .before .before .before .before .args in
     let w = sources (now (a .parent)) (now (a .staged)) (a .staged-counts .count) (now (a .table)) (a .table-count) in
-    rows-walked w (a .staged-counts) (now (a .staged)) (a .target) (a .spend) (a .spills) (a .seen) _ (c .before .before .before .before .before .before .before .before .search .ensures) _ (c .before .before .before .before .before .before .found .given .1) _ (c .before .before .before .walk-down .ensures) _ _ (walk-bad w (a .staged-counts) (now (a .staged)) _ _ (c .before .walk3 .given .1))
+    rows-walked (a .edition) w (a .staged-counts) (now (a .staged)) (a .target) (a .spend) (a .spills) (a .seen) _ (c .before .before .before .before .before .before .before .before .search .ensures) _ (c .before .before .before .before .before .before .found .given .1) _ (c .before .before .before .walk-down .ensures) _ _ (walk-bad (a .edition) w (a .staged-counts) (now (a .staged)) _ _ (c .before .walk3 .given .1))
 
 same-length-5 : tie.Need-same-length-5
 same-length-5 c = search needs
@@ -88,7 +88,7 @@ returns-5 : tie.Need-returns-5
 returns-5 c =
     let a = c .before .before .before .before .before .before .before .before .args in
     let w = sources (now (a .parent)) (now (a .staged)) (a .staged-counts .count) (now (a .table)) (a .table-count) in
-    rows-broken w (a .staged-counts) (now (a .staged)) (a .target) (a .spend) (a .spills) (a .seen) _ (c .before .before .before .search .ensures) _ (c .before .found2 .given .1)
+    rows-broken (a .edition) w (a .staged-counts) (now (a .staged)) (a .target) (a .spend) (a .spills) (a .seen) _ (c .before .before .before .search .ensures) _ (c .before .found2 .given .1)
 
 pub flip-hinted-spec : {M : Type 1} → statement M
 flip-hinted-spec =

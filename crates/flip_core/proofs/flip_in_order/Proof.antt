@@ -40,7 +40,7 @@ returns : tie.Need-returns
 returns c =
     let a = c .before .before .before .before .before .before .before .before .before .before .before .args in
     let w = sources (now (a .parent)) (now (a .staged)) (a .staged-counts .count) (now (a .table)) (a .table-count) in
-    order-head w (a .staged-counts) (now (a .staged)) (a .target) (a .spend) (a .spills) (a .len) (now (a .head)) _ (c .before .before .before .before .before .before .flip-position .ensures) _ _ (c .before .before .before .before .position .given .1) (c .before .flip-at .ensures)
+    order-head (a .edition) w (a .staged-counts) (now (a .staged)) (a .target) (a .spend) (a .spills) (a .len) (now (a .head)) _ (c .before .before .before .before .before .before .flip-position .ensures) _ _ (c .before .before .before .before .position .given .1) (c .before .flip-at .ensures)
 
 same-length-2 : tie.Need-same-length-2
 same-length-2 c = search needs
@@ -52,7 +52,7 @@ returns-2 : tie.Need-returns-2
 returns-2 c =
     let a = c .before .before .before .before .before .before .before .before .before .before .before .args in
     let w = sources (now (a .parent)) (now (a .staged)) (a .staged-counts .count) (now (a .table)) (a .table-count) in
-    order-seen w (a .staged-counts) (now (a .staged)) (a .target) (a .spend) (a .spills) (a .len) (now (a .head)) _ (c .before .before .before .before .before .before .flip-position .ensures) _ _ (c .before .before .before .before .enum-told .given .1) (c .before .before .flip-rows .ensures)
+    order-seen (a .edition) w (a .staged-counts) (now (a .staged)) (a .target) (a .spend) (a .spills) (a .len) (now (a .head)) _ (c .before .before .before .before .before .before .flip-position .ensures) _ _ (c .before .before .before .before .enum-told .given .1) (c .before .before .flip-rows .ensures)
 
 same-length-4 : tie.Need-same-length-4
 same-length-4 c = search needs
@@ -64,7 +64,7 @@ returns-3 : tie.Need-returns-3
 returns-3 c =
     let a = c .before .before .before .before .before .before .before .before .before .before .before .args in
     let w = sources (now (a .parent)) (now (a .staged)) (a .staged-counts .count) (now (a .table)) (a .table-count) in
-    order-absent w (a .staged-counts) (now (a .staged)) (a .target) (a .spend) (a .spills) (a .len) (now (a .head)) _ (c .before .before .before .before .before .before .flip-position .ensures) _ _ (c .before .before .before .before .enum-told2 .given .1) (c .before .before .flip-rows2 .ensures)
+    order-absent (a .edition) w (a .staged-counts) (now (a .staged)) (a .target) (a .spend) (a .spills) (a .len) (now (a .head)) _ (c .before .before .before .before .before .before .flip-position .ensures) _ _ (c .before .before .before .before .enum-told2 .given .1) (c .before .before .flip-rows2 .ensures)
 
 pub flip-in-order-spec : {M : Type 1} → statement M
 flip-in-order-spec =

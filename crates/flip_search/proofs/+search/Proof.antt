@@ -2,7 +2,7 @@
 use denote.Ref.{now}
 use borrow.Author.Needs.{needs}
 use native.Mathlib.Omega.{arith}
-use Rattle.buffer_core.specs.Edition.{edition-1}
+use Rattle.buffer_core.specs.Edition.{edition-of}
 use Rattle.buffer_core.specs.Spills.{sources}
 use Rattle.buffer_core.specs.Flip.{lead-at}
 use Rattle.flip_search.proofs.SearchLaws.{middle-below, falls-up, falls-down, search-up, search-down, search-bad, search-end}
@@ -17,7 +17,7 @@ use Rattle.flip_search.proofs.+search.{statement}
 use Rattle.flip_search.proofs.+search.Tie.{close}
 
 abbrev μ-search : Measures 3 search-kinds.ps ℕ
-μ-search κs a = a .1 .1 .1 .1 .1 .1 .1 .1 .0 - a .1 .1 .1 .1 .1 .1 .1 .0
+μ-search κs a = a .1 .1 .1 .1 .1 .1 .1 .1 .1 .0 - a .1 .1 .1 .1 .1 .1 .1 .1 .0
 
 abbrev search-at : ℕ → In 3 search-kinds.ps
 search-at t = and 3 search-kinds.ps (is 3 search-kinds.ps μ-search t) search′.Pre
@@ -98,7 +98,7 @@ search-returns : (t : ℕ) → search-lts.Need-returns (
 search-returns t c =
     let a = c .before .before .before .before .before .before .before .before .before .before .args in
     let w = sources (now (a .parent)) (now (a .staged)) (a .staged-count) (now (a .table)) (a .table-count) in
-    search-up (lead-at edition-1 w) (a .target) (a .low) (a .high) (c .before .before .before .before .before .before .if1 .taken) _ (c .before .before .before .before .before .lead-of .ensures) _ _ (c .before .before .before .lead .given .1) (c .before .if2 .taken) (c .search .ensures)
+    search-up (lead-at (edition-of (a .edition)) w) (a .target) (a .low) (a .high) (c .before .before .before .before .before .before .if1 .taken) _ (c .before .before .before .before .before .lead-of .ensures) _ _ (c .before .before .before .lead .given .1) (c .before .if2 .taken) (c .search .ensures)
 
 search-returns-2 : (t : ℕ) → search-lts.Need-returns-2 (
   lead-of-reads.Asked,
@@ -109,7 +109,7 @@ search-returns-2 : (t : ℕ) → search-lts.Need-returns-2 (
 search-returns-2 t c =
     let a = c .before .before .before .before .before .before .before .before .before .before .args in
     let w = sources (now (a .parent)) (now (a .staged)) (a .staged-count) (now (a .table)) (a .table-count) in
-    search-down (lead-at edition-1 w) (a .target) (a .low) (a .high) (c .before .before .before .before .before .before .if1 .taken) _ (c .before .before .before .before .before .lead-of .ensures) _ _ (c .before .before .before .lead .given .1) (c .before .if2 .left) (c .search2 .ensures)
+    search-down (lead-at (edition-of (a .edition)) w) (a .target) (a .low) (a .high) (c .before .before .before .before .before .before .if1 .taken) _ (c .before .before .before .before .before .lead-of .ensures) _ _ (c .before .before .before .lead .given .1) (c .before .if2 .left) (c .search2 .ensures)
 
 search-returns-3 : (t : ℕ) → search-lts.Need-returns-3 (
   lead-of-reads.Asked,
@@ -120,7 +120,7 @@ search-returns-3 : (t : ℕ) → search-lts.Need-returns-3 (
 search-returns-3 t c =
     let a = c .before .before .before .before .before .before .before .before .args in
     let w = sources (now (a .parent)) (now (a .staged)) (a .staged-count) (now (a .table)) (a .table-count) in
-    search-bad (lead-at edition-1 w) (a .target) (a .low) (a .high) (c .before .before .before .before .if1 .taken) _ (c .before .before .before .lead-of .ensures) _ (c .before .lead2 .given .1)
+    search-bad (lead-at (edition-of (a .edition)) w) (a .target) (a .low) (a .high) (c .before .before .before .before .if1 .taken) _ (c .before .before .before .lead-of .ensures) _ (c .before .lead2 .given .1)
 
 search-returns-4 : (t : ℕ) → search-lts.Need-returns-4 (
   lead-of-reads.Asked,
@@ -131,7 +131,7 @@ search-returns-4 : (t : ℕ) → search-lts.Need-returns-4 (
 search-returns-4 t c =
     let a = c .before .before .before .before .args in
     let w = sources (now (a .parent)) (now (a .staged)) (a .staged-count) (now (a .table)) (a .table-count) in
-    search-end (lead-at edition-1 w) (a .target) (a .low) (a .high) (c .if1 .left)
+    search-end (lead-at (edition-of (a .edition)) w) (a .target) (a .low) (a .high) (c .if1 .left)
 
 pub +search-spec : {M : Type 1} → statement M
 +search-spec = close μ-search λ t. search-lts.spec (

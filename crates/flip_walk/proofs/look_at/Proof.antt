@@ -4,7 +4,7 @@ use Rattle.flip_walk.proofs.WalkLaws.{look-good, look-bad}
 use borrow.Author.Needs.{needs}
 use denote.Ref.{now}
 use Rattle.segment_id.specs.declared.Kind.the-variants as Kind
-use Rattle.buffer_core.specs.Edition.{edition-1}
+use Rattle.buffer_core.specs.Edition.{edition-of}
 use Rattle.buffer_core.specs.Spills.{sources, spill-read}
 use Rattle.flip_walk.proofs.look_at.Statement.{statement}
 use Rattle.flip_walk.proofs.look_at.Tie as tie
@@ -25,7 +25,7 @@ look-in-requires : tie.Need-look-in-requires
 look-in-requires c κs =
     let a = c .before .before .before .before .before .before .before .before .before .args in
     let w = sources (now (a .parent)) (now (a .staged)) (a .staged-count) (now (a .table)) (a .table-count) in
-    (search needs, checked-ordered (spill-read edition-1 Kind.Box w (a .number)) _ _ (c .before .before .before .before .read-checked .ensures) (c .before .enum-told .given .1) (search needs))
+    (search needs, checked-ordered (spill-read (edition-of (a .edition)) Kind.Box w (a .number)) _ _ (c .before .before .before .before .read-checked .ensures) (c .before .enum-told .given .1) (search needs))
 
 enum-known-read : tie.Need-enum-known-read
 enum-known-read c = search needs

@@ -14,7 +14,7 @@ lists-ok-requires c κs = search needs
 flush-requires : tie.Need-flush-requires
 flush-requires c κs =
     let a = c .before .before .before .before .before .before .before .before .before .before .before .args in
-    flush-ready (lists (a .staged-counts) (now (a .staged)) (a .table-counts) (now (a .table)) (a .deleted-counts) (now (a .deleted))) (sym (c .before .before .before .before .lists-ok .ensures) ∙ c .before .before .before .if1 .taken)
+    flush-ready (a .edition) (lists (a .staged-counts) (now (a .staged)) (a .table-counts) (now (a .table)) (a .deleted-counts) (now (a .deleted))) (sym (c .before .before .before .before .lists-ok .ensures) ∙ c .before .before .before .if1 .taken)
 
 same-length : tie.Need-same-length
 same-length c = search needs
@@ -28,7 +28,7 @@ same-length-3 c = search needs
 returns : tie.Need-returns
 returns c =
     let a = c .before .before .before .before .before .before .before .before .before .before .before .before .before .before .before .before .before .before .args in
-    flush-goes (lists (a .staged-counts) (now (a .staged)) (a .table-counts) (now (a .table)) (a .deleted-counts) (now (a .deleted))) (sym (c .before .before .before .before .before .before .before .before .before .before .before .lists-ok .ensures) ∙ c .before .before .before .before .before .before .before .before .before .before .if1 .taken) _ (c .before .before .before .before .before .before .flush .ensures)
+    flush-goes (a .edition) (lists (a .staged-counts) (now (a .staged)) (a .table-counts) (now (a .table)) (a .deleted-counts) (now (a .deleted))) (sym (c .before .before .before .before .before .before .before .before .before .before .before .lists-ok .ensures) ∙ c .before .before .before .before .before .before .before .before .before .before .if1 .taken) _ (c .before .before .before .before .before .before .flush .ensures)
 
 same-length-4 : tie.Need-same-length-4
 same-length-4 c = search needs
@@ -42,7 +42,7 @@ same-length-6 c = search needs
 returns-2 : tie.Need-returns-2
 returns-2 c =
     let a = c .before .before .before .before .before .before .before .before .args in
-    flush-25 (lists (a .staged-counts) (now (a .staged)) (a .table-counts) (now (a .table)) (a .deleted-counts) (now (a .deleted))) (sym (c .before .lists-ok .ensures) ∙ c .if1 .left)
+    flush-25 (a .edition) (lists (a .staged-counts) (now (a .staged)) (a .table-counts) (now (a .table)) (a .deleted-counts) (now (a .deleted))) (sym (c .before .lists-ok .ensures) ∙ c .if1 .left)
 
 pub flush-staged-spills-spec : {M : Type 1} → statement M
 flush-staged-spills-spec =

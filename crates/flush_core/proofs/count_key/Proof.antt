@@ -1,5 +1,7 @@
 -- The two searches decide.
 use mathlib.Core.Path.{sym, _∙_}
+use native.Mathlib.Omega.{arith}
+use Rattle.buffer_core.proofs.SizeLaws.{sizes}
 use borrow.Author.Needs.{needs}
 use Rattle.flush_core.proofs.count_key.Statement.{statement}
 use Rattle.flush_core.proofs.count_key.Tie as tie
@@ -10,15 +12,25 @@ holds-key-requires c κs = search needs
 returns : tie.Need-returns
 returns c = rw (sym (c .before .holds-key .ensures) ∙ c .if1 .taken)
 
+record-size-requires : tie.Need-record-size-requires
+record-size-requires c κs = search needs
+
 holds-key-requires-2 : tie.Need-holds-key-requires-2
-holds-key-requires-2 c κs = search needs
+holds-key-requires-2 c κs =
+    let s = c .before .before .before .before .before .before in
+    let z = c .record-size .ensures .0 in
+    (omega (arith, z, sizes (s .args .edition)), rw z (s .pre .0))
 
 returns-2 : tie.Need-returns-2
-returns-2 c = rw (sym (c .before .before .before .holds-key .ensures) ∙ c .before .before .if1 .left, sym (c .before .holds-key2 .ensures) ∙ c .if2 .taken)
+returns-2 c =
+    let z = c .before .before .record-size .ensures .0 in
+    rw (sym (c .before .before .before .before .holds-key .ensures) ∙ c .before .before .before .if1 .left, sym (rw z at (c .before .holds-key2 .ensures)) ∙ c .if2 .taken)
 
 returns-3 : tie.Need-returns-3
-returns-3 c = rw (sym (c .before .before .before .holds-key .ensures) ∙ c .before .before .if1 .left, sym (c .before .holds-key2 .ensures) ∙ c .if2 .left)
+returns-3 c =
+    let z = c .before .before .record-size .ensures .0 in
+    rw (sym (c .before .before .before .before .holds-key .ensures) ∙ c .before .before .before .if1 .left, sym (rw z at (c .before .holds-key2 .ensures)) ∙ c .if2 .left)
 
 pub count-key-spec : {M : Type 1} → statement M
 count-key-spec =
-    tie.close (tie.spec holds-key-requires returns holds-key-requires-2 returns-2 returns-3)
+    tie.close (tie.spec holds-key-requires returns record-size-requires holds-key-requires-2 returns-2 returns-3)

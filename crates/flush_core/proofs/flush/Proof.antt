@@ -1,7 +1,7 @@
 -- The count of new keys decides between refusal 22 and the flush.
 use denote.Ref.{now}
 use Rattle.buffer_core.specs.Pop.{lists}
-use Rattle.flush_core.proofs.FlushLaws.{flush-22, flush-goes}
+use Rattle.flush_core.proofs.FlushLaws.{room-of, flush-22, flush-goes}
 use borrow.Author.Needs.{needs}
 use Rattle.flush_core.proofs.flush.Statement.{statement}
 use Rattle.flush_core.proofs.flush.Tie as tie
@@ -13,7 +13,15 @@ sub-if1 : tie.Need-sub-if1
 sub-if1 c = search needs
 
 flush-lists-requires : tie.Need-flush-lists-requires
-flush-lists-requires c κs = search needs
+flush-lists-requires c κs =
+    let s = c .before .before .before .before .before .before .before .before .before .before .before .before in
+    let a = s .args in
+    record {
+      bounds = s .pre;
+      room =
+          room-of (a .edition) (lists (a .staged-counts) (now (a .staged)) (a .table-counts) (now (a .table)) (a .deleted-counts) (now (a .deleted))) (s .pre) _
+          (c .before .before .before .before .before .count-new .ensures) (c .before .before .before .if1 .taken);
+    }
 
 same-length : tie.Need-same-length
 same-length c = search needs
@@ -27,7 +35,7 @@ same-length-3 c = search needs
 returns : tie.Need-returns
 returns c =
     let a = c .before .before .before .before .before .before .before .before .before .before .before .before .before .before .before .before .before .before .before .args in
-    flush-goes (lists (a .staged-counts) (now (a .staged)) (a .table-counts) (now (a .table)) (a .deleted-counts) (now (a .deleted)))
+    flush-goes (a .edition) (lists (a .staged-counts) (now (a .staged)) (a .table-counts) (now (a .table)) (a .deleted-counts) (now (a .deleted)))
     _ (c .before .before .before .before .before .before .before .before .before .before .before .before .count-new .ensures) (c .before .before .before .before .before .before .before .before .before .before .if1 .taken) _ (c .before .before .before .before .before .before .flush-lists .ensures)
 
 same-length-4 : tie.Need-same-length-4
@@ -42,7 +50,7 @@ same-length-6 c = search needs
 returns-2 : tie.Need-returns-2
 returns-2 c =
     let a = c .before .before .before .before .before .before .before .before .before .args in
-    flush-22 (lists (a .staged-counts) (now (a .staged)) (a .table-counts) (now (a .table)) (a .deleted-counts) (now (a .deleted)))
+    flush-22 (a .edition) (lists (a .staged-counts) (now (a .staged)) (a .table-counts) (now (a .table)) (a .deleted-counts) (now (a .deleted)))
     _ (c .before .before .count-new .ensures) (c .if1 .left)
 
 pub flush-spec : {M : Type 1} → statement M

@@ -9,8 +9,11 @@ use Rattle.flush_core.proofs.flush_lists.Tie as tie
 flush-table-requires : tie.Need-flush-table-requires
 flush-table-requires c κs = search needs
 
+record-size-requires : tie.Need-record-size-requires
+record-size-requires c κs = search needs
+
 clear-list-requires : tie.Need-clear-list-requires
-clear-list-requires c κs = search needs
+clear-list-requires c κs = rw (c .before .record-size .ensures .0) (c .before .before .before .before .before .before .before .before .before .before .before .pre .bounds .in-staged .room)
 
 clear-list-requires-2 : tie.Need-clear-list-requires-2
 clear-list-requires-2 c κs = search needs
@@ -26,15 +29,16 @@ same-length-3 c = search needs
 
 returns : tie.Need-returns
 returns c =
-    let a = c .before .before .before .before .before .before .before .before .before .before .before .before .before .before .before .before .before .args in
-    flush-is (lists (a .staged-counts) (now (a .staged)) (a .table-counts) (now (a .table)) (a .deleted-counts) (now (a .deleted))) _ _ _ _
-    (c .before .before .before .before .before .before .before .before .before .before .flush-table .ensures) (c .before .before .before .before .before .before .clear-list .ensures) (c .before .before .clear-list2 .ensures)
+    let a = c .before .before .before .before .before .before .before .before .before .before .before .before .before .before .before .before .before .before .args in
+    flush-is (a .edition) (lists (a .staged-counts) (now (a .staged)) (a .table-counts) (now (a .table)) (a .deleted-counts) (now (a .deleted))) _ _ _ _
+    (c .before .before .before .before .before .before .before .before .before .before .before .flush-table .ensures) (rw (c .before .before .before .before .before .before .before .before .record-size .ensures .0) at (c .before .before .before .before .before .before .clear-list .ensures)) (c .before .before .clear-list2 .ensures)
 
 pub flush-lists-spec : {M : Type 1} → statement M
 flush-lists-spec =
     tie.close
     (tie.spec
     flush-table-requires
+    record-size-requires
     clear-list-requires
     clear-list-requires-2
     same-length

@@ -1,6 +1,8 @@
 -- The staged records go in first, then the deleted keys go out.
 use mathlib.Core.Path.{ap, _∙_}
-use Rattle.buffer_core.specs.Edition.{edition-1}
+use denote.Ref.{now}
+use Rattle.records.specs.Records.{keys}
+use Rattle.buffer_core.specs.Edition.{edition-of}
 use Rattle.buffer_core.specs.Flush.{remove-keys}
 use borrow.Author.Needs.{needs}
 use Rattle.flush_core.proofs.flush_table.Statement.{statement}
@@ -17,7 +19,8 @@ same-length c = search needs
 
 returns : tie.Need-returns
 returns c =
-    c .before .before .remove-deleted .ensures ∙ ap (remove-keys edition-1 _) (c .before .before .before .before .before .before .put-undeleted .ensures .0)
+    let a = c .before .before .before .before .before .before .before .before .before .before .before .args in
+    c .before .before .remove-deleted .ensures ∙ ap (remove-keys (edition-of (a .edition)) (keys 32 (a .deleted-count) (now (a .deleted)))) (c .before .before .before .before .before .before .put-undeleted .ensures .0)
 
 pub flush-table-spec : {M : Type 1} → statement M
 flush-table-spec =

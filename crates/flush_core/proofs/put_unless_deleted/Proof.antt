@@ -5,6 +5,8 @@ use native.Mathlib.Omega.{arith}
 use denote.Ref.{now}
 use lib.ListN.{take, drop}
 use Rattle.records.proofs.RecordLaws.{row-room}
+use Rattle.buffer_core.specs.Edition.{record-size}
+use Rattle.buffer_core.proofs.SizeLaws.{sizes}
 use Rattle.flush_core.proofs.FlushLaws.{put-kept, put-done, slot-new}
 use lib.ListN.{length-take, length-drop}
 use borrow.Author.Needs.{needs}
@@ -21,7 +23,7 @@ part-holds-key-start : tie.Need-part-holds-key-start
 part-holds-key-start c = search needs
 
 part-holds-key-end : tie.Need-part-holds-key-end
-part-holds-key-end c = search needs
+part-holds-key-end c = omega (arith, c .before .before .before .pre .0, sizes (c .before .before .before .args .edition))
 
 holds-key-requires : tie.Need-holds-key-requires
 holds-key-requires c κs = search needs
@@ -30,10 +32,16 @@ returns : tie.Need-returns
 returns c =
     let a = c .before .before .before .before .before .before .args in
     let e : a .at + 32 - a .at ≡ 32 = omega arith in
-    put-kept _ (a .at) (now (a .staged)) _ (rw e at (sym (c .before .holds-key .ensures) ∙ c .if1 .taken))
+    put-kept (a .edition) _ (a .at) (now (a .staged)) _ (rw e at (sym (c .before .holds-key .ensures) ∙ c .if1 .taken))
+
+record-size-requires : tie.Need-record-size-requires
+record-size-requires c κs = search needs
 
 row-part-requires : tie.Need-row-part-requires
-row-part-requires c κs = search needs
+row-part-requires c κs =
+    let s = c .before .before .before .before .before .before .before in
+    let z = c .record-size .ensures .0 in
+    (omega (arith, z, sizes (s .args .edition)), rw z (s .pre .0))
 
 sub-put : tie.Need-sub-put
 sub-put c = search needs
@@ -42,20 +50,23 @@ part-put-start : tie.Need-part-put-start
 part-put-start c = search needs
 
 part-put-end : tie.Need-part-put-end
-part-put-end c = search needs
+part-put-end c = omega (arith, c .before .before .before .before .before .before .before .before .before .pre .0, sizes (c .before .before .before .before .before .before .before .before .before .args .edition))
 
 put-requires : tie.Need-put-requires
 put-requires c κs =
-    let s = c .before .before .before .before .before .before .before .before .before in
+    let s = c .before .before .before .before .before .before .before .before .before .before in
     let a = s .args in
+    let z = c .before .before .before .record-size .ensures .0 in
+    let size = record-size (a .edition) in
     let e : a .at + 32 - a .at ≡ 32 = omega arith in
-    let d = rw e at (sym (c .before .before .before .before .holds-key .ensures) ∙ c .before .before .before .if1 .left) in
-    let r = slot-new (a .counts .count) _ (now (a .table)) _ d (s .pre .2) in
+    let d = rw e at (sym (c .before .before .before .before .before .holds-key .ensures) ∙ c .before .before .before .before .if1 .left) in
+    let r = slot-new (a .edition) (a .counts .count) _ (now (a .table)) _ d (s .pre .2) in
+    let g = sizes (a .edition) in
     let p = s .pre .0 in (
-      r .0,
-      rw (e, length-take, length-drop) (omega arith),
-      rw (c .before .before .row-part .ensures) (row-room 10288 (take 10288 (drop (a .at) (now (a .staged)))) (omega arith) (rw (length-take, length-drop) (omega arith))),
-      rw e (r .1),
+      rw z (r .0),
+      rw (e, length-take, length-drop) (omega (arith, p, g)),
+      rw (c .before .before .row-part .ensures, z) (row-room size (take size (drop (a .at) (now (a .staged)))) (g .0) (rw (length-take, length-drop) (omega (arith, p)))),
+      rw (e, z) (r .1),
     )
 
 same-length : tie.Need-same-length
@@ -63,11 +74,12 @@ same-length c = search needs
 
 returns-2 : tie.Need-returns-2
 returns-2 c =
-    let a = c .before .before .before .before .before .before .before .before .before .before .before .before .args in
+    let a = c .before .before .before .before .before .before .before .before .before .before .before .before .before .args in
+    let z = c .before .before .before .before .before .before .record-size .ensures .0 in
     let e : a .at + 32 - a .at ≡ 32 = omega arith in
-    let d = rw e at (sym (c .before .before .before .before .before .before .before .holds-key .ensures) ∙ c .before .before .before .before .before .before .if1 .left) in
+    let d = rw e at (sym (c .before .before .before .before .before .before .before .before .holds-key .ensures) ∙ c .before .before .before .before .before .before .before .if1 .left) in
     let p = c .before .before .put .ensures in
-    put-done _ (a .at) (now (a .staged)) _ d _ _ (rw e at (p .0)) (rw (e, c .before .before .before .before .before .row-part .ensures) at (p .1))
+    put-done (a .edition) _ (a .at) (now (a .staged)) _ d _ _ (rw (e, z) at (p .0)) (rw (e, c .before .before .before .before .before .row-part .ensures, z) at (p .1))
 
 pub put-unless-deleted-spec : {M : Type 1} → statement M
 put-unless-deleted-spec =
@@ -79,6 +91,7 @@ put-unless-deleted-spec =
     part-holds-key-end
     holds-key-requires
     returns
+    record-size-requires
     row-part-requires
     sub-put
     part-put-start

@@ -6,7 +6,7 @@ use lib.ListN.{length, drop}
 use Rattle.records.specs.Records.{keys}
 use Rattle.records.specs.Changes.{with-count}
 use Rattle.records.proofs.TurnLaws.{left-all}
-use Rattle.buffer_core.specs.Edition.{edition-1}
+use Rattle.buffer_core.specs.Edition.{edition-of, record-size}
 use Rattle.buffer_core.specs.Flush.{listed, remove-keys}
 use Rattle.flush_core.proofs.FlushLaws.{remove-step, remove-past, remove-within}
 use borrow.Author.Needs.{needs}
@@ -14,13 +14,13 @@ use Rattle.flush_core.proofs.remove_deleted.Statement.{statement}
 use Rattle.flush_core.proofs.remove_deleted.Tie as tie
 
 abbrev Inv-loop : tie.InvT-loop
-Inv-loop table₀ counts deleted deleted-count n₀ i₀ at₀ table n i at =
-    (i ≤ deleted-count) × (at ≡ i * 32) × (length table ≡ length table₀) × (n * 10288 ≤ length table)
-    × (remove-keys edition-1 (keys 32 deleted-count deleted) (listed counts table₀)
-    ≡ remove-keys edition-1 (keys 32 (deleted-count - i) (drop at deleted)) (listed (with-count n counts) table))
+Inv-loop edition table₀ counts deleted deleted-count n₀ i₀ at₀ table n i at =
+    (i ≤ deleted-count) × (at ≡ i * 32) × (length table ≡ length table₀) × (n * record-size edition ≤ length table)
+    × (remove-keys (edition-of edition) (keys 32 deleted-count deleted) (listed counts table₀)
+    ≡ remove-keys (edition-of edition) (keys 32 (deleted-count - i) (drop at deleted)) (listed (with-count n counts) table))
 
 abbrev μ-loop : tie.MeasureT-loop
-μ-loop table₀ counts deleted deleted-count n₀ i₀ at₀ table n i at = deleted-count - i
+μ-loop edition table₀ counts deleted deleted-count n₀ i₀ at₀ table n i at = deleted-count - i
 
 loop-holds : tie.Need-loop-holds Inv-loop μ-loop
 loop-holds c = (search needs, refl, refl, c .before .before .pre .0, rw left-all)
@@ -53,8 +53,8 @@ loop-again c =
     let t = c .before .before .before .before .before .loop-test .taken in
     let d : l .at + 32 - l .at ≡ 32 = omega arith in
     let e = rw d at (c .before .before .remove-key .ensures) in
-    let k = c .before .before .remove-key .kept .0 in
-    (omega arith, omega arith, k ∙ l .inv .2, rw k (remove-within _ (l .n) _ (l .table) _ (a .counts) _ e (l .inv .3)), l .inv .4 ∙ remove-step (a .deleted-count) (l .i) (l .at) _ _ t ∙ rw e)
+    let k = c .before .before .remove-key .kept .1 .0 in
+    (omega arith, omega arith, k ∙ l .inv .2, rw k (remove-within (a .edition) _ (l .n) _ (l .table) _ (a .counts) _ e (l .inv .3)), l .inv .4 ∙ remove-step (a .edition) (a .deleted-count) (l .i) (l .at) _ _ t ∙ rw e)
 
 same-length : tie.Need-same-length Inv-loop μ-loop
 same-length c = c .before .loop .inv .2
@@ -62,7 +62,7 @@ same-length c = c .before .loop .inv .2
 returns : tie.Need-returns Inv-loop μ-loop
 returns c =
     let l = c .before .loop in
-    sym (l .inv .4 ∙ remove-past _ _ _ _ (c .loop-test .left))
+    sym (l .inv .4 ∙ remove-past (c .before .before .before .before .args .edition) _ _ _ _ (c .loop-test .left))
 
 pub remove-deleted-spec : {M : Type 1} → statement M
 remove-deleted-spec =

@@ -10,6 +10,7 @@ use lib.ListN.{take}
 use mir.Syntax.{w32}
 use Rattle.signed.specs.Sign.{is-negative}
 use Rattle.signed.proofs.SignedLaws.{back}
+use Rattle.buffer_core.specs.Edition.{edition-of}
 use Rattle.buffer_core.specs.Spills.{sources}
 use Rattle.buffer_core.proofs.HeadLaws.{spills-below}
 use Rattle.page_calls.proofs.CallLaws.{page-33, page-10, page-11, page-on}
@@ -22,12 +23,12 @@ order-ok-requires c κs = search needs
 returns : tie.Need-returns
 returns c =
     let a = c .before .before .before .before .before .args in
-    page-33 (sources (now (a .parent)) (now (a .staged)) (a .staged-counts .count) (now (a .table)) (a .table-counts .count)) (a .counts .spills) (take (a .counts .len) (now (a .head))) (a .offset) (a .wanted) (now (a .page)) (c .if1 .taken)
+    page-33 (edition-of (a .edition)) (sources (now (a .parent)) (now (a .staged)) (a .staged-counts .count) (now (a .table)) (a .table-counts .count)) (a .counts .spills) (take (a .counts .len) (now (a .head))) (a .offset) (a .wanted) (now (a .page)) (c .if1 .taken)
 
 returns-2 : tie.Need-returns-2
 returns-2 c =
     let a = c .before .before .before .before .before .before .args in
-    page-10 (sources (now (a .parent)) (now (a .staged)) (a .staged-counts .count) (now (a .table)) (a .table-counts .count)) (a .counts .spills) (take (a .counts .len) (now (a .head))) (a .offset) (a .wanted) (now (a .page)) (omega arith) (sym (c .before .before .order-ok .ensures) ∙ not-true _ (c .if2 .taken))
+    page-10 (edition-of (a .edition)) (sources (now (a .parent)) (now (a .staged)) (a .staged-counts .count) (now (a .table)) (a .table-counts .count)) (a .counts .spills) (take (a .counts .len) (now (a .head))) (a .offset) (a .wanted) (now (a .page)) (omega arith) (sym (c .before .before .order-ok .ensures) ∙ not-true _ (c .if2 .taken))
 
 is-negative-i32-requires : tie.Need-is-negative-i32-requires
 is-negative-i32-requires c κs = search needs
@@ -35,7 +36,7 @@ is-negative-i32-requires c κs = search needs
 returns-3 : tie.Need-returns-3
 returns-3 c =
     let a = c .before .before .before .before .before .before .before .before .args in
-    page-11 (sources (now (a .parent)) (now (a .staged)) (a .staged-counts .count) (now (a .table)) (a .table-counts .count)) (a .counts .spills) (take (a .counts .len) (now (a .head))) (a .offset) (a .wanted) (now (a .page)) (omega arith) (sym (c .before .before .before .before .order-ok .ensures) ∙ not-false _ (c .before .before .if2 .left)) (ap is-negative (sym (back w32 (a .counts .spills) (search needs))) ∙ sym (c .before .is-negative-i32 .ensures) ∙ c .if3 .taken)
+    page-11 (edition-of (a .edition)) (sources (now (a .parent)) (now (a .staged)) (a .staged-counts .count) (now (a .table)) (a .table-counts .count)) (a .counts .spills) (take (a .counts .len) (now (a .head))) (a .offset) (a .wanted) (now (a .page)) (omega arith) (sym (c .before .before .before .before .order-ok .ensures) ∙ not-false _ (c .before .before .if2 .left)) (ap is-negative (sym (back w32 (a .counts .spills) (search needs))) ∙ sym (c .before .is-negative-i32 .ensures) ∙ c .if3 .taken)
 
 usize-from-i32-requires : tie.Need-usize-from-i32-requires
 usize-from-i32-requires c κs = sym (c .before .is-negative-i32 .ensures) ∙ c .if3 .left
@@ -63,7 +64,7 @@ returns-4 c =
     let s = c .before .before .before .before .before .before .before .before .before .before .before .before in
     let a = s .args in
     let e = back w32 (a .counts .spills) (search needs) in
-    page-on (sources (now (a .parent)) (now (a .staged)) (a .staged-counts .count) (now (a .table)) (a .table-counts .count)) (a .counts .spills) (take (a .counts .len) (now (a .head))) (a .offset) (a .wanted) (now (a .page))
+    page-on (edition-of (a .edition)) (sources (now (a .parent)) (now (a .staged)) (a .staged-counts .count) (now (a .table)) (a .table-counts .count)) (a .counts .spills) (take (a .counts .len) (now (a .head))) (a .offset) (a .wanted) (now (a .page))
     (omega arith)
     (sym (c .before .before .before .before .before .before .before .before .order-ok .ensures) ∙ not-false _ (c .before .before .before .before .before .before .if2 .left))
     (ap is-negative (sym e) ∙ sym (c .before .before .before .before .before .is-negative-i32 .ensures) ∙ c .before .before .before .before .if3 .left)

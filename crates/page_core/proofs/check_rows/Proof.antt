@@ -2,7 +2,7 @@
 use mathlib.Core.Path.{sym, _∙_}
 use borrow.Author.Needs.{needs}
 use denote.Ref.{now}
-use Rattle.buffer_core.specs.Edition.{edition-1}
+use Rattle.buffer_core.specs.Edition.{edition-of}
 use Rattle.buffer_core.specs.Spills.{sources}
 use Rattle.buffer_core.specs.Flip.{row-checked}
 use Rattle.page_core.proofs.PageLaws.{all-good, first-bad}
@@ -21,12 +21,12 @@ enum-known-tallied c = search needs
 returns : tie.Need-returns
 returns c =
     let a = c .before .before .before .before .before .before .args in
-    all-good (row-checked edition-1 (sources (now (a .parent)) (now (a .staged)) (a .staged-count) (now (a .table)) (a .table-count))) (a .rows) _ _ (sym (c .enum-told .given .1) ∙ c .before .before .count-rows .ensures)
+    all-good (row-checked (edition-of (a .edition)) (sources (now (a .parent)) (now (a .staged)) (a .staged-count) (now (a .table)) (a .table-count))) (a .rows) _ _ (sym (c .enum-told .given .1) ∙ c .before .before .count-rows .ensures)
 
 returns-2 : tie.Need-returns-2
 returns-2 c =
     let a = c .before .before .before .before .before .before .before .args in
-    first-bad (row-checked edition-1 (sources (now (a .parent)) (now (a .staged)) (a .staged-count) (now (a .table)) (a .table-count))) (a .rows) _ _ (sym (c .before .tallied .given .1) ∙ c .before .before .before .count-rows .ensures)
+    first-bad (row-checked (edition-of (a .edition)) (sources (now (a .parent)) (now (a .staged)) (a .staged-count) (now (a .table)) (a .table-count))) (a .rows) _ _ (sym (c .before .tallied .given .1) ∙ c .before .before .before .count-rows .ensures)
 
 pub check-rows-spec : {M : Type 1} → statement M
 check-rows-spec =

@@ -3,7 +3,7 @@ use borrow.Author.Needs.{needs}
 use mathlib.Core.Path.{sym, _∙_}
 use denote.Ref.{now}
 use lib.ListN.{take}
-use Rattle.buffer_core.specs.Edition.{edition-1}
+use Rattle.buffer_core.specs.Edition.{edition-of}
 use Rattle.buffer_core.specs.Spills.{sources}
 use Rattle.buffer_core.specs.Rows.{rows-up}
 use Rattle.buffer_core.specs.Flip.{row-checked}
@@ -29,12 +29,12 @@ same-length c = search needs
 returns : tie.Need-returns
 returns c =
     let a = c .before .before .before .before .before .before .before .before .before .args in
-    page-good (row-checked edition-1 (sources (now (a .parent)) (now (a .staged)) (a .staged-count) (now (a .table)) (a .table-count))) (a .spills) (take (a .len) (now (a .head))) (a .offset) (a .wanted) (now (a .out)) _ (sym (c .before .before .before .enum-told .given .1) ∙ c .before .before .before .before .before .check-rows .ensures) (c .before .put-page .ensures)
+    page-good (row-checked (edition-of (a .edition)) (sources (now (a .parent)) (now (a .staged)) (a .staged-count) (now (a .table)) (a .table-count))) (a .spills) (take (a .len) (now (a .head))) (a .offset) (a .wanted) (now (a .out)) _ (sym (c .before .before .before .enum-told .given .1) ∙ c .before .before .before .before .before .check-rows .ensures) (c .before .put-page .ensures)
 
 returns-2 : tie.Need-returns-2
 returns-2 c =
     let a = c .before .before .before .before .before .before .before .args in
-    page-bad (rows-up (row-checked edition-1 (sources (now (a .parent)) (now (a .staged)) (a .staged-count) (now (a .table)) (a .table-count))) 0 (a .spills)) (take (a .len) (now (a .head))) (a .offset) (a .wanted) (now (a .out)) _ (sym (c .before .read .given .1) ∙ c .before .before .before .check-rows .ensures)
+    page-bad (rows-up (row-checked (edition-of (a .edition)) (sources (now (a .parent)) (now (a .staged)) (a .staged-count) (now (a .table)) (a .table-count))) 0 (a .spills)) (take (a .len) (now (a .head))) (a .offset) (a .wanted) (now (a .out)) _ (sym (c .before .read .given .1) ∙ c .before .before .before .check-rows .ensures)
 
 pub page-hinted-spec : {M : Type 1} → statement M
 page-hinted-spec =

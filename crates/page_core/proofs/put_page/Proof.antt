@@ -2,7 +2,7 @@
 use borrow.Author.Needs.{needs}
 use denote.Ref.{now}
 use lib.ListN.{take}
-use Rattle.buffer_core.specs.Edition.{edition-1}
+use Rattle.buffer_core.specs.Edition.{edition-of}
 use Rattle.buffer_core.specs.Spills.{sources}
 use Rattle.buffer_core.specs.Flip.{row-checked}
 use Rattle.page_core.specs.Steps.{rows-flat}
@@ -28,7 +28,7 @@ same-length c = search needs
 returns : tie.Need-returns
 returns c =
     let a = c .before .before .before .before .before .before .before .before .before .before .before .args in
-    let rows = rows-flat (row-checked edition-1 (sources (now (a .parent)) (now (a .staged)) (a .staged-count) (now (a .table)) (a .table-count))) 0 (a .spills) in
+    let rows = rows-flat (row-checked (edition-of (a .edition)) (sources (now (a .parent)) (now (a .staged)) (a .staged-count) (now (a .table)) (a .table-count))) 0 (a .spills) in
     page-left (a .offset) (a .wanted) rows (take (a .len) (now (a .head))) _ _ _ _ (now (a .out)) (c .before .before .before .before .before .before .put-newest .ensures) (c .before .before .before .before .put-rows .ensures) _ (c .before .copy-numbers .ensures)
 
 pub put-page-spec : {M : Type 1} → statement M

@@ -14,7 +14,7 @@ pop-ok-requires c κs = search needs
 pop-requires : tie.Need-pop-requires
 pop-requires c κs =
     let a = c .before .before .before .before .before .before .before .before .before .before .before .args in
-    pop-ready (a .counts) (lists (a .staged-counts) (now (a .staged)) (a .table-counts) (now (a .table)) (a .deleted-counts) (now (a .deleted))) (now (a .head)) (sym (c .before .before .before .before .pop-ok .ensures) ∙ c .before .before .before .if1 .taken)
+    pop-ready (a .edition) (a .counts) (lists (a .staged-counts) (now (a .staged)) (a .table-counts) (now (a .table)) (a .deleted-counts) (now (a .deleted))) (now (a .head)) (sym (c .before .before .before .before .pop-ok .ensures) ∙ c .before .before .before .if1 .taken)
 
 same-length : tie.Need-same-length
 same-length c = search needs
@@ -28,7 +28,7 @@ same-length-3 c = search needs
 returns : tie.Need-returns
 returns c =
     let a = c .before .before .before .before .before .before .before .before .before .before .before .before .before .before .before .before .before .args in
-    pop-goes (a .kind) (now (a .parent)) (a .counts) (lists (a .staged-counts) (now (a .staged)) (a .table-counts) (now (a .table)) (a .deleted-counts) (now (a .deleted))) (now (a .head)) (sym (c .before .before .before .before .before .before .before .before .before .before .pop-ok .ensures) ∙ c .before .before .before .before .before .before .before .before .before .if1 .taken) _ (c .before .before .before .before .before .pop .ensures)
+    pop-goes (a .edition) (a .kind) (now (a .parent)) (a .counts) (lists (a .staged-counts) (now (a .staged)) (a .table-counts) (now (a .table)) (a .deleted-counts) (now (a .deleted))) (now (a .head)) (sym (c .before .before .before .before .before .before .before .before .before .before .pop-ok .ensures) ∙ c .before .before .before .before .before .before .before .before .before .if1 .taken) _ (c .before .before .before .before .before .pop .ensures)
 
 same-length-4 : tie.Need-same-length-4
 same-length-4 c = search needs
@@ -42,7 +42,7 @@ same-length-6 c = search needs
 returns-2 : tie.Need-returns-2
 returns-2 c =
     let a = c .before .before .before .before .before .before .before .before .args in
-    pop-25 (a .kind) (now (a .parent)) (a .counts) (lists (a .staged-counts) (now (a .staged)) (a .table-counts) (now (a .table)) (a .deleted-counts) (now (a .deleted))) (now (a .head)) (sym (c .before .pop-ok .ensures) ∙ c .if1 .left)
+    pop-25 (a .edition) (a .kind) (now (a .parent)) (a .counts) (lists (a .staged-counts) (now (a .staged)) (a .table-counts) (now (a .table)) (a .deleted-counts) (now (a .deleted))) (now (a .head)) (sym (c .before .pop-ok .ensures) ∙ c .if1 .left)
 
 pub pop-entry-spec : {M : Type 1} → statement M
 pop-entry-spec =

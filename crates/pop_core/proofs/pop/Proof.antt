@@ -19,13 +19,13 @@ returns c =
     let s = c .before .before .before .before .before .before in
     let a = s .args in
     let e = back w32 (a .counts .spills) (search needs) in
-    pop-11 (a .kind) (now (a .parent)) (a .counts) (lists (a .staged-counts) (now (a .staged)) (a .table-counts) (now (a .table)) (a .deleted-counts) (now (a .deleted))) (now (a .head)) (ap is-negative (sym e) ∙ sym (c .before .is-negative-i32 .ensures) ∙ c .if1 .taken)
+    pop-11 (a .edition) (a .kind) (now (a .parent)) (a .counts) (lists (a .staged-counts) (now (a .staged)) (a .table-counts) (now (a .table)) (a .deleted-counts) (now (a .deleted))) (now (a .head)) (ap is-negative (sym e) ∙ sym (c .before .is-negative-i32 .ensures) ∙ c .if1 .taken)
 
 take-last-requires : tie.Need-take-last-requires
 take-last-requires c κs = search needs
 
-sub-t19 : tie.Need-sub-t19
-sub-t19 c = search needs
+sub-t20 : tie.Need-sub-t20
+sub-t20 c = search needs
 
 same-length : tie.Need-same-length
 same-length c = search needs
@@ -35,7 +35,7 @@ returns-2 c =
     let s = c .before .before .before .before .before .before .before .before .before .before in
     let a = s .args in
     let e = back w32 (a .counts .spills) (search needs) in
-    pop-last (a .kind) (now (a .parent)) (a .counts) (lists (a .staged-counts) (now (a .staged)) (a .table-counts) (now (a .table)) (a .deleted-counts) (now (a .deleted))) (now (a .head)) (ap is-negative (sym e) ∙ sym (c .before .before .before .before .before .is-negative-i32 .ensures) ∙ c .before .before .before .before .if1 .left) (c .before .before .before .if2 .taken) _ _ _ (back64 (c .before .take-last .result) (c .before .take-last .ok) ∙ c .before .take-last .ensures .0) e (c .before .take-last .ensures .1)
+    pop-last (a .edition) (a .kind) (now (a .parent)) (a .counts) (lists (a .staged-counts) (now (a .staged)) (a .table-counts) (now (a .table)) (a .deleted-counts) (now (a .deleted))) (now (a .head)) (ap is-negative (sym e) ∙ sym (c .before .before .before .before .before .is-negative-i32 .ensures) ∙ c .before .before .before .before .if1 .left) (c .before .before .before .if2 .taken) _ _ _ (back64 (c .before .take-last .result) (c .before .take-last .ok) ∙ c .before .take-last .ensures .0) e (c .before .take-last .ensures .1)
 
 usize-from-i32-requires : tie.Need-usize-from-i32-requires
 usize-from-i32-requires c κs = sym (c .before .before .is-negative-i32 .ensures) ∙ c .before .if1 .left
@@ -45,7 +45,7 @@ returns-3 c =
     let s = c .before .before .before .before .before .before .before .before .before in
     let a = s .args in
     let e = back w32 (a .counts .spills) (search needs) in
-    pop-19 (a .kind) (now (a .parent)) (a .counts) (lists (a .staged-counts) (now (a .staged)) (a .table-counts) (now (a .table)) (a .deleted-counts) (now (a .deleted))) (now (a .head)) (ap is-negative (sym e) ∙ sym (c .before .before .before .before .is-negative-i32 .ensures) ∙ c .before .before .before .if1 .left) (c .before .before .if2 .left) _ (c .before .usize-from-i32 .ensures ∙ ap natAbs e) (c .if3 .taken)
+    pop-19 (a .edition) (a .kind) (now (a .parent)) (a .counts) (lists (a .staged-counts) (now (a .staged)) (a .table-counts) (now (a .table)) (a .deleted-counts) (now (a .deleted))) (now (a .head)) (ap is-negative (sym e) ∙ sym (c .before .before .before .before .is-negative-i32 .ensures) ∙ c .before .before .before .if1 .left) (c .before .before .if2 .left) _ (c .before .usize-from-i32 .ensures ∙ ap natAbs e) (c .if3 .taken)
 
 sub-unspill : tie.Need-sub-unspill
 sub-unspill c = search needs
@@ -55,7 +55,7 @@ unspill-requires c κs =
     let s = c .before .before .before .before .before .before .before .before .before .before .before .before in
     let a = s .args in
     let e = back w32 (a .counts .spills) (search needs) in
-    (rows-below (a .kind) (now (a .parent)) (a .counts) (lists (a .staged-counts) (now (a .staged)) (a .table-counts) (now (a .table)) (a .deleted-counts) (now (a .deleted))) (now (a .head)) (ap is-negative (sym e) ∙ sym (c .before .before .before .before .before .before .before .is-negative-i32 .ensures) ∙ c .before .before .before .before .before .before .if1 .left) (c .before .before .before .before .before .if2 .left) _ (c .before .before .before .before .usize-from-i32 .ensures ∙ ap natAbs e) (search needs), s .pre .1)
+    (rows-below (a .edition) (a .kind) (now (a .parent)) (a .counts) (lists (a .staged-counts) (now (a .staged)) (a .table-counts) (now (a .table)) (a .deleted-counts) (now (a .deleted))) (now (a .head)) (ap is-negative (sym e) ∙ sym (c .before .before .before .before .before .before .before .is-negative-i32 .ensures) ∙ c .before .before .before .before .before .before .if1 .left) (c .before .before .before .before .before .if2 .left) _ (c .before .before .before .before .usize-from-i32 .ensures ∙ ap natAbs e) (search needs), s .pre .1)
 
 same-length-2 : tie.Need-same-length-2
 same-length-2 c = search needs
@@ -71,7 +71,7 @@ returns-4 c =
     let s = c .before .before .before .before .before .before .before .before .before .before .before .before .before .before .before .before .before .before in
     let a = s .args in
     let e = back w32 (a .counts .spills) (search needs) in
-    pop-row (a .kind) (now (a .parent)) (a .counts) (lists (a .staged-counts) (now (a .staged)) (a .table-counts) (now (a .table)) (a .deleted-counts) (now (a .deleted))) (now (a .head)) (ap is-negative (sym e) ∙ sym (c .before .before .before .before .before .before .before .before .before .before .before .before .before .is-negative-i32 .ensures) ∙ c .before .before .before .before .before .before .before .before .before .before .before .before .if1 .left) (c .before .before .before .before .before .before .before .before .before .before .before .if2 .left) _ (c .before .before .before .before .before .before .before .before .before .before .usize-from-i32 .ensures ∙ ap natAbs e) (c .before .before .before .before .before .before .before .before .before .if3 .left) _ (c .before .before .before .before .before .unspill .ensures)
+    pop-row (a .edition) (a .kind) (now (a .parent)) (a .counts) (lists (a .staged-counts) (now (a .staged)) (a .table-counts) (now (a .table)) (a .deleted-counts) (now (a .deleted))) (now (a .head)) (ap is-negative (sym e) ∙ sym (c .before .before .before .before .before .before .before .before .before .before .before .before .before .is-negative-i32 .ensures) ∙ c .before .before .before .before .before .before .before .before .before .before .before .before .if1 .left) (c .before .before .before .before .before .before .before .before .before .before .before .if2 .left) _ (c .before .before .before .before .before .before .before .before .before .before .usize-from-i32 .ensures ∙ ap natAbs e) (c .before .before .before .before .before .before .before .before .before .if3 .left) _ (c .before .before .before .before .before .unspill .ensures)
 
 pub pop-spec : {M : Type 1} → statement M
 pop-spec =
@@ -80,7 +80,7 @@ pop-spec =
     is-negative-i32-requires
     returns
     take-last-requires
-    sub-t19
+    sub-t20
     same-length
     returns-2
     usize-from-i32-requires

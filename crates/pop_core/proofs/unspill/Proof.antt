@@ -36,7 +36,7 @@ same-length c = search needs
 returns : tie.Need-returns
 returns c =
     let a = c .before .before .before .before .before .before .before .before .before .before .before .before .before .before .args in
-    unspill-20 (a .kind) (now (a .parent)) (a .spills) (a .staged-counts) (now (a .staged)) (a .table-counts) (now (a .table)) (a .deleted-counts) (now (a .deleted)) (now (a .head)) _ (c .before .before .before .before .before .before .before .before .before .before .spill-key .ensures .0) _ _ (c .before .before .before .before .before .read-under .ensures) _ (c .before .before .read2 .given .1) (c .if1 .taken)
+    unspill-20 (a .edition) (a .kind) (now (a .parent)) (a .spills) (a .staged-counts) (now (a .staged)) (a .table-counts) (now (a .table)) (a .deleted-counts) (now (a .deleted)) (now (a .head)) _ (c .before .before .before .before .before .before .before .before .before .before .spill-key .ensures .0) _ _ (c .before .before .before .before .before .read-under .ensures) _ (c .before .before .read2 .given .1) (c .if1 .taken)
 
 slice-aggregate-full-for : tie.Need-slice-aggregate-full-for
 slice-aggregate-full-for c = search needs
@@ -53,7 +53,7 @@ same-length-3 c = search needs
 returns-2 : tie.Need-returns-2
 returns-2 c =
     let a = c .before .before .before .before .before .before .before .before .before .before .before .before .before .before .before .before .before .before .args in
-    unspill-21 (a .kind) (now (a .parent)) (a .spills) (a .staged-counts) (now (a .staged)) (a .table-counts) (now (a .table)) (a .deleted-counts) (now (a .deleted)) (now (a .head)) _ (c .before .before .before .before .before .before .before .before .before .before .before .before .before .before .spill-key .ensures .0) _ _ (c .before .before .before .before .before .before .before .before .before .read-under .ensures) _ (c .before .before .before .before .before .before .read2 .given .1) (c .before .before .before .before .if1 .left) (sym (c .before .full-for .ensures) ∙ c .if2 .taken)
+    unspill-21 (a .edition) (a .kind) (now (a .parent)) (a .spills) (a .staged-counts) (now (a .staged)) (a .table-counts) (now (a .table)) (a .deleted-counts) (now (a .deleted)) (now (a .head)) _ (c .before .before .before .before .before .before .before .before .before .before .before .before .before .before .spill-key .ensures .0) _ _ (c .before .before .before .before .before .before .before .before .before .read-under .ensures) _ (c .before .before .before .before .before .before .read2 .given .1) (c .before .before .before .before .if1 .left) (sym (c .before .full-for .ensures) ∙ c .if2 .taken)
 
 slice-aggregate-merge : tie.Need-slice-aggregate-merge
 slice-aggregate-merge c = search needs
@@ -65,7 +65,7 @@ merge-requires : tie.Need-merge-requires
 merge-requires c κs =
     let s = c .before .before .before .before .before .before .before .before .before .before .before .before .before .before .before .before .before .before .before .before .before .before .before in
     let a = s .args in
-    merge-ready (a .kind) (now (a .parent)) (a .spills) (a .staged-counts) (now (a .staged)) (a .table-counts) (now (a .table)) (a .deleted-counts) (now (a .deleted)) (now (a .head)) _ (c .before .before .before .before .before .before .before .before .before .before .before .before .before .before .before .before .before .before .before .spill-key .ensures .0) _ _ (c .before .before .before .before .before .before .before .before .before .before .before .before .before .before .read-under .ensures) _ (c .before .before .before .before .before .before .before .before .before .before .before .read2 .given .1) (c .before .before .before .before .before .before .before .before .before .if1 .left)
+    merge-ready (a .edition) (a .kind) (now (a .parent)) (a .spills) (a .staged-counts) (now (a .staged)) (a .table-counts) (now (a .table)) (a .deleted-counts) (now (a .deleted)) (now (a .head)) _ (c .before .before .before .before .before .before .before .before .before .before .before .before .before .before .before .before .before .before .before .spill-key .ensures .0) _ _ (c .before .before .before .before .before .before .before .before .before .before .before .before .before .before .read-under .ensures) _ (c .before .before .before .before .before .before .before .before .before .before .before .read2 .given .1) (c .before .before .before .before .before .before .before .before .before .if1 .left)
     (sym (c .before .before .before .before .before .before .full-for .ensures) ∙ c .before .before .before .before .before .if2 .left) (s .pre .0) (c .before .before .before .before .before .before .before .before .before .before .before .before .before .before .before .before .before .before .before .spill-key .ensures .1) (s .pre .1)
 
 same-length-4 : tie.Need-same-length-4
@@ -74,7 +74,7 @@ same-length-4 c = search needs
 returns-3 : tie.Need-returns-3
 returns-3 c =
     let a = c .before .before .before .before .before .before .before .before .before .before .before .before .before .args in
-    unspill-bad (a .kind) (now (a .parent)) (a .spills) (a .staged-counts) (now (a .staged)) (a .table-counts) (now (a .table)) (a .deleted-counts) (now (a .deleted)) (now (a .head)) _ (c .before .before .before .before .before .before .before .before .before .spill-key .ensures .0) _ _ (c .before .before .before .before .read-under .ensures) _ (c .before .read .given .1)
+    unspill-bad (a .edition) (a .kind) (now (a .parent)) (a .spills) (a .staged-counts) (now (a .staged)) (a .table-counts) (now (a .table)) (a .deleted-counts) (now (a .deleted)) (now (a .head)) _ (c .before .before .before .before .before .before .before .before .before .spill-key .ensures .0) _ _ (c .before .before .before .before .read-under .ensures) _ (c .before .read .given .1)
 
 same-length-5 : tie.Need-same-length-5
 same-length-5 c = search needs
@@ -88,7 +88,7 @@ same-length-7 c = search needs
 returns-4 : tie.Need-returns-4
 returns-4 c =
     let a = c .before .before .before .before .before .before .before .before .before .before .before .before .before .before .before .before .before .before .before .before .before .before .before .before .before .before .before .before .before .args in
-    unspill-done (a .kind) (now (a .parent)) (a .spills) (a .staged-counts) (now (a .staged)) (a .table-counts) (now (a .table)) (a .deleted-counts) (now (a .deleted)) (now (a .head)) _ (c .before .before .before .before .before .before .before .before .before .before .before .before .before .before .before .before .before .before .before .before .before .before .before .before .before .spill-key .ensures .0) _ _ (c .before .before .before .before .before .before .before .before .before .before .before .before .before .before .before .before .before .before .before .before .read-under .ensures) _ (c .before .before .before .before .before .before .before .before .before .before .before .before .before .before .before .before .before .read2 .given .1) (c .before .before .before .before .before .before .before .before .before .before .before .before .before .before .before .if1 .left)
+    unspill-done (a .edition) (a .kind) (now (a .parent)) (a .spills) (a .staged-counts) (now (a .staged)) (a .table-counts) (now (a .table)) (a .deleted-counts) (now (a .deleted)) (now (a .head)) _ (c .before .before .before .before .before .before .before .before .before .before .before .before .before .before .before .before .before .before .before .before .before .before .before .before .before .spill-key .ensures .0) _ _ (c .before .before .before .before .before .before .before .before .before .before .before .before .before .before .before .before .before .before .before .before .read-under .ensures) _ (c .before .before .before .before .before .before .before .before .before .before .before .before .before .before .before .before .before .read2 .given .1) (c .before .before .before .before .before .before .before .before .before .before .before .before .before .before .before .if1 .left)
     (sym (c .before .before .before .before .before .before .before .before .before .before .before .before .full-for .ensures) ∙ c .before .before .before .before .before .before .before .before .before .before .before .if2 .left) _ (c .before .before .before .before .before .merge .ensures)
 
 pub unspill-spec : {M : Type 1} → statement M

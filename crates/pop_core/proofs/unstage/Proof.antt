@@ -17,12 +17,12 @@ remove-requires : tie.Need-remove-requires
 remove-requires c κs =
     let s = c .before .before .before .before .before .before .before .before in
     let a = s .args in
-    (s .pre, found-in (now (a .key)) 10288 (a .counts .count) (now (a .staged)) _ _ (c .before .before .before .before .find .ensures) (c .before .before .found .given .1))
+    (s .pre .1, found-in (now (a .key)) (a .size) (a .counts .count) (now (a .staged)) _ _ (c .before .before .before .before .find .ensures) (c .before .before .found .given .1))
 
-sub-t13 : tie.Need-sub-t13
-sub-t13 c =
+sub-t14 : tie.Need-sub-t14
+sub-t14 c =
     let a = c .before .before .before .before .before .before .before .before .before .before .before .args in
-    let i = found-in (now (a .key)) 10288 (a .counts .count) (now (a .staged)) _ _ (c .before .before .before .before .before .before .before .find .ensures) (c .before .before .before .before .before .found .given .1) in
+    let i = found-in (now (a .key)) (a .size) (a .counts .count) (now (a .staged)) _ _ (c .before .before .before .before .before .before .before .find .ensures) (c .before .before .before .before .before .found .given .1) in
     omega arith
 
 enum-told : tie.Need-enum-told
@@ -34,7 +34,7 @@ same-length c = search needs
 returns : tie.Need-returns
 returns c =
     let a = c .before .before .before .before .before .before .before .before .before .before .before .args in
-    without-at 10288 (a .counts) (now (a .staged)) _ _ (c .before .before .before .before .before .before .before .find .ensures) _ (c .before .before .before .before .before .found .given .1) _ (c .before .before .remove .ensures)
+    without-at (a .size) (a .counts) (now (a .staged)) _ _ (c .before .before .before .before .before .before .before .find .ensures) _ (c .before .before .before .before .before .found .given .1) _ (c .before .before .remove .ensures)
 
 same-length-2 : tie.Need-same-length-2
 same-length-2 c = search needs
@@ -42,7 +42,7 @@ same-length-2 c = search needs
 returns-2 : tie.Need-returns-2
 returns-2 c =
     let a = c .before .before .before .before .before .before .args in
-    without-none 10288 (a .counts) (now (a .staged)) _ _ (c .before .before .find .ensures) (c .enum-told .given .1)
+    without-none (a .size) (a .counts) (now (a .staged)) _ _ (c .before .before .find .ensures) (c .enum-told .given .1)
 
 pub unstage-spec : {M : Type 1} → statement M
 unstage-spec =
@@ -51,7 +51,7 @@ unstage-spec =
     find-requires
     enum-known-found
     remove-requires
-    sub-t13
+    sub-t14
     enum-told
     same-length
     returns

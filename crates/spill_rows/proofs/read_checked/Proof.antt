@@ -1,7 +1,7 @@
 -- `spill_rows::read_checked` meets its contract: the row is read, then its size and its order are tested.
 use denote.Ref.{now}
 use Rattle.segment_id.specs.declared.Kind.the-variants.{Box}
-use Rattle.buffer_core.specs.Edition.{edition-1}
+use Rattle.buffer_core.specs.Edition.{edition-of}
 use Rattle.buffer_core.specs.Spills.{sources, spill-read}
 use Rattle.spill_rows.proofs.CheckedLaws.{checked-short, checked-good, checked-order, checked-bad}
 use borrow.Author.Needs.{needs}
@@ -19,7 +19,7 @@ same-length c = search needs
 
 returns : tie.Need-returns
 returns c =
-    checked-short (spill-read edition-1 Box (sources (now (c .before .before .before .before .before .before .before .before .before .before .args .parent)) (now (c .before .before .before .before .before .before .before .before .before .before .args .staged)) (c .before .before .before .before .before .before .before .before .before .before .args .staged-count) (now (c .before .before .before .before .before .before .before .before .before .before .args .table)) (c .before .before .before .before .before .before .before .before .before .before .args .table-count)) (c .before .before .before .before .before .before .before .before .before .before .args .number)) _ (c .before .before .before .before .before .read-spill .last .1 .1 .1 .1 .1 .1 .1 .1 .0) (c .before .before .before .before .before .read-spill .ensures) _ (c .before .before .read .given .1) (c .if1 .taken)
+    checked-short (spill-read (edition-of (c .before .before .before .before .before .before .before .before .before .before .args .edition)) Box (sources (now (c .before .before .before .before .before .before .before .before .before .before .args .parent)) (now (c .before .before .before .before .before .before .before .before .before .before .args .staged)) (c .before .before .before .before .before .before .before .before .before .before .args .staged-count) (now (c .before .before .before .before .before .before .before .before .before .before .args .table)) (c .before .before .before .before .before .before .before .before .before .before .args .table-count)) (c .before .before .before .before .before .before .before .before .before .before .args .number)) _ (c .before .before .before .before .before .read-spill .last .1 .1 .1 .1 .1 .1 .1 .1 .1 .0) (c .before .before .before .before .before .read-spill .ensures) _ (c .before .before .read .given .1) (c .if1 .taken)
 
 order-ok-requires : tie.Need-order-ok-requires
 order-ok-requires c κs = search needs
@@ -32,21 +32,21 @@ same-length-2 c = search needs
 
 returns-2 : tie.Need-returns-2
 returns-2 c =
-    checked-good _ (c .before .before .before .before .before .before .before .before .read-spill .last .1 .1 .1 .1 .1 .1 .1 .1 .0) (search needs) _ (c .before .before .before .before .before .read .given .1) (c .before .before .before .if1 .left) _ (c .before .order-ok .ensures) (spill-read edition-1 Box (sources (now (c .before .before .before .before .before .before .before .before .before .before .before .before .before .args .parent)) (now (c .before .before .before .before .before .before .before .before .before .before .before .before .before .args .staged)) (c .before .before .before .before .before .before .before .before .before .before .before .before .before .args .staged-count) (now (c .before .before .before .before .before .before .before .before .before .before .before .before .before .args .table)) (c .before .before .before .before .before .before .before .before .before .before .before .before .before .args .table-count)) (c .before .before .before .before .before .before .before .before .before .before .before .before .before .args .number)) (c .before .before .before .before .before .before .before .before .read-spill .ensures) (c .if2 .taken)
+    checked-good _ (c .before .before .before .before .before .before .before .before .read-spill .last .1 .1 .1 .1 .1 .1 .1 .1 .1 .0) (search needs) _ (c .before .before .before .before .before .read .given .1) (c .before .before .before .if1 .left) _ (c .before .order-ok .ensures) (spill-read (edition-of (c .before .before .before .before .before .before .before .before .before .before .before .before .before .args .edition)) Box (sources (now (c .before .before .before .before .before .before .before .before .before .before .before .before .before .args .parent)) (now (c .before .before .before .before .before .before .before .before .before .before .before .before .before .args .staged)) (c .before .before .before .before .before .before .before .before .before .before .before .before .before .args .staged-count) (now (c .before .before .before .before .before .before .before .before .before .before .before .before .before .args .table)) (c .before .before .before .before .before .before .before .before .before .before .before .before .before .args .table-count)) (c .before .before .before .before .before .before .before .before .before .before .before .before .before .args .number)) (c .before .before .before .before .before .before .before .before .read-spill .ensures) (c .if2 .taken)
 
 same-length-3 : tie.Need-same-length-3
 same-length-3 c = search needs
 
 returns-3 : tie.Need-returns-3
 returns-3 c =
-    checked-order _ (c .before .before .before .before .before .before .before .before .read-spill .last .1 .1 .1 .1 .1 .1 .1 .1 .0) (search needs) _ (c .before .before .before .before .before .read .given .1) (c .before .before .before .if1 .left) _ (c .before .order-ok .ensures) (spill-read edition-1 Box (sources (now (c .before .before .before .before .before .before .before .before .before .before .before .before .before .args .parent)) (now (c .before .before .before .before .before .before .before .before .before .before .before .before .before .args .staged)) (c .before .before .before .before .before .before .before .before .before .before .before .before .before .args .staged-count) (now (c .before .before .before .before .before .before .before .before .before .before .before .before .before .args .table)) (c .before .before .before .before .before .before .before .before .before .before .before .before .before .args .table-count)) (c .before .before .before .before .before .before .before .before .before .before .before .before .before .args .number)) (c .before .before .before .before .before .before .before .before .read-spill .ensures) (c .if2 .left)
+    checked-order _ (c .before .before .before .before .before .before .before .before .read-spill .last .1 .1 .1 .1 .1 .1 .1 .1 .1 .0) (search needs) _ (c .before .before .before .before .before .read .given .1) (c .before .before .before .if1 .left) _ (c .before .order-ok .ensures) (spill-read (edition-of (c .before .before .before .before .before .before .before .before .before .before .before .before .before .args .edition)) Box (sources (now (c .before .before .before .before .before .before .before .before .before .before .before .before .before .args .parent)) (now (c .before .before .before .before .before .before .before .before .before .before .before .before .before .args .staged)) (c .before .before .before .before .before .before .before .before .before .before .before .before .before .args .staged-count) (now (c .before .before .before .before .before .before .before .before .before .before .before .before .before .args .table)) (c .before .before .before .before .before .before .before .before .before .before .before .before .before .args .table-count)) (c .before .before .before .before .before .before .before .before .before .before .before .before .before .args .number)) (c .before .before .before .before .before .before .before .before .read-spill .ensures) (c .if2 .left)
 
 same-length-4 : tie.Need-same-length-4
 same-length-4 c = search needs
 
 returns-4 : tie.Need-returns-4
 returns-4 c =
-    checked-bad (spill-read edition-1 Box (sources (now (c .before .before .before .before .before .before .before .before .before .args .parent)) (now (c .before .before .before .before .before .before .before .before .before .args .staged)) (c .before .before .before .before .before .before .before .before .before .args .staged-count) (now (c .before .before .before .before .before .before .before .before .before .args .table)) (c .before .before .before .before .before .before .before .before .before .args .table-count)) (c .before .before .before .before .before .before .before .before .before .args .number)) _ (c .before .before .before .before .read-spill .last .1 .1 .1 .1 .1 .1 .1 .1 .0) (c .before .before .before .before .read-spill .ensures) _ (c .before .read2 .given .1)
+    checked-bad (spill-read (edition-of (c .before .before .before .before .before .before .before .before .before .args .edition)) Box (sources (now (c .before .before .before .before .before .before .before .before .before .args .parent)) (now (c .before .before .before .before .before .before .before .before .before .args .staged)) (c .before .before .before .before .before .before .before .before .before .args .staged-count) (now (c .before .before .before .before .before .before .before .before .before .args .table)) (c .before .before .before .before .before .before .before .before .before .args .table-count)) (c .before .before .before .before .before .before .before .before .before .args .number)) _ (c .before .before .before .before .read-spill .last .1 .1 .1 .1 .1 .1 .1 .1 .1 .0) (c .before .before .before .before .read-spill .ensures) _ (c .before .read2 .given .1)
 
 pub read-checked-spec : {M : Type 1} → statement M
 read-checked-spec =

@@ -1,6 +1,4 @@
 -- `spill_rows::read_spill` meets its contract: the row of a spill number is that under its key.
-use denote.Ref.{now}
-use Rattle.spill_rows.proofs.SpillLaws.{spill-under}
 use borrow.Author.Needs.{needs}
 use Rattle.spill_rows.proofs.read_spill.Statement.{statement}
 use Rattle.spill_rows.proofs.read_spill.Tie as tie
@@ -18,9 +16,7 @@ same-length : tie.Need-same-length
 same-length c = search needs
 
 returns : tie.Need-returns
-returns c =
-    let a = c .before .before .before .before .before .before .before .before .args in
-    rw (spill-under (a .kind) (now (a .parent)) (now (a .staged)) (a .staged-count) (now (a .table)) (a .table-count) (a .number), ← c .before .before .before .before .spill-key .ensures .0) (c .before .read-under .ensures)
+returns c = c .before .read-under .ensures
 
 pub read-spill-spec : {M : Type 1} → statement M
 read-spill-spec =

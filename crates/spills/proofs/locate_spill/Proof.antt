@@ -1,7 +1,10 @@
 -- `spills::locate_spill` meets its contract: refusal 25 first, then the place of the key.
 use borrow.Author.Needs.{needs}
 use mathlib.Core.Path.{sym, ap, _∙_}
+use native.Mathlib.Omega.{arith}
 use denote.Ref.{now}
+use Rattle.buffer_core.specs.Edition.{record-size, row-limit-of}
+use Rattle.buffer_core.proofs.SizeLaws.{sizes}
 use Rattle.spills.specs.Inspection.{locate-row, located}
 use Rattle.spills.proofs.LocateLaws.{spills-ok-facts}
 use Rattle.spills.proofs.locate_spill.Statement.{statement}
@@ -10,11 +13,15 @@ use Rattle.spills.proofs.locate_spill.Tie as tie
 spills-ok-requires : tie.Need-spills-ok-requires
 spills-ok-requires c κs = search needs
 
+record-size-requires : tie.Need-record-size-requires
+record-size-requires c κs = search needs
+
 locate-requires : tie.Need-locate-requires
 locate-requires c κs =
-    let a = c .before .before .before .before .before .args in
-    let ok = spills-ok-facts 10288 10254 (a .staged-counts) (now (a .staged)) (a .table-counts) (now (a .table)) (sym (c .before .before .spills-ok .ensures) ∙ c .before .if1 .taken) in
-    (search needs, ok .in-staged .bounds .within, ok .in-table .bounds .within)
+    let a = c .before .before .before .before .before .before .args in
+    let z = c .before .record-size .ensures .0 in
+    let ok = spills-ok-facts (record-size (a .edition)) (row-limit-of (a .edition)) (a .staged-counts) (now (a .staged)) (a .table-counts) (now (a .table)) (sym (c .before .before .before .spills-ok .ensures) ∙ c .before .before .if1 .taken) in
+    (omega (arith, z, sizes (a .edition)), rw z (ok .in-staged .bounds .within), rw z (ok .in-table .bounds .within))
 
 enum-known-place : tie.Need-enum-known-place
 enum-known-place c = search needs
@@ -27,15 +34,15 @@ enum-told c = search needs
 
 returns : tie.Need-returns
 unfolding locate-row
-returns c = rw (sym (c .before .before .before .before .before .before .spills-ok .ensures) ∙ c .before .before .before .before .before .if1 .taken) (ap located (sym (c .before .place .given .1) ∙ c .before .before .before .locate .ensures))
+returns c = rw (sym (c .before .before .before .before .before .before .before .spills-ok .ensures) ∙ c .before .before .before .before .before .before .if1 .taken) (ap located (sym (c .before .place .given .1) ∙ rw (c .before .before .before .before .before .record-size .ensures .0) at (c .before .before .before .locate .ensures)))
 
 returns-2 : tie.Need-returns-2
 unfolding locate-row
-returns-2 c = rw (sym (c .before .before .before .before .before .before .spills-ok .ensures) ∙ c .before .before .before .before .before .if1 .taken) (ap located (sym (c .before .place2 .given .1) ∙ c .before .before .before .locate .ensures))
+returns-2 c = rw (sym (c .before .before .before .before .before .before .before .spills-ok .ensures) ∙ c .before .before .before .before .before .before .if1 .taken) (ap located (sym (c .before .place2 .given .1) ∙ rw (c .before .before .before .before .before .record-size .ensures .0) at (c .before .before .before .locate .ensures)))
 
 returns-3 : tie.Need-returns-3
 unfolding locate-row
-returns-3 c = rw (sym (c .before .before .before .before .before .spills-ok .ensures) ∙ c .before .before .before .before .if1 .taken) (ap located (sym (c .enum-told .given .1) ∙ c .before .before .locate .ensures))
+returns-3 c = rw (sym (c .before .before .before .before .before .before .spills-ok .ensures) ∙ c .before .before .before .before .before .if1 .taken) (ap located (sym (c .enum-told .given .1) ∙ rw (c .before .before .before .before .record-size .ensures .0) at (c .before .before .locate .ensures)))
 
 returns-4 : tie.Need-returns-4
 unfolding locate-row
@@ -46,6 +53,7 @@ locate-spill-spec =
     tie.close
     (tie.spec
     spills-ok-requires
+    record-size-requires
     locate-requires
     enum-known-place
     enum-known-place-2

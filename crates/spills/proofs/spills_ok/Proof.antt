@@ -5,19 +5,19 @@ use Rattle.spills.specs.Inspection.{spills-ok}
 use Rattle.spills.proofs.spills_ok.Statement.{statement}
 use Rattle.spills.proofs.spills_ok.Tie as tie
 
-records-ok-requires : tie.Need-records-ok-requires
-records-ok-requires c κs = search needs
+spills-ok-requires : tie.Need-spills-ok-requires
+spills-ok-requires c κs = search needs
 
-records-ok-requires-2 : tie.Need-records-ok-requires-2
-records-ok-requires-2 c κs = search needs
+spills-ok-requires-2 : tie.Need-spills-ok-requires-2
+spills-ok-requires-2 c κs = search needs
 
 returns : tie.Need-returns
 unfolding spills-ok
-returns c = rw (sym (c .before .before .records-ok .ensures) ∙ c .before .if1 .taken) (c .records-ok2 .ensures)
+returns c = rw (sym (c .before .before .spills-ok .ensures) ∙ c .before .if1 .taken) (c .spills-ok2 .ensures)
 
 returns-2 : tie.Need-returns-2
 unfolding spills-ok
-returns-2 c = rw (sym (c .before .records-ok .ensures) ∙ c .if1 .left)
+returns-2 c = rw (sym (c .before .spills-ok .ensures) ∙ c .if1 .left)
 
 pub spills-ok-spec : {M : Type 1} → statement M
-spills-ok-spec = tie.close (tie.spec records-ok-requires records-ok-requires-2 returns returns-2)
+spills-ok-spec = tie.close (tie.spec spills-ok-requires spills-ok-requires-2 returns returns-2)

@@ -6,7 +6,7 @@ use denote.Ref.{now}
 use borrow.Author.Needs.{needs}
 use Rattle.records.proofs.TurnLaws.{left-all}
 use Rattle.segment_id.specs.declared.Kind.the-variants.{Box}
-use Rattle.buffer_core.specs.Edition.{edition-1}
+use Rattle.buffer_core.specs.Edition.{edition-of}
 use Rattle.buffer_core.specs.Spills.{sources, spill-read}
 use Rattle.buffer_core.specs.Flip.{row-checked}
 use Rattle.tally_core.specs.Steps.{tally-rows}
@@ -15,12 +15,12 @@ use Rattle.tally_core.proofs.count_rows.Statement.{statement}
 use Rattle.tally_core.proofs.count_rows.Tie as tie
 
 abbrev Inv-loop : tie.InvT-loop
-Inv-loop parent spills staged staged-count table table-count hints t₀ n₀ t n =
-    let f = row-checked edition-1 (sources parent staged staged-count table table-count) in
+Inv-loop edition parent spills staged staged-count table table-count hints t₀ n₀ t n =
+    let f = row-checked (edition-of edition) (sources parent staged staged-count table table-count) in
     (n ≤ spills) × (t .unspent ≤ 512 + n * 512) × (t .spent ≤ 512 + n * 512) × (t .unknown ≤ 512 + n * 512) × (tally-rows f 0 spills t₀ ≡ tally-rows f n (spills - n) t)
 
 abbrev μ-loop : tie.MeasureT-loop
-μ-loop parent spills staged staged-count table table-count hints t₀ n₀ t n = spills - n
+μ-loop edition parent spills staged staged-count table table-count hints t₀ n₀ t n = spills - n
 
 loop-holds : tie.Need-loop-holds Inv-loop μ-loop
 loop-holds c = (search needs, search needs, search needs, search needs, rw left-all)
@@ -36,7 +36,7 @@ plus-requires c κs =
     let a = c .before .before .before .before .before .before .before .before .before .args in
     let l = c .before .before .before .before .before .loop in
     let w = sources (now (a .parent)) (now (a .staged)) (a .staged-count) (now (a .table)) (a .table-count) in
-    let m = counted-all (spill-read edition-1 Box w (l .n)) _ (sym (c .before .row .given .1) ∙ c .before .before .before .count-row .ensures) in
+    let m = counted-all (spill-read (edition-of (a .edition)) Box w (l .n)) _ (sym (c .before .row .given .1) ∙ c .before .before .before .count-row .ensures) in
     (omega arith, omega arith, omega arith)
 
 enum-known-row-2 : tie.Need-enum-known-row-2 Inv-loop μ-loop
@@ -47,7 +47,7 @@ returns c =
     let a = c .before .before .before .before .before .before .before .before .before .args in
     let l = c .before .before .before .before .before .loop in
     let w = sources (now (a .parent)) (now (a .staged)) (a .staged-count) (now (a .table)) (a .table-count) in
-    stop w (l .n) (a .spills) (l .t) (c .before .before .before .before .loop-test .taken) _ (sym (c .before .row2 .given .1) ∙ c .before .before .before .count-row .ensures)
+    stop (edition-of (a .edition)) w (l .n) (a .spills) (l .t) (c .before .before .before .before .loop-test .taken) _ (sym (c .before .row2 .given .1) ∙ c .before .before .before .count-row .ensures)
     ∙ sym (l .inv .4)
 
 add-n : tie.Need-add-n Inv-loop μ-loop
@@ -62,15 +62,15 @@ loop-again c =
     let l = c .before .before .before .before .before .before .loop in
     let w = sources (now (a .parent)) (now (a .staged)) (a .staged-count) (now (a .table)) (a .table-count) in
     let e = sym (c .before .before .row .given .1) ∙ c .before .before .before .before .count-row .ensures in
-    let m = counted-all (spill-read edition-1 Box w (l .n)) _ e in
+    let m = counted-all (spill-read (edition-of (a .edition)) Box w (l .n)) _ e in
     let p = c .plus .ensures in
-    (omega arith, rw p (omega arith), rw p (omega arith), rw p (omega arith), l .inv .4 ∙ turn w (l .n) (a .spills) (l .t) (c .before .before .before .before .before .loop-test .taken) _ e _ p)
+    (omega arith, rw p (omega arith), rw p (omega arith), rw p (omega arith), l .inv .4 ∙ turn (edition-of (a .edition)) w (l .n) (a .spills) (l .t) (c .before .before .before .before .before .loop-test .taken) _ e _ p)
 
 returns-2 : tie.Need-returns-2 Inv-loop μ-loop
 returns-2 c =
     let a = c .before .before .before .before .before .args in
     let l = c .before .loop in
-    sym (l .inv .4 ∙ past (sources (now (a .parent)) (now (a .staged)) (a .staged-count) (now (a .table)) (a .table-count)) (l .n) (a .spills) (l .t) (c .loop-test .left))
+    sym (l .inv .4 ∙ past (edition-of (a .edition)) (sources (now (a .parent)) (now (a .staged)) (a .staged-count) (now (a .table)) (a .table-count)) (l .n) (a .spills) (l .t) (c .loop-test .left))
 
 pub count-rows-spec : {M : Type 1} → statement M
 count-rows-spec =

@@ -11,6 +11,7 @@ use borrow.Author.Tests.{not-true, not-false}
 use Rattle.signed.specs.Sign.{is-negative}
 use Rattle.signed.proofs.SignedLaws.{back}
 use Rattle.entries.proofs.TallyLaws.{adds-up}
+use Rattle.buffer_core.specs.Edition.{edition-of}
 use Rattle.buffer_core.specs.Spills.{sources}
 use Rattle.buffer_core.proofs.HeadLaws.{spills-below}
 use Rattle.tally_core.proofs.TallyLaws.{tally-10, tally-11, tally-on}
@@ -23,7 +24,7 @@ order-ok-requires c κs = search needs
 returns : tie.Need-returns
 returns c =
     let a = c .before .before .before .before .before .args in
-    tally-10 (sources (now (a .parent)) (now (a .staged)) (a .staged-counts .count) (now (a .table)) (a .table-counts .count)) (a .counts .spills) (take (a .counts .len) (now (a .head))) (sym (c .before .order-ok .ensures) ∙ not-true _ (c .if1 .taken))
+    tally-10 (edition-of (a .edition)) (sources (now (a .parent)) (now (a .staged)) (a .staged-counts .count) (now (a .table)) (a .table-counts .count)) (a .counts .spills) (take (a .counts .len) (now (a .head))) (sym (c .before .order-ok .ensures) ∙ not-true _ (c .if1 .taken))
 
 is-negative-i32-requires : tie.Need-is-negative-i32-requires
 is-negative-i32-requires c κs = search needs
@@ -32,7 +33,7 @@ returns-2 : tie.Need-returns-2
 returns-2 c =
     let a = c .before .before .before .before .before .before .before .args in
     let e = back w32 (a .counts .spills) (search needs) in
-    tally-11 (sources (now (a .parent)) (now (a .staged)) (a .staged-counts .count) (now (a .table)) (a .table-counts .count)) (a .counts .spills) (take (a .counts .len) (now (a .head))) (sym (c .before .before .before .order-ok .ensures) ∙ not-false _ (c .before .before .if1 .left)) (ap is-negative (sym e) ∙ sym (c .before .is-negative-i32 .ensures) ∙ c .if2 .taken)
+    tally-11 (edition-of (a .edition)) (sources (now (a .parent)) (now (a .staged)) (a .staged-counts .count) (now (a .table)) (a .table-counts .count)) (a .counts .spills) (take (a .counts .len) (now (a .head))) (sym (c .before .before .before .order-ok .ensures) ∙ not-false _ (c .before .before .if1 .left)) (ap is-negative (sym e) ∙ sym (c .before .is-negative-i32 .ensures) ∙ c .if2 .taken)
 
 usize-from-i32-requires : tie.Need-usize-from-i32-requires
 usize-from-i32-requires c κs = sym (c .before .is-negative-i32 .ensures) ∙ c .if2 .left
@@ -63,7 +64,7 @@ returns-3 c =
     let s = c .before .before .before .before .before .before .before .before .before .before in
     let a = s .args in
     let e = back w32 (a .counts .spills) (search needs) in
-    tally-on (sources (now (a .parent)) (now (a .staged)) (a .staged-counts .count) (now (a .table)) (a .table-counts .count)) (a .counts .spills) (take (a .counts .len) (now (a .head)))
+    tally-on (edition-of (a .edition)) (sources (now (a .parent)) (now (a .staged)) (a .staged-counts .count) (now (a .table)) (a .table-counts .count)) (a .counts .spills) (take (a .counts .len) (now (a .head)))
     (sym (c .before .before .before .before .before .before .order-ok .ensures) ∙ not-false _ (c .before .before .before .before .before .if1 .left))
     (ap is-negative (sym e) ∙ sym (c .before .before .before .before .is-negative-i32 .ensures) ∙ c .before .before .before .if2 .left)
     _ _ (c .before .before .usize-from-i32 .ensures ∙ ap natAbs e) (c .before .tally-entries .ensures) _ (c .count-spills .ensures)

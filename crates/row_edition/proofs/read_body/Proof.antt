@@ -1,7 +1,7 @@
--- `spill_rows::read_row` meets its contract: each kind has its reader.
+-- `row_edition::read_body` meets its contract: each kind has its reader.
 use borrow.Author.Needs.{needs}
-use Rattle.spill_rows.proofs.read_row.Statement.{statement}
-use Rattle.spill_rows.proofs.read_row.Tie as tie
+use Rattle.row_edition.proofs.read_body.Statement.{statement}
+use Rattle.row_edition.proofs.read_body.Tie as tie
 
 enum-told : tie.Need-enum-told
 enum-told c = search needs
@@ -27,8 +27,8 @@ same-length-2 c = search needs
 returns-2 : tie.Need-returns-2
 returns-2 c = rw (c .before .before .before .enum-told2 .given .1) (c .before .read-txs .ensures)
 
-pub read-row-spec : {M : Type 1} → statement M
-read-row-spec =
+pub read-body-spec : {M : Type 1} → statement M
+read-body-spec =
     tie.close
     (tie.spec
     enum-told

@@ -1,10 +1,10 @@
--- `spill_rows::read_boxes` meets its contract: the boxes of the row's segment are read into the list.
+-- `row_edition::read_boxes` meets its contract: the boxes of the row's segment are read into the list.
 use denote.Ref.{now}
 use Rattle.segment_id.specs.declared.Kind.the-variants.{Box}
-use Rattle.spill_rows.proofs.SpillLaws.{boxes-read, none-read}
+use Rattle.row_edition.proofs.ReadingLaws.{boxes-read, none-read}
 use borrow.Author.Needs.{needs}
-use Rattle.spill_rows.proofs.read_boxes.Statement.{statement}
-use Rattle.spill_rows.proofs.read_boxes.Tie as tie
+use Rattle.row_edition.proofs.read_boxes.Statement.{statement}
+use Rattle.row_edition.proofs.read_boxes.Tie as tie
 
 slice-aggregate-read-last-segment : tie.Need-slice-aggregate-read-last-segment
 slice-aggregate-read-last-segment c = search needs
@@ -24,7 +24,7 @@ same-length c = search needs
 returns : tie.Need-returns
 returns c =
     let a = c .before .before .before .before .before .before .before .before .before .args in
-    boxes-read (now (a .row)) (c .before .before .before .before .before .before .before .before .before .pre .0) _ _ (now (a .out)) _ _ (c .before .before .before .before .before .read-last-segment .ensures) (c .before .before .before .before .before .before .before .before .before .pre .1) _ _ _ _ _ (c .before .boxes .given .1)
+    boxes-read (now (a .row)) (a .at) _ _ (now (a .out)) _ _ (c .before .before .before .before .before .read-last-segment .ensures) (c .before .before .before .before .before .before .before .before .before .pre) _ _ _ _ _ (c .before .boxes .given .1)
 
 same-length-2 : tie.Need-same-length-2
 same-length-2 c = search needs
@@ -32,7 +32,7 @@ same-length-2 c = search needs
 returns-2 : tie.Need-returns-2
 returns-2 c =
     let a = c .before .before .before .before .before .before .before .before .before .args in
-    none-read (now (a .row)) (c .before .before .before .before .before .before .before .before .before .pre .0) _ _ (now (a .out)) _ _ (c .before .before .before .before .before .read-last-segment .ensures) Box _ (c .before .code .given .1) _
+    none-read (now (a .row)) (a .at) _ _ (now (a .out)) _ _ (c .before .before .before .before .before .read-last-segment .ensures) Box _ (c .before .code .given .1) _
 
 pub read-boxes-spec : {M : Type 1} → statement M
 read-boxes-spec =

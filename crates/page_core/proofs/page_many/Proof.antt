@@ -1,0 +1,42 @@
+-- `page_core::page_many` meets its contract: where the table's records stand is noted, and hints decide nothing.
+use native.Mathlib.Omega.{arith}
+use Rattle.buffer_core.proofs.SizeLaws.{sizes}
+use borrow.Author.Needs.{needs}
+use Rattle.page_core.proofs.page_many.Statement.{statement}
+use Rattle.page_core.proofs.page_many.Tie as tie
+
+record-size-requires : tie.Need-record-size-requires
+record-size-requires c κs = search needs
+
+slice-aggregate-note-places : tie.Need-slice-aggregate-note-places
+slice-aggregate-note-places c = search needs
+
+note-places-requires : tie.Need-note-places-requires
+note-places-requires c κs =
+    let q = c .before .before .before .before .pre in
+    let z = c .before .record-size .ensures .0 in
+    (rw z (omega (arith, sizes (c .before .before .before .before .args .edition))), rw z (q .1))
+
+slice-aggregate-page-hinted : tie.Need-slice-aggregate-page-hinted
+slice-aggregate-page-hinted c = search needs
+
+page-hinted-requires : tie.Need-page-hinted-requires
+page-hinted-requires c κs = search needs
+
+same-length : tie.Need-same-length
+same-length c = search needs
+
+returns : tie.Need-returns
+returns c = search needs
+
+pub page-many-spec : {M : Type 1} → statement M
+page-many-spec =
+    tie.close
+    (tie.spec
+    record-size-requires
+    slice-aggregate-note-places
+    note-places-requires
+    slice-aggregate-page-hinted
+    page-hinted-requires
+    same-length
+    returns)
