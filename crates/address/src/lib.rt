@@ -32,7 +32,7 @@ pub fn write_indexed_address(
     let count = balance.count;
     let ids = balance.ids;
     let amounts = balance.amounts;
-    address_core::writer::write_address(
+    address_writing::write_address(
         hash,
         has_balance,
         nanos,
@@ -55,13 +55,13 @@ pub fn read_indexed_address(row: &[u8], txs: &mut [i64], boxes: &mut [i64]) -> A
     ensures { λ r. ⌜ loading r (now (txs .exit)) (now (boxes .exit)) ≡ read-address (now (row .entry)) (now (txs .entry)) (now (boxes .entry)) ⌝ }
 {
     if ADDRESS_LIMIT < row.len() {
-        return address_core::reader::refused(refusal::BUFFERS);
+        return address_reading::refused(refusal::BUFFERS);
     }
     if txs.len() < SEGMENT_THRESHOLD {
-        return address_core::reader::refused(refusal::BUFFERS);
+        return address_reading::refused(refusal::BUFFERS);
     }
     if boxes.len() < SEGMENT_THRESHOLD {
-        return address_core::reader::refused(refusal::BUFFERS);
+        return address_reading::refused(refusal::BUFFERS);
     }
-    address_core::reader::read_address(row, txs, boxes)
+    address_reading::read_address(row, txs, boxes)
 }

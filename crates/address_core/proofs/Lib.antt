@@ -1,4 +1,4 @@
--- The laws of `address_core`, for its own functions and for every crate above.
+-- The laws of address records, for the functions that read and write them and for every crate above.
 pub mod BytesLaws
 pub mod WriteLaws
 pub mod TokenLaws

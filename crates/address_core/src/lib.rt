@@ -1,10 +1,7 @@
-// The address record: a hash, a flag, a balance if the flag is set, and a segment.
-// Internal: the parts of the record are asked for by size. The public calls are those of `address`.
+// The address record: a hash, a flag, a balance if the flag is set, and a segment: definitions and laws.
+// Internal: records are written by `address_writing` and read by `address_reading`. The public calls are those of `address`.
 use balance::Balance;
 use refusal::Answer;
-
-pub mod reader;
-pub mod writer;
 
 // An address: its hash, whether it has a balance, the balance (all zero where it has none), how many transactions and boxes, and the spill counts.
 pub struct IndexedAddress {

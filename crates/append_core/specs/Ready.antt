@@ -1,5 +1,5 @@
 -- What an append asks of its caller: the facts that the test of refusal 25 establishes.
-use Prim.Native.Nat.{ℕ, _≤_, _<_}
+use Prim.Native.Nat.{ℕ, _≤_}
 use mathlib.Core.List.{List}
 use lib.IntN.{ℤ}
 use lib.ListN.{length}
@@ -12,11 +12,5 @@ use Rattle.buffer_core.specs.Edition.{record-size}
 
 pub record AppendReady (v : RowEdition) (h : HeadCounts) (c : ListCounts) (head : List ℤ) (staged : List ℕ) : Type 0 where
   pub few : h .len ≤ segment-threshold
-  pub long : segment-threshold ≤ length head
-  pub bounds : InBounds (record-size v) c staged
-
--- the same for the step at a head of 512, with its spill count
-pub record SpillReady (v : RowEdition) (spills : ℕ) (c : ListCounts) (head : List ℤ) (staged : List ℕ) : Type 0 where
-  pub below : spills < 2147483648
   pub long : segment-threshold ≤ length head
   pub bounds : InBounds (record-size v) c staged

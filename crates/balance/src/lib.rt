@@ -76,7 +76,7 @@ fn change_box(
         Checked::Is(sum) => {
             let mut table = balance.ids;
             let mut sums = balance.amounts;
-            match balance_tokens::change_tokens(
+            match token_changes::change_tokens(
                 adding,
                 &mut table,
                 &mut sums,

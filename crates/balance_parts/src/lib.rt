@@ -68,7 +68,7 @@ fn change_copies(
     let mut new_sums = [0i64; TOKEN_LIMIT];
     stores::copy_bytes(&mut new_table, 0, table);
     stores::copy_numbers(&mut new_sums, 0, sums);
-    match balance_tokens::change_tokens(
+    match token_changes::change_tokens(
         adding,
         &mut new_table,
         &mut new_sums,
@@ -101,7 +101,7 @@ fn change_held(
         (change-tokens adding (now (ids .entry)) (now (amounts .entry)) 0 n (record { ids = now (table .entry); amounts = now (sums .entry); count = count })) ⌝ }
 {
     if none_refused(adding, sums, count, amounts, n) {
-        balance_tokens::change_tokens(adding, table, sums, count, ids, amounts, n)
+        token_changes::change_tokens(adding, table, sums, count, ids, amounts, n)
     } else {
         change_copies(adding, table, sums, count, ids, amounts, n)
     }

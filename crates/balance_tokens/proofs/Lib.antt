@@ -1,4 +1,4 @@
--- The laws of `balance_tokens`, for its own functions and for every crate above.
+-- The laws of a balance's tokens, for the functions that change them and for every crate above.
 pub mod IdLaws
 pub mod TokenLaws
 pub mod RunLaws

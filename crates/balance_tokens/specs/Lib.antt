@@ -1,2 +1,2 @@
--- The definitions that the contracts of `balance_tokens` cite.
+-- The definitions that the contracts of `token_ids`, `token_changes` and the crates above them cite.
 pub mod Tokens

@@ -31,7 +31,7 @@ use Rattle.buffer_core.specs.Flip.{Flipping, flipping, flip-ok, flip-core, flip
 use Rattle.buffer_core.specs.Flush.{Flushing, flushing, flush-core, flush-of}
 use Rattle.append_core.specs.Ready.{AppendReady}
 use Rattle.append_core.proofs.KeepLaws.{append-ready}
-use Rattle.pop_core.specs.Ready.{PopReady}
+use Rattle.pop_row.specs.Ready.{PopReady}
 use Rattle.pop_core.proofs.KeepLaws.{pop-ready}
 use Rattle.flip_core.specs.Ready.{FlipReady}
 use Rattle.flip_core.proofs.KeepLaws.{flip-facts}

@@ -1,4 +1,4 @@
--- The definitions that the contracts of `entries` cite.
+-- The definitions that the contracts of `entry_order`, `entry_flips`, `entry_tallies` and the crates above them cite.
 pub mod Order
 pub mod Flip
 pub mod Tally

@@ -29,7 +29,7 @@ pub extern "C" fn ergo_index_write_indexed_address(
     ensures { λ r. ⌜ write-out r (now (at .exit)) (now (out .exit))
         ≡ write-export (now (at .entry)) (write-address (now (hash .entry)) «has_balance» nanos (now (ids .entry)) (now (amounts .entry)) count (now (txs .entry)) «n_txs» (now (boxes .entry)) «n_boxes» «box_segment_count» «tx_segment_count» (now (out .entry)) (now (at .entry))) ⌝ }
 {
-    let wrote = address_core::writer::write_address(
+    let wrote = address_writing::write_address(
         hash,
         has_balance,
         nanos,

@@ -3,15 +3,15 @@ use Prim.Native.Nat.{ℕ}
 use mathlib.Core.Path.{_≡_}
 use mathlib.Core.List.{List}
 use Rattle.refusal.specs.declared.Answer.the-variants as answer
-use Rattle.undo.specs.declared.entry.UndoEntry.{UndoEntry}
-use Rattle.undo.specs.declared.entry.Encoded.{Encoded}
-use Rattle.undo.specs.declared.entry.Encoded.the-variants as encoded
-use Rattle.undo.specs.declared.entry.Decoded.{Decoded}
-use Rattle.undo.specs.declared.prune.Window.{Window}
-use Rattle.undo.specs.declared.prune.Pruned.{Pruned}
-use Rattle.undo.specs.declared.prune.Pruned.the-variants as pruned
-use Rattle.undo.specs.Entry as entries
-use Rattle.undo.specs.Prune.{pruning, window-of, pruned-of}
+use Rattle.undo_entries.specs.declared.UndoEntry.{UndoEntry}
+use Rattle.undo_entries.specs.declared.Encoded.{Encoded}
+use Rattle.undo_entries.specs.declared.Encoded.the-variants as encoded
+use Rattle.undo_entries.specs.declared.Decoded.{Decoded}
+use Rattle.undo_pruning.specs.declared.Window.{Window}
+use Rattle.undo_pruning.specs.declared.Pruned.{Pruned}
+use Rattle.undo_pruning.specs.declared.Pruned.the-variants as pruned
+use Rattle.undo_entries.specs.Entry as entries
+use Rattle.undo_pruning.specs.Prune.{pruning, window-of, pruned-of}
 use Rattle.ergo_index_undo.specs.Undo.{entry, encode-out, encode-export, decode-out, decode-export, prune-out, prune-call}
 
 module _ (r : Encoded) (l : List ℕ) (o : entries.Encoding) (e : entries.encoded r l ≡ o) (m : ℕ) where

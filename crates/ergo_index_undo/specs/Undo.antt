@@ -4,16 +4,16 @@ use mathlib.Core.Bool.{Bool, true, false}
 use mathlib.Core.List.{List}
 use Rattle.refusal.specs.declared.Answer.{Answer}
 use Rattle.refusal.specs.declared.Answer.the-variants as answer
-use Rattle.undo.specs.declared.entry.UndoEntry.{UndoEntry}
-use Rattle.undo.specs.declared.entry.Encoded.{Encoded}
-use Rattle.undo.specs.declared.entry.Encoded.the-variants as encoded
-use Rattle.undo.specs.declared.entry.Decoded.{Decoded}
-use Rattle.undo.specs.declared.prune.Window.{Window}
-use Rattle.undo.specs.declared.prune.Window.the-variants.{Named, Unnamed}
-use Rattle.undo.specs.declared.prune.Pruned.{Pruned}
-use Rattle.undo.specs.declared.prune.Pruned.the-variants as pruned
-use Rattle.undo.specs.Entry.{Encoding}
-use Rattle.undo.specs.Prune.{Pruning, window-of, pruned-of}
+use Rattle.undo_entries.specs.declared.UndoEntry.{UndoEntry}
+use Rattle.undo_entries.specs.declared.Encoded.{Encoded}
+use Rattle.undo_entries.specs.declared.Encoded.the-variants as encoded
+use Rattle.undo_entries.specs.declared.Decoded.{Decoded}
+use Rattle.undo_pruning.specs.declared.Window.{Window}
+use Rattle.undo_pruning.specs.declared.Window.the-variants.{Named, Unnamed}
+use Rattle.undo_pruning.specs.declared.Pruned.{Pruned}
+use Rattle.undo_pruning.specs.declared.Pruned.the-variants as pruned
+use Rattle.undo_entries.specs.Entry.{Encoding}
+use Rattle.undo_pruning.specs.Prune.{Pruning, window-of, pruned-of}
 
 abbrev pub entry : Bool → List ℕ → ℕ → ℕ → UndoEntry
 entry known header txs boxes = record { known = known; header = header; txs = txs; boxes = boxes }

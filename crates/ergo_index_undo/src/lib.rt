@@ -1,6 +1,6 @@
 // Undo entries and their retention.
 ghost use mathlib.Core.Path.{_≡_};
-ghost use Rattle.undo.specs.Entry.{encoded-of, decoded-of};
+ghost use Rattle.undo_entries.specs.Entry.{encoded-of, decoded-of};
 ghost use Rattle.ergo_index_undo.specs.Undo.{entry, encode-out, encode-export, decode-out, decode-export, window, prune-out, prune-call};
 use refusal::Answer;
 use undo::entry::Encoded;

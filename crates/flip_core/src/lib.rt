@@ -194,10 +194,10 @@ fn flip_in_order(
     ensures { λ r. ⌜ flipping r (now (head .exit)) (now (staged .exit))
         ≡ done-by (edition-of edition) (in-order (edition-of edition) (sources (now (parent .entry)) (now (staged .entry)) («staged_counts» .count) (now (table .entry)) «table_count») («staged_counts» .capacity) target spend spills (take len (now (head .entry)))) «staged_counts» (now (head .entry)) (now (staged .entry)) ⌝ }
 {
-    let position = entries::flip_position(head, len, target, spend);
+    let position = entry_flips::flip_position(head, len, target, spend);
     match position {
         Position::At(i) => {
-            entries::flip_at(head, i);
+            entry_flips::flip_at(head, i);
             Flipped::Done(staged_counts)
         }
         Position::Seen => flip_rows(
@@ -263,7 +263,7 @@ pub fn flip(
     if 9223372036854775808 <= size {
         return Flipped::Refused(refusal::TARGET_IS_MINIMUM);
     }
-    if !entries::order_ok(head, len) {
+    if !entry_order::order_ok(head, len) {
         return Flipped::Refused(refusal::HEAD_OUT_OF_ORDER);
     }
     if signed::is_negative_i32(spills) {

@@ -29,10 +29,10 @@ fn rewrite(
         × Takes (numbers-of Kind.Box (row-under edition Kind.Box (now parent) (pos number) (now row))) at ⌝ }
     ensures { λ r. ⌜ Written edition (flipped-under edition (now (parent .entry)) number (now (row .entry)) at) r (now (out .exit)) ⌝ }
 {
-    let start = row_edition::body_start(edition, row);
+    let start = row_header::body_start(edition, row);
     let mut txs = [0i64; SEGMENT_THRESHOLD];
     let mut boxes = [0i64; SEGMENT_THRESHOLD];
-    match segment_core::read_last_segment(row, start, &mut txs, &mut boxes) {
+    match segment_loading::read_last_segment(row, start, &mut txs, &mut boxes) {
         Loaded::Read {
             txs: n,
             boxes: m,
@@ -40,9 +40,9 @@ fn rewrite(
             tx_segment_count: t,
             ..
         } => {
-            entries::flip_at(&mut boxes, at);
-            let o = row_edition::emit_header(edition, Kind::Box, parent, number, out);
-            segment_core::emit_segment(&txs, n, &boxes, m, b, t, out, o)
+            entry_flips::flip_at(&mut boxes, at);
+            let o = row_header::emit_header(edition, Kind::Box, parent, number, out);
+            segment_writing::emit_segment(&txs, n, &boxes, m, b, t, out, o)
         }
         Loaded::Refused(_) => 0,
     }

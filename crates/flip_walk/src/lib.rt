@@ -39,7 +39,7 @@ fn look_in(row: &[i64], target: u64, spend: bool) -> Look
         return Look::Stop(false);
     }
     let first = signed::magnitude(row[0]);
-    let position = entries::flip_position(row, SEGMENT_THRESHOLD, target, spend);
+    let position = entry_flips::flip_position(row, SEGMENT_THRESHOLD, target, spend);
     match position {
         Position::At(i) => Look::Take(i),
         Position::Seen => look_past(first, target, true),

@@ -33,7 +33,7 @@ fn page_checked<'a>(
 {
     let len = counts.len;
     let spills = counts.spills;
-    let ordered = entries::order_ok(head, len);
+    let ordered = entry_order::order_ok(head, len);
     if entries::PAGE < wanted {
         return Paged::Refused(refusal::PAGE_TOO_LONG);
     }

@@ -1,3 +1,2 @@
--- The laws of a row's header and of reading a row in either edition.
-pub mod HeaderLaws
+-- The laws of reading a row in either edition.
 pub mod ReadingLaws

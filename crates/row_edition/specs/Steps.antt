@@ -1,11 +1,8 @@
 -- What reading a row answers and leaves: the shape of the contracts of the readers, which the calls' crates use.
-use Prim.Native.Nat.{ℕ}
 use mathlib.Core.Path.{_≡_}
 use mathlib.Core.List.{List}
 use lib.IntN.{ℤ}
 use lib.ListN.{length}
-use Rattle.vlq_core.specs.declared.Got.{Got}
-use Rattle.vlq_core.specs.declared.Got.the-variants as got
 use Rattle.segment_core.specs.Loading.{padded}
 use Rattle.row_edition.specs.declared.SpillRead.{SpillRead}
 use Rattle.row_edition.specs.declared.SpillRead.the-variants.{Numbers, Refused}
@@ -15,8 +12,3 @@ use Rattle.buffer_core.specs.Edition.{RowRead, bad, good}
 abbrev pub SpillInto : RowRead → SpillRead → List ℤ → Type 0
 SpillInto (good zs) r out = (r ≡ Numbers (length zs)) × (out ≡ padded zs)
 SpillInto (bad code) r out = r ≡ Refused code
-
--- r is where the body begins, if the header can be read
-abbrev pub BodyStart : Got → ℕ → Type 0
-BodyStart (got.Value coded at) r = r ≡ at
-BodyStart (got.Refused code) r = Unit

@@ -41,7 +41,7 @@ pub fn write_segment(
         return Wrote::Refused(refusal::BUFFERS);
     }
     if vlq_core::has_room(out.len(), at, ROW_LIMIT) {
-        return Wrote::Next(segment_core::emit_segment(
+        return Wrote::Next(segment_writing::emit_segment(
             txs,
             n_txs,
             boxes,
@@ -52,7 +52,7 @@ pub fn write_segment(
             at,
         ));
     }
-    let n = segment_core::segment_len(
+    let n = segment_writing::segment_len(
         txs,
         n_txs,
         boxes,
@@ -63,7 +63,7 @@ pub fn write_segment(
     if !vlq_core::has_room(out.len(), at, n) {
         return Wrote::Refused(refusal::OUTPUT_TOO_SHORT);
     }
-    Wrote::Next(segment_core::emit_segment(
+    Wrote::Next(segment_writing::emit_segment(
         txs,
         n_txs,
         boxes,
@@ -88,5 +88,5 @@ pub fn read_persisted_segment(row: &[u8], txs: &mut [i64], boxes: &mut [i64]) ->
     if boxes.len() < SEGMENT_THRESHOLD {
         return Loaded::Refused(refusal::BUFFERS);
     }
-    segment_core::read_last_segment(row, 0, txs, boxes)
+    segment_loading::read_last_segment(row, 0, txs, boxes)
 }

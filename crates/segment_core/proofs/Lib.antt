@@ -1,4 +1,4 @@
--- The laws of `segment_core`, for its own functions and for every crate above.
+-- The laws of segment rows, for the functions that read and write them and for every crate above.
 pub mod RowLaws
 pub mod ListLaws
 pub mod CountLaws

@@ -145,7 +145,7 @@ pub fn read_checked<'a>(
             if n != SEGMENT_THRESHOLD {
                 return Read::Faulty(refusal::ROW_OUT_OF_ORDER);
             }
-            if entries::order_ok(out, SEGMENT_THRESHOLD) {
+            if entry_order::order_ok(out, SEGMENT_THRESHOLD) {
                 Read::Good
             } else {
                 Read::Faulty(refusal::ROW_OUT_OF_ORDER)

@@ -49,7 +49,7 @@ fn count_row<'a>(
         &mut row,
     );
     match read {
-        Read::Good => Tallied::Counts(entries::tally_entries(&row, SEGMENT_THRESHOLD)),
+        Read::Good => Tallied::Counts(entry_tallies::tally_entries(&row, SEGMENT_THRESHOLD)),
         Read::Faulty(code) => Tallied::Refused(code),
     }
 }
@@ -225,7 +225,7 @@ pub fn tally<'a>(
 {
     let len = counts.len;
     let spills = counts.spills;
-    if !entries::order_ok(head, len) {
+    if !entry_order::order_ok(head, len) {
         return Tallied::Refused(refusal::HEAD_OUT_OF_ORDER);
     }
     if signed::is_negative_i32(spills) {
@@ -235,7 +235,7 @@ pub fn tally<'a>(
         edition,
         parent,
         signed::usize_from_i32(spills),
-        entries::tally_entries(head, len),
+        entry_tallies::tally_entries(head, len),
         staged,
         staged_counts.count,
         table,

@@ -1,4 +1,4 @@
--- The laws of `vlq_core`, for its own functions and for every crate above.
+-- The laws of coded numbers, for the functions that read and write them and for every crate above.
 pub mod Split
 pub mod ZigzagLaws
 pub mod GroupLaws

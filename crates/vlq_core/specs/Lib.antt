@@ -1,4 +1,4 @@
--- The definitions that the contracts of `vlq_core` and of the writers above it cite: coded numbers of document 01, "Coded numbers".
+-- The definitions that the contracts of `vlq_reading`, `vlq_writing` and the crates above them cite: coded numbers of document 01, "Coded numbers".
 pub mod Zigzag
 pub mod Groups
 pub mod Reading

@@ -2,73 +2,34 @@
 // Each function over it is thin and leaves the work to a function on a slice and a position.
 ghost use mathlib.Core.Path.{_≡_};
 ghost use Rattle.vlq_core.specs.Reading.{read-at, long-of, int-of};
-ghost use Rattle.vlq_reader.specs.Reader.{after-long, after-int, span-at, after-span, started, moved-to};
+ghost use Rattle.vlq_positions.specs.Positions.{after-long, after-int, span-at, after-span};
+ghost use Rattle.vlq_reader.specs.Reader.{started, moved-to};
 use index_types::Int;
 use index_types::Long;
+
+// The n bytes at a position.
+pub use vlq_positions::Span;
+pub use vlq_positions::get_bytes;
 
 pub struct VlqReader<'a> {
     pub src: &'a [u8],
     pub at: usize,
 }
 
-// The bytes from the first position up to the second, or the refusal code.
-pub enum Span {
-    Within(usize, usize),
-    Refused(u8),
-}
-
-// The position after a 64-bit number that was looked for at a position; a refusal leaves it.
-fn after_long(found: Long, at: usize) -> usize
-    ensures { λ r. ⌜ r ≡ after-long found at ⌝ }
-{
-    match found {
-        Long::Number(_, next) => next,
-        Long::Refused(_) => at,
-    }
-}
-
-// The same of a 32-bit number.
-fn after_int(found: Int, at: usize) -> usize
-    ensures { λ r. ⌜ r ≡ after-int found at ⌝ }
-{
-    match found {
-        Int::Number(_, next) => next,
-        Int::Refused(_) => at,
-    }
-}
-
-// The n bytes at a position.
-pub fn get_bytes(src: &[u8], at: usize, n: usize) -> Span
-    ensures { λ r. ⌜ r ≡ span-at (now (src .entry)) at n ⌝ }
-{
-    if !vlq_core::has_room(src.len(), at, n) {
-        return Span::Refused(refusal::BYTES_END);
-    }
-    Span::Within(at, at + n)
-}
-
-// The position after bytes that were looked for at a position; a refusal leaves it.
-fn after_span(found: Span, at: usize) -> usize
-    ensures { λ r. ⌜ r ≡ after-span found at ⌝ }
-{
-    match found {
-        Span::Within(_, end) => end,
-        Span::Refused(_) => at,
-    }
-}
-
 // A reader at the start of the bytes.
 pub fn new<'a>(src: &'a [u8]) -> VlqReader<'a>
     ensures { λ r. ⌜ r ≡ started (src .entry) ⌝ }
 {
-    VlqReader { src, at: 0 }
+    let at = vlq_positions::start();
+    VlqReader { src, at }
 }
 
 // The position of the next byte to read.
 pub fn position<'a>(held: VlqReader<'a>) -> usize
     ensures { λ r. ⌜ r ≡ held .entry .at ⌝ }
 {
-    held.at
+    let at = held.at;
+    vlq_positions::position(at)
 }
 
 // Reads a signed 64-bit number; a refusal leaves the reader where it was.
@@ -79,7 +40,7 @@ pub fn read_i64<'s, 'a>(reader: &'s mut VlqReader<'a>) -> Long
     let src = reader.src;
     let at = reader.at;
     let found = vlq::get_i64(src, at);
-    let next = after_long(found, at);
+    let next = vlq_positions::after_long(found, at);
     reader.at = next;
     found
 }
@@ -92,7 +53,7 @@ pub fn read_i32<'s, 'a>(reader: &'s mut VlqReader<'a>) -> Int
     let src = reader.src;
     let at = reader.at;
     let found = vlq::get_i32(src, at);
-    let next = after_int(found, at);
+    let next = vlq_positions::after_int(found, at);
     reader.at = next;
     found
 }
@@ -104,8 +65,8 @@ pub fn read_bytes<'s, 'a>(reader: &'s mut VlqReader<'a>, n: usize) -> Span
 {
     let src = reader.src;
     let at = reader.at;
-    let found = get_bytes(src, at, n);
-    let next = after_span(found, at);
+    let found = vlq_positions::get_bytes(src, at, n);
+    let next = vlq_positions::after_span(found, at);
     reader.at = next;
     found
 }
@@ -115,5 +76,6 @@ pub fn first_i64(src: &[u8]) -> Long
     ensures { λ r. ⌜ r ≡ long-of (read-at 64 (now (src .entry)) 0) ⌝ }
 {
     let mut reader = new(src);
-    read_i64(&mut reader)
+    let found = read_i64(&mut reader);
+    vlq_positions::first(found)
 }

@@ -40,22 +40,23 @@ use denote.Triple.Spec.{Meets, tripleOf}
 use denote.Triple.Table.{entered, cited}
 use denote.Triple.Walked.{says, Stays, stay-ref, stay-none, walkOf, goes-ref, goes-none, Walks, ends-at, walked, walk-meets}
 use denote.Exit.{yes}
-use Rattle.vlq_reader.specs.Reader.{moved-to, span-at, after-span}
+use Rattle.vlq_positions.specs.Positions.{span-at, after-span}
+use Rattle.vlq_reader.specs.Reader.{moved-to}
 use Rattle.vlq_reader.specs.declared.VlqReader.{VlqReader}
 use Rattle.vlq_reader.proofs.VlqReader as T
 use Rattle.vlq_reader.proofs.VlqReader.Laws as T′
 use Rattle.vlq_reader.proofs.Held.{α, B, behind, src-out, again, typed}
-use Rattle.vlq_reader.specs.declared.Span.{Span}
-use Rattle.vlq_reader.proofs.Span as E
-use Rattle.vlq_reader.proofs.Span.Laws as E′
-use Rattle.vlq_reader.proofs.get_bytes as get-bytes
-use Rattle.vlq_reader.proofs.get_bytes.Symbol as get-def
-use Rattle.vlq_reader.proofs.get_bytes.Symbol.{name as #vlq-reader·get-bytes}
-use Rattle.vlq_reader.proofs.get_bytes.Met as get-thm
-use Rattle.vlq_reader.proofs.after_span as after-span-fn
-use Rattle.vlq_reader.proofs.after_span.Symbol as after-def
-use Rattle.vlq_reader.proofs.after_span.Symbol.{name as #vlq-reader·after-span}
-use Rattle.vlq_reader.proofs.after_span.Met as after-thm
+use Rattle.vlq_positions.specs.declared.Span.{Span}
+use Rattle.vlq_positions.proofs.Span as E
+use Rattle.vlq_positions.proofs.Span.Laws as E′
+use Rattle.vlq_positions.proofs.get_bytes as get-bytes
+use Rattle.vlq_positions.proofs.get_bytes.Symbol as get-def
+use Rattle.vlq_positions.proofs.get_bytes.Symbol.{name as #vlq-positions·get-bytes}
+use Rattle.vlq_positions.proofs.get_bytes.Met as get-thm
+use Rattle.vlq_positions.proofs.after_span as after-span-fn
+use Rattle.vlq_positions.proofs.after_span.Symbol as after-def
+use Rattle.vlq_positions.proofs.after_span.Symbol.{name as #vlq-positions·after-span}
+use Rattle.vlq_positions.proofs.after_span.Met as after-thm
 use Rattle.vlq_reader.proofs.read_bytes.Key.{name as #vlq-reader·read-bytes}
 use Rattle.vlq_reader.proofs.read_bytes as read-bytes
 use Rattle.vlq_reader.proofs.read_bytes.Statement as stated
@@ -137,7 +138,7 @@ module _ {M : Type 1} (𝓤 : URA M) (H : Heap 𝓤) (A : Atoms 𝓤) (W : Given
       nothing ! $ owned ! usize (Is usize) (uint-makes 𝓤 H A W w64) n _ (refl, n-fits) $ fjoin ! $ move ! (1 ∷ 0 ∷ []) $ fjoin ! $
       owned ! E.the-row (Is E.the-row) (EL.makes E.the-type E′.the-plain 𝓤 H A) r _ is $ move ! (1 ∷ 0 ∷ []) $ frame ! $ done !
 
-  module _ (C : Calls 𝓤 H) (Λ : Loops 𝓤 H) (fm : FmC 𝓤 H (W .laws) C) (known-get : Triple 𝓤 (C #vlq-reader·get-bytes) (Get 𝓤 H A at-mem run)) (known-after : Triple 𝓤 (C #vlq-reader·after-span) (After 𝓤 H A at-mem run)) where
+  module _ (C : Calls 𝓤 H) (Λ : Loops 𝓤 H) (fm : FmC 𝓤 H (W .laws) C) (known-get : Triple 𝓤 (C #vlq-positions·get-bytes) (Get 𝓤 H A at-mem run)) (known-after : Triple 𝓤 (C #vlq-positions·after-span) (After 𝓤 H A at-mem run)) where
     walk : ent 𝓤 (onEntry 𝓤 H A read-bytes.signature (κ, (κ′, tt)) (q, (q′, tt)) x vals) (WpFn 𝓤 H C Λ code.function (vptr b o ∷ vint w64 n ∷ []) Post)
     walk =
         qed W ((‵ (flft κ q) ⊛ token) ∷ ‵ (owns (MutRef (named 0) κ (B κ′) ∷ usize ∷ []) x vals) ∷ []) ∵ enter ! C Λ code.function (vptr b o ∷ vint w64 n ∷ []) _ $
@@ -179,12 +180,12 @@ module _ {M : Type 1} (𝓤 : URA M) (H : Heap 𝓤) (A : Atoms 𝓤) (W : Given
         keep ! (0 ∷ 1 ∷ 2 ∷ 5 ∷ []) $ by ! (exits r m u is e e′))))))))))))))))))
 
 module _ {M : Type 1} (𝓤 : URA M) (H : Heap 𝓤) (A : Atoms 𝓤) (W : Given 𝓤 H A) (at-mem : Memory → SProp 𝓤) (run : Routine → Fun 𝓤) where
-  read-bytes-walks : (C : Calls 𝓤 H) (Λ : Loops 𝓤 H) → FmC 𝓤 H (W .laws) C → Triple 𝓤 (C #vlq-reader·get-bytes) (Get 𝓤 H A at-mem run) → Triple 𝓤 (C #vlq-reader·after-span) (After 𝓤 H A at-mem run)
+  read-bytes-walks : (C : Calls 𝓤 H) (Λ : Loops 𝓤 H) → FmC 𝓤 H (W .laws) C → Triple 𝓤 (C #vlq-positions·get-bytes) (Get 𝓤 H A at-mem run) → Triple 𝓤 (C #vlq-positions·after-span) (After 𝓤 H A at-mem run)
       → Walks 𝓤 H A read-bytes.ended stayed (WpFn 𝓤 H C Λ code.function) (read-bytes.clauses 𝓤 H A at-mem run)
   read-bytes-walks C Λ fm known-get known-after = walked 𝓤 H A read-bytes.ended stayed (read-bytes.clauses 𝓤 H A at-mem run) (WpFn 𝓤 H C Λ code.function) (λ κs. (ptr-vals, (uint-vals w64, tt))) (λ κs. (mut-tells (named 0) (κs .0) (B (κs .1 .0)), (uint-tells w64, tt)))
       (λ κs qs bounds a g are. via 𝓤 _ (fst∗ 𝓤 _ (emp 𝓤)) (walk 𝓤 H A W at-mem run (κs .0) (κs .1 .0) (qs .0) (qs .1 .0) bounds (a .0 .ptr .0) (a .0 .ptr .1) (a .0 .name) (a .0 .now) (a .1 .0) (are .1 .0 .1) C Λ fm known-get known-after))
 
-  read-bytes-meets : (𝓣 : Tables 𝓤 H) → Triple 𝓤 (𝓣 .C #vlq-reader·get-bytes) (Get 𝓤 H A at-mem run) → Triple 𝓤 (𝓣 .C #vlq-reader·after-span) (After 𝓤 H A at-mem run)
+  read-bytes-meets : (𝓣 : Tables 𝓤 H) → Triple 𝓤 (𝓣 .C #vlq-positions·get-bytes) (Get 𝓤 H A at-mem run) → Triple 𝓤 (𝓣 .C #vlq-positions·after-span) (After 𝓤 H A at-mem run)
       → Meets 𝓤 H A read-bytes.signature (WpFn 𝓤 H (𝓣 .C) (𝓣 .Λ) code.function) (read-bytes.spec 𝓤 H A at-mem run)
   read-bytes-meets 𝓣 known-get known-after =
       walk-meets 𝓤 H A read-bytes.ended stayed W (goes-ref 𝓤 H A W 2 0 tt behind, (goes-none 𝓤 H A W 2 (λ _. usize) yes (λ κs x f. refl), tt)) (read-bytes.clauses 𝓤 H A at-mem run) (WpFn 𝓤 H (𝓣 .C) (𝓣 .Λ) code.function) (WpFn-mono 𝓤 H (W .laws) 𝓣 code.function)
@@ -196,5 +197,5 @@ read-bytes-spec 𝓤 H 𝓜 𝓖 𝓡 =
     entered 𝓤 H (tripleOf 𝓤 H (𝓖 .A) read-bytes.signature (read-bytes.spec 𝓤 H (𝓖 .A) (𝓜 .mem) (𝓡 .run)))
     (tables 𝓤 H 𝓜 𝓡 code.env .C) (tables 𝓤 H 𝓜 𝓡 code.env .Λ) #vlq-reader·read-bytes code.function (code.unfolded 𝓤 H 𝓜 𝓡)
     (read-bytes-meets 𝓤 H (𝓖 .A) (givenOf 𝓤 H 𝓜 𝓖) (𝓜 .mem) (𝓡 .run) (tablesOf 𝓤 H 𝓜 (tables 𝓤 H 𝓜 𝓡 code.env))
-    (cited 𝓤 H (Get 𝓤 H (𝓖 .A) (𝓜 .mem) (𝓡 .run)) 𝓜 𝓡 code.env #vlq-reader·get-bytes get-def.routine code.calls-vlq-reader·get-bytes (get-thm.met 𝓤 H 𝓜 𝓖 𝓡))
-    (cited 𝓤 H (After 𝓤 H (𝓖 .A) (𝓜 .mem) (𝓡 .run)) 𝓜 𝓡 code.env #vlq-reader·after-span after-def.routine code.calls-vlq-reader·after-span (after-thm.met 𝓤 H 𝓜 𝓖 𝓡)))
+    (cited 𝓤 H (Get 𝓤 H (𝓖 .A) (𝓜 .mem) (𝓡 .run)) 𝓜 𝓡 code.env #vlq-positions·get-bytes get-def.routine code.calls-vlq-positions·get-bytes (get-thm.met 𝓤 H 𝓜 𝓖 𝓡))
+    (cited 𝓤 H (After 𝓤 H (𝓖 .A) (𝓜 .mem) (𝓡 .run)) 𝓜 𝓡 code.env #vlq-positions·after-span after-def.routine code.calls-vlq-positions·after-span (after-thm.met 𝓤 H 𝓜 𝓖 𝓡)))

@@ -1,0 +1,2 @@
+-- The laws of a spill.
+pub mod SpillLaws

@@ -1,0 +1,2 @@
+-- The laws of the row that a spill writes.
+pub mod RowLaws

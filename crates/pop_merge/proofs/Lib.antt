@@ -1,0 +1,2 @@
+-- The laws of a row merged back.
+pub mod MergeLaws

@@ -1,0 +1,2 @@
+-- The laws of a pop from an empty head.
+pub mod RowLaws

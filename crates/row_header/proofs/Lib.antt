@@ -1,0 +1,2 @@
+-- The laws of a row's header.
+pub mod HeaderLaws

@@ -1,3 +1,0 @@
--- The definitions that the contracts of `undo` cite.
-pub mod Entry
-pub mod Prune

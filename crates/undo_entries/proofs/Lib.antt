@@ -1,0 +1,3 @@
+-- The laws of `undo_entries`.
+pub mod EntryLaws
+pub mod RoundTrip

@@ -1,0 +1,3 @@
+-- The laws of `undo_pruning`.
+pub mod PruneLaws
+pub mod WindowLaws
