@@ -3,6 +3,7 @@
 # make test   the gate: every crate proved from nothing, every must-fail edit refused, every program's output compared
 # make c-test    the C interface: proves and builds the archive, links a C program with it and compares what it prints
 # make bindings  the Rust crate over the archive: proves and builds the archive, then builds and tests the crate, offline
+# make convert   a sample table turned into edition 2 and back; cargo's --example convert does it for a stored table
 # make compare         the reference Rust (ERGO_REFERENCE, or ../shared/docs/src) and this index side by side, under a minute
 # make compare-full    the same with at least 10 million calls and 100,000 histories
 # make compare-sample  the fixed list of the reference's answers, made anew, and what the gate's program is held to
@@ -20,7 +21,7 @@ RT := $(shell command -v rt 2>/dev/null)
 NO_RT := the Rattle kit is missing: no command 'rt' on PATH (expected in /opt/rattle/bin)
 ARCHIVE := target/staticlib/libergo_index.a
 
-.PHONY: run load test times c-test bindings compare compare-full compare-sample compare-build vectors bench all-checks fmt
+.PHONY: run load test times c-test bindings convert compare compare-full compare-sample compare-build vectors bench all-checks fmt
 
 run:
 ifeq ($(RT),)
@@ -63,6 +64,16 @@ c-test: $(ARCHIVE)
 
 bindings: $(ARCHIVE)
 	@cd bindings/rust && ERGO_INDEX_LIB_DIR=$(CURDIR)/target/staticlib cargo test --offline --locked --quiet
+
+CONVERT = cd bindings/rust && ERGO_INDEX_LIB_DIR=$(CURDIR)/target/staticlib cargo run --offline --locked --quiet --example convert --
+
+convert: $(ARCHIVE)
+	@mkdir -p target/convert
+	@$(CONVERT) sample $(CURDIR)/target/convert/table $(CURDIR)/target/convert/parents
+	@$(CONVERT) second $(CURDIR)/target/convert/table $(CURDIR)/target/convert/parents $(CURDIR)/target/convert/table-2
+	@$(CONVERT) first $(CURDIR)/target/convert/table-2 $(CURDIR)/target/convert/table-1
+	@cmp target/convert/table target/convert/table-1
+	@echo "convert: ok"
 
 times:
 	@scripts/times.py

@@ -14,8 +14,9 @@ KINDS.update(zip(('add', 'sub', 'add-in-place', 'sub-in-place'), range(32, 36)))
 CALLS = 'append append-tx pop pop-tx spend unspend tally flush lists locate page'.split()
 KINDS.update(zip(CALLS, range(48, 59)), run=64, load=65)
 KINDS['go-on'] = 66
+KINDS.update(zip(('to-second', 'to-first'), (67, 68)))
 BODIES = {1: 10, 2: 10, 3: 10, 4: 10, 5: 2, 6: 2, 7: 1, 8: 19, 9: 19}
-RECORD, KEY = 10288, 32
+RECORDS, KEY = {1: 10288, 2: 10326}, 32
 
 
 # ---- fields
@@ -174,24 +175,36 @@ def row_key(parent, text):
     return hashlib.blake2b(f'{(bytes([parent]) * KEY).hex()} {kind} segment {spill}'.encode(), digest_size=KEY).digest()
 
 
-def spill(parent, text):
-    """A record: its key, and its row as bytes '0x..', as numbers 'txs[..]boxes[..]' with counts of 0, or as a length only '#n'."""
+def header(parent, text):
+    """What a row of edition 2 says: 'box.0', or '4.box.0' for the parent of another byte."""
+    *other, kind, number = text.split('.')
+    return bytes([int(other[0]) if other else parent]) * KEY + bytes([1 if kind == 'box' else 2]) + coded(int(number))
+
+
+def spill(edition, parent, text):
+    """A record: its key, and its row as bytes '0x..', as numbers 'txs[..]boxes[..]' with counts of 0, or as a length only '#n'. In edition 2 the numbers stand
+    behind the header of the key's spill, or, as any body behind 'SPILL/', of that one."""
     key, _, body = text.partition(':')
     if not body:
         return row_key(parent, key)
     if body.startswith('#'):
-        return row_key(parent, key) + int(body[1:]).to_bytes(2, 'big') + bytes(RECORD - 34)
+        return row_key(parent, key) + int(body[1:]).to_bytes(2, 'big') + bytes(RECORDS[edition] - 34)
+    says, _, body = body.rpartition('/')
     found = re.fullmatch(r'txs(\[.*?\])boxes(\[.*?\])', body)
     data = row(value(found[1]), value(found[2]), 0, 0) if found else value(body)
-    return row_key(parent, key) + len(data).to_bytes(2, 'big') + data + bytes(RECORD - 34 - len(data))
+    if says or (edition == 2 and found):
+        data = header(parent, says or key) + data
+    return row_key(parent, key) + len(data).to_bytes(2, 'big') + data + bytes(RECORDS[edition] - 34 - len(data))
 
 
-def buffer(parent, text, size):
+def buffer(given, name, text):
     """'count/capacity', ':n' for other than the capacity borrowed, and '{record; record}': counts and bytes."""
+    edition, parent = (int(given.get(word, none)) for word, none in (('edition', 1), ('parent', 3)))
+    size = KEY if name == 'deleted' else RECORDS[edition]
     counts, _, inside = text.partition('{')
     counts, _, borrowed = counts.partition(':')
     count, capacity = map(int, counts.split('/'))
-    data = b''.join(spill(parent, one.strip()) for one in inside.rstrip('}').split(';')) if inside else b''
+    data = b''.join(spill(edition, parent, one.strip()) for one in inside.rstrip('}').split(';')) if inside else b''
     return count, capacity, data + bytes(size * int(borrowed or capacity) - len(data))
 
 
@@ -199,7 +212,6 @@ def digest(data):
     return hashlib.blake2b(data, digest_size=32).hexdigest()
 
 
-SIZES = {'staged': RECORD, 'table': RECORD, 'deleted': KEY}
 CHANGED = {'append': ['head', 'staged'], 'append-tx': ['head', 'staged'], 'pop': ['head', 'staged', 'deleted'],
            'pop-tx': ['head', 'staged', 'deleted'], 'spend': ['head', 'staged'], 'unspend': ['head', 'staged'],
            'flush': ['staged', 'table', 'deleted']}
@@ -209,9 +221,9 @@ def call_fields(given):
     parent = int(given.get('parent', 3))
     head = value(given.get('head', '[]'))
     count, room = int(given.get('len', len(head))), int(given.get('room', 512))
-    out = bytes([parent]) + field((head + [0] * 512)[:room]) + numbered(count, int(given.get('spills', 0)), int(given.get('number', 0)))
-    for name, size in SIZES.items():
-        count, capacity, data = buffer(parent, given.get(name, '0/1'), size)
+    out = bytes([int(given.get('edition', 1)), parent]) + field((head + [0] * 512)[:room]) + numbered(count, int(given.get('spills', 0)), int(given.get('number', 0)))
+    for name in ('staged', 'table', 'deleted'):
+        count, capacity, data = buffer(given, name, given.get(name, '0/1'))
         out += numbered(count, capacity) + field(data)
     return out
 
@@ -224,10 +236,9 @@ def call_answer(kind, given, answer, after):
     words = list(answer)
     if answer[0] != '0':
         return words
-    parent = int(given.get('parent', 3))
     for name in CHANGED.get(kind, []):
         text = after.get(name, given.get(name, '[]' if name == 'head' else '0/1'))
-        words += listed(value(text)) if name == 'head' else [digest(buffer(parent, text, SIZES[name])[2])]
+        words += listed(value(text)) if name == 'head' else [digest(buffer(given, name, text)[2])]
     return words
 
 
@@ -235,6 +246,8 @@ def vector_fields(kind, given):
     get = {name: value(text) for name, text in given.items()} if kind not in CALLS else {}
     if kind in CALLS:
         return call_fields(given) + (page_fields(given) if kind == 'page' else b'')
+    if kind in ('to-second', 'to-first'):
+        return bytes([get.get('parent', 3), get.get('kind', 1)]) + coded(get.get('number', 0)) + field(get['row']) + field(get['out'])
     if kind in ('i64', 'i32'):
         return coded(get.get('at', 0)) + field(get['bytes'])
     if kind == 'span':

@@ -62,6 +62,7 @@ extern "C" {
 #define ERGO_INDEX_OUTPUT_TOO_SHORT 32           /* the output is too short */
 #define ERGO_INDEX_PAGE_TOO_LONG 33              /* a page of more than 64 numbers is asked for */
 #define ERGO_INDEX_NUMBER_PADDED 34              /* a coded number longer than one byte ends in 00; tested directly after 2 */
+#define ERGO_INDEX_ROW_OF_ANOTHER_SPILL 35       /* a row of edition 2 says another parent, kind or number; no kind is given */
 #define ERGO_INDEX_STATE_IS_ZERO 38              /* a load is asked for from state 0 */
 
 /* ---- sizes */
@@ -69,6 +70,8 @@ extern "C" {
 #define ERGO_INDEX_PAGE_LENGTH 64      /* places of a page of unspent boxes */
 #define ERGO_INDEX_ROW_LIMIT 10254     /* bytes of the longest segment row */
 #define ERGO_INDEX_RECORD_SIZE 10288   /* bytes of a record: 32 of the key, 2 of the length (high byte first), then the row and zeros */
+#define ERGO_INDEX_SECOND_ROW_LIMIT 10292   /* bytes of the longest row of edition 2 */
+#define ERGO_INDEX_SECOND_RECORD_SIZE 10326 /* bytes of its record */
 #define ERGO_INDEX_KEY_SIZE 32         /* bytes of a row key, a token id, a parent id */
 #define ERGO_INDEX_ADDRESS_LIMIT 15675 /* bytes of the longest address record */
 #define ERGO_INDEX_MAX_TOKENS 128      /* tokens of a balance */
@@ -201,6 +204,67 @@ uint8_t ergo_index_locate_spill(size_t staged_count, size_t staged_capacity, con
 uint8_t ergo_index_inspect_spill(size_t staged_count, size_t staged_capacity, const uint8_t *staged, size_t staged_len,
                                  size_t table_count, size_t table_capacity, const uint8_t *table, size_t table_len, const uint8_t key[32],
                                  uint8_t *list, size_t *offset, size_t *length);
+
+/* ---- rows that say whose they are
+ *
+ * The functions above, the batch and what follows work on rows of edition 1. A row of edition 2 has the parent's 32 bytes, a kind byte (1 box, 2 transaction)
+ * and the coded spill number before the same body. Its rows have up to ERGO_INDEX_SECOND_ROW_LIMIT bytes, its records ERGO_INDEX_SECOND_RECORD_SIZE, and
+ * 25 asks for these; keys are the same. The staged spills and the table that are used together hold one edition, and every call on them names it.
+ *
+ * Each of these functions does what the one without _in_edition does, with rows of edition 2 where second_edition is set and of edition 1 where it is not.
+ * In edition 2 a row that is read is also refused by 35, directly behind 8: where it says another parent, kind or number than that of the key under which it
+ * was found. Locating, inspecting and flushing do not look inside a row. */
+uint8_t ergo_index_append_box_entry_in_edition(bool second_edition, const uint8_t parent[32], size_t *len, int32_t *spills, int64_t *head,
+                                               size_t head_len, int64_t number, size_t *staged_count, size_t staged_capacity, uint8_t *staged,
+                                               size_t staged_len);
+uint8_t ergo_index_append_tx_entry_in_edition(bool second_edition, const uint8_t parent[32], size_t *len, int32_t *spills, int64_t *head,
+                                              size_t head_len, int64_t number, size_t *staged_count, size_t staged_capacity, uint8_t *staged,
+                                              size_t staged_len);
+uint8_t ergo_index_pop_box_entry_in_edition(bool second_edition, const uint8_t parent[32], size_t *len, int32_t *spills, int64_t *head,
+                                            size_t head_len, size_t *staged_count, size_t staged_capacity, uint8_t *staged, size_t staged_len,
+                                            size_t table_count, size_t table_capacity, const uint8_t *table, size_t table_len, size_t *deleted_count,
+                                            size_t deleted_capacity, uint8_t *deleted, size_t deleted_len, int64_t *number);
+uint8_t ergo_index_pop_tx_entry_in_edition(bool second_edition, const uint8_t parent[32], size_t *len, int32_t *spills, int64_t *head,
+                                           size_t head_len, size_t *staged_count, size_t staged_capacity, uint8_t *staged, size_t staged_len,
+                                           size_t table_count, size_t table_capacity, const uint8_t *table, size_t table_len, size_t *deleted_count,
+                                           size_t deleted_capacity, uint8_t *deleted, size_t deleted_len, int64_t *number);
+uint8_t ergo_index_flip_box_segment_entry_in_edition(bool second_edition, const uint8_t parent[32], size_t len, int32_t spills, int64_t *head,
+                                                     size_t head_len, int64_t target, size_t *staged_count, size_t staged_capacity, uint8_t *staged,
+                                                     size_t staged_len, size_t table_count, size_t table_capacity, const uint8_t *table,
+                                                     size_t table_len);
+uint8_t ergo_index_unflip_box_segment_entry_in_edition(bool second_edition, const uint8_t parent[32], size_t len, int32_t spills, int64_t *head,
+                                                       size_t head_len, int64_t target, size_t *staged_count, size_t staged_capacity, uint8_t *staged,
+                                                       size_t staged_len, size_t table_count, size_t table_capacity, const uint8_t *table,
+                                                       size_t table_len);
+uint8_t ergo_index_tally_in_edition(bool second_edition, const uint8_t parent[32], size_t len, int32_t spills, const int64_t *head, size_t head_len,
+                                    size_t staged_count, size_t staged_capacity, const uint8_t *staged, size_t staged_len, size_t table_count,
+                                    size_t table_capacity, const uint8_t *table, size_t table_len, size_t *unspent, size_t *spent, size_t *unknown);
+uint8_t ergo_index_unspent_page_in_edition(bool second_edition, const uint8_t parent[32], size_t len, int32_t spills, const int64_t *head,
+                                           size_t head_len, size_t staged_count, size_t staged_capacity, const uint8_t *staged, size_t staged_len,
+                                           size_t table_count, size_t table_capacity, const uint8_t *table, size_t table_len, size_t offset,
+                                           size_t length, int64_t *page, size_t page_len, size_t *numbers);
+uint8_t ergo_index_flush_staged_spills_in_edition(bool second_edition, size_t *staged_count, size_t staged_capacity, uint8_t *staged,
+                                                  size_t staged_len, size_t *table_count, size_t table_capacity, uint8_t *table, size_t table_len,
+                                                  size_t *deleted_count, size_t deleted_capacity, uint8_t *deleted, size_t deleted_len);
+uint8_t ergo_index_locate_spill_in_edition(bool second_edition, size_t staged_count, size_t staged_capacity, const uint8_t *staged, size_t staged_len,
+                                           size_t table_count, size_t table_capacity, const uint8_t *table, size_t table_len, const uint8_t key[32],
+                                           uint8_t *list, size_t *index);
+uint8_t ergo_index_inspect_spill_in_edition(bool second_edition, size_t staged_count, size_t staged_capacity, const uint8_t *staged,
+                                            size_t staged_len, size_t table_count, size_t table_capacity, const uint8_t *table, size_t table_len,
+                                            const uint8_t key[32], uint8_t *list, size_t *offset, size_t *length);
+
+/* Writes a row of edition 1 at the front of out as a row of edition 2, with the parent, kind (1 box, 2 transaction) and spill number, which may be negative.
+ * Refusals, in order: 25 (row above 10,254 bytes), 1 to 6 or 34, 8, 35 (a kind not 1 or 2), 32.
+ * Changes: out, *written. */
+uint8_t ergo_index_row_to_second(const uint8_t *row, size_t row_len, const uint8_t parent[32], uint8_t kind, int32_t number, uint8_t *out,
+                                 size_t out_len, size_t *written);
+
+/* Writes a row of edition 2 at the front of out as a row of edition 1. What either wrote, the other turns back into the same bytes.
+ * Refusals, in order: 25 (row above 10,292 bytes), the header 1, 2 or 34, the body 1 to 6 or 34, 8, 35 (the row says another parent, kind or number than
+ * those given, or the kind given is not 1 or 2), 32.
+ * Changes: out, *written. */
+uint8_t ergo_index_row_to_first(const uint8_t *row, size_t row_len, const uint8_t parent[32], uint8_t kind, int32_t number, uint8_t *out,
+                                size_t out_len, size_t *written);
 
 /* ---- digests and row keys; these refuse nothing */
 

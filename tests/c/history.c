@@ -285,6 +285,94 @@ static void loads(void) {
            (unsigned long long)state);
 }
 
+/* The same calls with rows that say whose they are, and the row taken to edition 1 and back. */
+static struct {
+    size_t count;
+    uint8_t bytes[CAPACITY * ERGO_INDEX_SECOND_RECORD_SIZE];
+} staged_2, table_2;
+
+static uint8_t flush_2(void) {
+    return ergo_index_flush_staged_spills_in_edition(true, &staged_2.count, CAPACITY, staged_2.bytes, sizeof staged_2.bytes,
+                                                     &table_2.count, CAPACITY, table_2.bytes, sizeof table_2.bytes,
+                                                     &deleted.count, CAPACITY, deleted.bytes, sizeof deleted.bytes);
+}
+
+static void editions(void) {
+    struct head head = {0};
+    for (int64_t n = 1; n <= 513; n++)
+        EXPECT(ergo_index_append_box_entry_in_edition(true, parent, &head.len, &head.spills, head.numbers, ERGO_INDEX_HEAD_LENGTH, n,
+                                                      &staged_2.count, CAPACITY, staged_2.bytes, sizeof staged_2.bytes) == 0);
+    EXPECT(head.len == 1 && head.spills == 1 && staged_2.count == 1);
+    EXPECT(flush_2() == 0 && table_2.count == 1);
+    EXPECT(ergo_index_flip_box_segment_entry_in_edition(true, parent, head.len, head.spills, head.numbers, ERGO_INDEX_HEAD_LENGTH, 100,
+                                                        &staged_2.count, CAPACITY, staged_2.bytes, sizeof staged_2.bytes,
+                                                        table_2.count, CAPACITY, table_2.bytes, sizeof table_2.bytes) == 0);
+    size_t unspent, spent, unknown;
+    EXPECT(ergo_index_tally_in_edition(true, parent, head.len, head.spills, head.numbers, ERGO_INDEX_HEAD_LENGTH,
+                                       staged_2.count, CAPACITY, staged_2.bytes, sizeof staged_2.bytes,
+                                       table_2.count, CAPACITY, table_2.bytes, sizeof table_2.bytes, &unspent, &spent, &unknown) == 0);
+    EXPECT(unspent == 512 && spent == 1 && unknown == 0);
+    int64_t page[ERGO_INDEX_PAGE_LENGTH];
+    size_t numbers;
+    EXPECT(ergo_index_unspent_page_in_edition(true, parent, head.len, head.spills, head.numbers, ERGO_INDEX_HEAD_LENGTH,
+                                              staged_2.count, CAPACITY, staged_2.bytes, sizeof staged_2.bytes,
+                                              table_2.count, CAPACITY, table_2.bytes, sizeof table_2.bytes, 412, 2, page, ERGO_INDEX_PAGE_LENGTH,
+                                              &numbers) == 0);
+    EXPECT(numbers == 2 && page[0] == 101 && page[1] == 99);
+
+    /* another parent's row under the key: 35 */
+    uint8_t key[32], list;
+    size_t offset, length, index, written;
+    ergo_index_box_segment_id(parent, 0, key);
+    EXPECT(ergo_index_locate_spill_in_edition(true, staged_2.count, CAPACITY, staged_2.bytes, sizeof staged_2.bytes,
+                                              table_2.count, CAPACITY, table_2.bytes, sizeof table_2.bytes, key, &list, &index) == 0);
+    EXPECT(list == 1 && index == 0);
+    EXPECT(ergo_index_inspect_spill_in_edition(true, staged_2.count, CAPACITY, staged_2.bytes, sizeof staged_2.bytes,
+                                               table_2.count, CAPACITY, table_2.bytes, sizeof table_2.bytes, key, &list, &offset, &length) == 0);
+    EXPECT(list == 1 && offset == 34);
+    uint8_t *row = staged_2.bytes + offset;
+    EXPECT(memcmp(row, parent, 32) == 0 && row[32] == 1 && row[33] == 0);
+    row[0] ^= 1;
+    EXPECT(ergo_index_unflip_box_segment_entry_in_edition(true, parent, head.len, head.spills, head.numbers, ERGO_INDEX_HEAD_LENGTH, 100,
+                                                          &staged_2.count, CAPACITY, staged_2.bytes, sizeof staged_2.bytes,
+                                                          table_2.count, CAPACITY, table_2.bytes, sizeof table_2.bytes)
+           == ERGO_INDEX_ROW_OF_ANOTHER_SPILL);
+    row[0] ^= 1;
+
+    /* the row taken to edition 1 and back */
+    static uint8_t first[ERGO_INDEX_ROW_LIMIT], second[ERGO_INDEX_SECOND_ROW_LIMIT];
+    EXPECT(ergo_index_row_to_first(row, length, parent, 2, 0, first, sizeof first, &written) == ERGO_INDEX_ROW_OF_ANOTHER_SPILL);
+    EXPECT(ergo_index_row_to_first(row, length, parent, 1, 0, first, sizeof first, &written) == 0 && written == length - 34);
+    EXPECT(memcmp(first, row + 34, written) == 0);
+    EXPECT(ergo_index_row_to_second(first, written, parent, 3, 0, second, sizeof second, &written) == ERGO_INDEX_ROW_OF_ANOTHER_SPILL);
+    EXPECT(ergo_index_row_to_second(first, written, parent, 1, 0, second, length - 1, &written) == ERGO_INDEX_OUTPUT_TOO_SHORT);
+    EXPECT(ergo_index_row_to_second(first, written, parent, 1, 0, second, length, &written) == 0 && written == length);
+    EXPECT(memcmp(second, row, length) == 0);
+
+    EXPECT(ergo_index_unflip_box_segment_entry_in_edition(true, parent, head.len, head.spills, head.numbers, ERGO_INDEX_HEAD_LENGTH, 100,
+                                                          &staged_2.count, CAPACITY, staged_2.bytes, sizeof staged_2.bytes,
+                                                          table_2.count, CAPACITY, table_2.bytes, sizeof table_2.bytes) == 0);
+    for (int64_t n = 513; n >= 1; n--) {
+        int64_t number;
+        EXPECT(ergo_index_pop_box_entry_in_edition(true, parent, &head.len, &head.spills, head.numbers, ERGO_INDEX_HEAD_LENGTH,
+                                                   &staged_2.count, CAPACITY, staged_2.bytes, sizeof staged_2.bytes,
+                                                   table_2.count, CAPACITY, table_2.bytes, sizeof table_2.bytes,
+                                                   &deleted.count, CAPACITY, deleted.bytes, sizeof deleted.bytes, &number) == 0
+               && number == n);
+    }
+    struct head none = {0};
+    EXPECT(ergo_index_append_tx_entry_in_edition(true, parent, &none.len, &none.spills, none.numbers, ERGO_INDEX_HEAD_LENGTH, 7,
+                                                 &staged_2.count, CAPACITY, staged_2.bytes, sizeof staged_2.bytes) == 0);
+    int64_t tx;
+    EXPECT(ergo_index_pop_tx_entry_in_edition(true, parent, &none.len, &none.spills, none.numbers, ERGO_INDEX_HEAD_LENGTH,
+                                              &staged_2.count, CAPACITY, staged_2.bytes, sizeof staged_2.bytes,
+                                              table_2.count, CAPACITY, table_2.bytes, sizeof table_2.bytes,
+                                              &deleted.count, CAPACITY, deleted.bytes, sizeof deleted.bytes, &tx) == 0
+           && tx == 7);
+    EXPECT(flush_2() == 0 && staged_2.count == 0 && table_2.count == 0 && deleted.count == 0);
+    puts("editions: ok");
+}
+
 static void codecs(void) {
     static const int64_t one[1] = {1}, minus_one[1] = {-1};
     static const uint8_t row[6] = {2, 2, 2, 1, 0, 2};
@@ -331,6 +419,7 @@ int main(void) {
     balances_and_records();
     batch();
     loads();
+    editions();
     codecs();
     printf("ok\n");
     return 0;

@@ -38,6 +38,8 @@
 mod balance;
 mod batch;
 mod codec;
+mod convert;
+mod edition;
 pub mod ffi;
 mod lists;
 mod load;
@@ -49,6 +51,8 @@ mod segment;
 pub use balance::{statement_milli_ergs, Balance, Token, MAX_TOKENS};
 pub use batch::{Batch, BatchAnswer, END_CUT_CALL, END_NO_CALL, END_NO_ROOM, END_OF_INPUT, MAX_PARENTS};
 pub use codec::{blake2b256, box_segment_id, tx_segment_id, VlqReader, VlqWriter};
+pub use convert::{SpillId, Unconverted};
+pub use edition::{row_to_first, row_to_second, Edition, First, RowKind, Second};
 pub use lists::{flush_staged_spills, inspect_spill, DeletedSpills, Key, SegmentTable, Spill, StagedSpills, KEY_SIZE, RECORD_SIZE, ROW_LIMIT};
 pub use load::{Load, LoadCall};
 pub use pages::{UnspentBoxes, PAGE_LENGTH};

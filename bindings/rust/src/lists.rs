@@ -1,13 +1,16 @@
 //! Staged spills, the segments table and deleted spills: record lists in boxed buffers of a fixed capacity.
 
+use std::marker::PhantomData;
+
+use crate::edition::{Edition, First};
 use crate::ffi;
 use crate::refusal::{accepted, Refusal};
 
-/// The bytes of a record: 32 of the key, 2 of the row's length (high byte first), then the row and zeros.
-pub const RECORD_SIZE: usize = 10_288;
+/// The bytes of a record of edition 1: 32 of the key, 2 of the row's length (high byte first), then the row and zeros.
+pub const RECORD_SIZE: usize = First::RECORD_SIZE;
 
-/// The bytes of the longest segment row.
-pub const ROW_LIMIT: usize = 10_254;
+/// The bytes of the longest row of edition 1.
+pub const ROW_LIMIT: usize = First::ROW_LIMIT;
 
 /// The bytes of a row key.
 pub const KEY_SIZE: usize = 32;
@@ -15,25 +18,30 @@ pub const KEY_SIZE: usize = 32;
 /// A row key.
 pub type Key = [u8; KEY_SIZE];
 
-/// A list of records of `SIZE` bytes: the first `count` of the buffer, which has room for `capacity`.
+/// A list of records of `size` bytes: the first `count` of the buffer, which has room for `capacity`.
 #[derive(Clone, Debug, PartialEq, Eq)]
-pub(crate) struct List<const SIZE: usize> {
+pub(crate) struct List {
+    size: usize,
     pub(crate) count: usize,
     pub(crate) bytes: Box<[u8]>,
 }
 
-impl<const SIZE: usize> List<SIZE> {
-    fn with_capacity(capacity: usize) -> Self {
-        let size = capacity.checked_mul(SIZE).expect("the list fits the address space");
-        List { count: 0, bytes: vec![0; size].into_boxed_slice() }
+impl List {
+    fn with_capacity(size: usize, capacity: usize) -> Self {
+        let bytes = capacity.checked_mul(size).expect("the list fits the address space");
+        List { size, count: 0, bytes: vec![0; bytes].into_boxed_slice() }
+    }
+
+    fn from_bytes(size: usize, bytes: Vec<u8>, count: usize) -> Self {
+        List { size, count, bytes: bytes.into_boxed_slice() }
     }
 
     pub(crate) fn capacity(&self) -> usize {
-        self.bytes.len() / SIZE
+        self.bytes.len() / self.size
     }
 
     fn records(&self) -> impl Iterator<Item = &[u8]> {
-        self.bytes.chunks_exact(SIZE).take(self.count)
+        self.bytes.chunks_exact(self.size).take(self.count)
     }
 }
 
@@ -45,27 +53,40 @@ fn key_of(record: &[u8]) -> Key {
 
 fn row_of(record: &[u8]) -> &[u8] {
     let length = usize::from(u16::from_be_bytes([record[32], record[33]]));
-    &record[34..34 + length.min(ROW_LIMIT)]
+    &record[34..(34 + length).min(record.len())]
 }
 
 macro_rules! record_list {
     ($(#[$doc:meta])* $name:ident) => {
         $(#[$doc])*
         #[derive(Clone, Debug, PartialEq, Eq)]
-        pub struct $name {
-            pub(crate) list: List<RECORD_SIZE>,
+        pub struct $name<E = First> {
+            pub(crate) list: List,
+            edition: PhantomData<E>,
         }
 
         impl $name {
-            /// An empty list with room for this many rows.
+            /// An empty list with room for this many rows of edition 1.
             pub fn with_capacity(rows: usize) -> Self {
-                $name { list: List::with_capacity(rows) }
+                Self::in_edition(First, rows)
+            }
+
+            /// A list of edition 1 from its bytes, as [`Self::from_bytes_in_edition`] makes it.
+            pub fn from_bytes(bytes: Vec<u8>, count: usize) -> Self {
+                Self::from_bytes_in_edition(First, bytes, count)
+            }
+        }
+
+        impl<E: Edition> $name<E> {
+            /// An empty list with room for this many rows of an edition.
+            pub fn in_edition(_: E, rows: usize) -> Self {
+                $name { list: List::with_capacity(E::RECORD_SIZE, rows), edition: PhantomData }
             }
 
             /// A list from its bytes, the first `count` records of which are in use. Its capacity is the number of whole records.
             /// Nothing is tested here: every call that is given the list tests it first, and answers [`Refusal::Buffers`].
-            pub fn from_bytes(bytes: Vec<u8>, count: usize) -> Self {
-                $name { list: List { count, bytes: bytes.into_boxed_slice() } }
+            pub fn from_bytes_in_edition(_: E, bytes: Vec<u8>, count: usize) -> Self {
+                $name { list: List::from_bytes(E::RECORD_SIZE, bytes, count), edition: PhantomData }
             }
 
             /// The bytes of the whole buffer.
@@ -127,18 +148,18 @@ record_list! {
 /// ```
 #[derive(Clone, Debug, PartialEq, Eq)]
 pub struct DeletedSpills {
-    pub(crate) list: List<KEY_SIZE>,
+    pub(crate) list: List,
 }
 
 impl DeletedSpills {
     /// An empty list with room for this many keys.
     pub fn with_capacity(keys: usize) -> Self {
-        DeletedSpills { list: List::with_capacity(keys) }
+        DeletedSpills { list: List::with_capacity(KEY_SIZE, keys) }
     }
 
     /// A list from its bytes, the first `count` keys of which are in use; calls test it as [`StagedSpills::from_bytes`] says.
     pub fn from_bytes(bytes: Vec<u8>, count: usize) -> Self {
-        DeletedSpills { list: List { count, bytes: bytes.into_boxed_slice() } }
+        DeletedSpills { list: List::from_bytes(KEY_SIZE, bytes, count) }
     }
 
     /// How many keys the list holds.
@@ -187,12 +208,13 @@ impl<'a> Spill<'a> {
 /// let (staged, table) = (StagedSpills::with_capacity(1), SegmentTable::with_capacity(1));
 /// assert_eq!(inspect_spill(&staged, &table, &box_segment_id(&[0; 32], 0)), Err(Refusal::RowMissing));
 /// ```
-pub fn inspect_spill<'a>(staged: &'a StagedSpills, table: &'a SegmentTable, key: &Key) -> Result<Spill<'a>, Refusal> {
+pub fn inspect_spill<'a, E: Edition>(staged: &'a StagedSpills<E>, table: &'a SegmentTable<E>, key: &Key) -> Result<Spill<'a>, Refusal> {
     let (s, t) = (&staged.list, &table.list);
     let (mut list, mut offset, mut length) = (0, 0, 0);
     // SAFETY: each pointer comes from a live borrow, each length is that of its slice, and nothing that is written overlaps anything else.
     accepted(unsafe {
-        ffi::ergo_index_inspect_spill(
+        ffi::ergo_index_inspect_spill_in_edition(
+            E::SECOND,
             s.count,
             s.capacity(),
             s.bytes.as_ptr(),
@@ -223,12 +245,17 @@ pub fn inspect_spill<'a>(staged: &'a StagedSpills, table: &'a SegmentTable, key:
 /// flush_staged_spills(&mut staged, &mut table, &mut deleted)?;
 /// # Ok::<(), ergo_index::Refusal>(())
 /// ```
-pub fn flush_staged_spills(staged: &mut StagedSpills, table: &mut SegmentTable, deleted: &mut DeletedSpills) -> Result<(), Refusal> {
+pub fn flush_staged_spills<E: Edition>(
+    staged: &mut StagedSpills<E>,
+    table: &mut SegmentTable<E>,
+    deleted: &mut DeletedSpills,
+) -> Result<(), Refusal> {
     let (s, t, d) = (&mut staged.list, &mut table.list, &mut deleted.list);
     let (s_capacity, t_capacity, d_capacity) = (s.capacity(), t.capacity(), d.capacity());
     // SAFETY: as in `inspect_spill`; the three lists are borrowed apart.
     accepted(unsafe {
-        ffi::ergo_index_flush_staged_spills(
+        ffi::ergo_index_flush_staged_spills_in_edition(
+            E::SECOND,
             &mut s.count,
             s_capacity,
             s.bytes.as_mut_ptr(),

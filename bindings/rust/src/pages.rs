@@ -3,6 +3,7 @@
 use std::iter::FusedIterator;
 use std::vec::IntoIter;
 
+use crate::edition::{Edition, First};
 use crate::ffi;
 use crate::lists::{SegmentTable, StagedSpills};
 use crate::refusal::{accepted, Refusal};
@@ -30,13 +31,20 @@ impl Segment {
     /// assert_eq!(segment.unspent_page(0, 65, &staged, &table), Err(Refusal::PageTooLong));
     /// # Ok::<(), Refusal>(())
     /// ```
-    pub fn unspent_page(&self, offset: usize, length: usize, staged: &StagedSpills, table: &SegmentTable) -> Result<Vec<BoxNumber>, Refusal> {
+    pub fn unspent_page<E: Edition>(
+        &self,
+        offset: usize,
+        length: usize,
+        staged: &StagedSpills<E>,
+        table: &SegmentTable<E>,
+    ) -> Result<Vec<BoxNumber>, Refusal> {
         let (s, t) = (&staged.list, &table.list);
         let mut page = [0; PAGE_LENGTH];
         let mut numbers = 0;
         // SAFETY: each pointer comes from a live borrow, each length is that of its slice, and nothing that is written overlaps anything else.
         accepted(unsafe {
-            ffi::ergo_index_unspent_page(
+            ffi::ergo_index_unspent_page_in_edition(
+                E::SECOND,
                 self.parent.as_ptr(),
                 self.boxes.len,
                 self.boxes.spills,
@@ -75,23 +83,23 @@ impl Segment {
     /// assert!(unspent.into_iter().eq((1..=600).rev().filter(|n| *n != 100).map(BoxNumber)));
     /// # Ok::<(), Refusal>(())
     /// ```
-    pub fn unspent_boxes<'a>(&'a self, staged: &'a StagedSpills, table: &'a SegmentTable) -> UnspentBoxes<'a> {
+    pub fn unspent_boxes<'a, E: Edition>(&'a self, staged: &'a StagedSpills<E>, table: &'a SegmentTable<E>) -> UnspentBoxes<'a, E> {
         UnspentBoxes { segment: self, staged, table, page: Vec::new().into_iter(), offset: 0, ended: false }
     }
 }
 
 /// The unspent boxes of a segment, newest first; [`Segment::unspent_boxes`] makes it.
 #[derive(Clone, Debug)]
-pub struct UnspentBoxes<'a> {
+pub struct UnspentBoxes<'a, E = First> {
     segment: &'a Segment,
-    staged: &'a StagedSpills,
-    table: &'a SegmentTable,
+    staged: &'a StagedSpills<E>,
+    table: &'a SegmentTable<E>,
     page: IntoIter<BoxNumber>,
     offset: usize,
     ended: bool,
 }
 
-impl Iterator for UnspentBoxes<'_> {
+impl<E: Edition> Iterator for UnspentBoxes<'_, E> {
     type Item = Result<BoxNumber, Refusal>;
 
     fn next(&mut self) -> Option<Self::Item> {
@@ -111,4 +119,4 @@ impl Iterator for UnspentBoxes<'_> {
     }
 }
 
-impl FusedIterator for UnspentBoxes<'_> {}
+impl<E: Edition> FusedIterator for UnspentBoxes<'_, E> {}

@@ -84,11 +84,13 @@ pub enum Refusal {
     PageTooLong = 33,
     /// 34: a coded number longer than one byte ends in 00.
     NumberPadded = 34,
+    /// 35: a row of edition 2 says another parent, kind or number than those behind its key, or than those given.
+    RowOfAnotherSpill = 35,
     /// 38: a load is asked for from state 0.
     StateIsZero = 38,
 }
 
-const ALL: [Refusal; 35] = [
+const ALL: [Refusal; 36] = [
     Refusal::BytesEnd,
     Refusal::NumberTooLarge,
     Refusal::NegativeLength,
@@ -123,6 +125,7 @@ const ALL: [Refusal; 35] = [
     Refusal::OutputTooShort,
     Refusal::PageTooLong,
     Refusal::NumberPadded,
+    Refusal::RowOfAnotherSpill,
     Refusal::StateIsZero,
 ];
 
@@ -174,6 +177,7 @@ impl Refusal {
             Refusal::OutputTooShort => "the output is too short",
             Refusal::PageTooLong => "a page of more than 64 numbers is asked for",
             Refusal::NumberPadded => "a coded number longer than one byte ends in 00",
+            Refusal::RowOfAnotherSpill => "a row says another parent, kind or number",
             Refusal::StateIsZero => "a load is asked for from state 0",
         }
     }
@@ -201,12 +205,12 @@ mod tests {
 
     #[test]
     fn numbers_and_names_agree() {
-        assert!(ALL.iter().map(|refusal| refusal.code()).eq((1..=34).chain([38])));
+        assert!(ALL.iter().map(|refusal| refusal.code()).eq((1..=35).chain([38])));
         for refusal in ALL {
             assert_eq!(Refusal::from_code(refusal.code()), Some(refusal));
         }
         assert_eq!(Refusal::from_code(0), None);
-        assert_eq!(Refusal::from_code(35), None);
+        assert_eq!(Refusal::from_code(36), None);
         assert_eq!(accepted(0), Ok(()));
         assert_eq!(accepted(25), Err(Refusal::Buffers));
     }

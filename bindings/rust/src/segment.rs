@@ -1,6 +1,8 @@
 //! A parent's segment: a head of boxes and a head of transactions, with the rows that each has spilled.
 
 use crate::codec::decode_segment;
+use crate::convert::SpillId;
+use crate::edition::{Edition, RowKind};
 use crate::ffi;
 use crate::lists::{DeletedSpills, SegmentTable, StagedSpills};
 use crate::refusal::{accepted, Refusal};
@@ -56,7 +58,7 @@ impl Eq for Head {}
 /// The segment of one parent.
 ///
 /// Its numbers are in the rows that it has spilled, oldest first, and then in its heads; a spent box is a negative entry. Rows lie outside, in
-/// [`StagedSpills`] and [`SegmentTable`], which parents may share. Every call tests what it is given, and a refused call changes nothing.
+/// [`StagedSpills`] and [`SegmentTable`], which parents may share and which hold rows of one [`Edition`]. Every call tests what it is given, and a refused call changes nothing.
 ///
 /// ```
 /// use ergo_index::{BoxNumber, DeletedSpills, Refusal, Segment, SegmentTable, StagedSpills};
@@ -82,9 +84,10 @@ pub struct Segment {
     pub(crate) txs: Head,
 }
 
-type AppendCall = unsafe extern "C" fn(*const u8, *mut usize, *mut i32, *mut i64, usize, i64, *mut usize, usize, *mut u8, usize) -> u8;
+type AppendCall = unsafe extern "C" fn(bool, *const u8, *mut usize, *mut i32, *mut i64, usize, i64, *mut usize, usize, *mut u8, usize) -> u8;
 
 type PopCall = unsafe extern "C" fn(
+    bool,
     *const u8,
     *mut usize,
     *mut i32,
@@ -106,14 +109,15 @@ type PopCall = unsafe extern "C" fn(
 ) -> u8;
 
 type FlipCall =
-    unsafe extern "C" fn(*const u8, usize, i32, *mut i64, usize, i64, *mut usize, usize, *mut u8, usize, usize, usize, *const u8, usize) -> u8;
+    unsafe extern "C" fn(bool, *const u8, usize, i32, *mut i64, usize, i64, *mut usize, usize, *mut u8, usize, usize, usize, *const u8, usize) -> u8;
 
-fn append(call: AppendCall, parent: &[u8; 32], head: &mut Head, number: i64, staged: &mut StagedSpills) -> Result<(), Refusal> {
+fn append<E: Edition>(call: AppendCall, parent: &[u8; 32], head: &mut Head, number: i64, staged: &mut StagedSpills<E>) -> Result<(), Refusal> {
     let s = &mut staged.list;
     let capacity = s.capacity();
     // SAFETY: each pointer comes from a live borrow, each length is that of its slice, and nothing that is written overlaps anything else.
     accepted(unsafe {
         call(
+            E::SECOND,
             parent.as_ptr(),
             &mut head.len,
             &mut head.spills,
@@ -128,12 +132,12 @@ fn append(call: AppendCall, parent: &[u8; 32], head: &mut Head, number: i64, sta
     })
 }
 
-fn pop(
+fn pop<E: Edition>(
     call: PopCall,
     parent: &[u8; 32],
     head: &mut Head,
-    staged: &mut StagedSpills,
-    table: &SegmentTable,
+    staged: &mut StagedSpills<E>,
+    table: &SegmentTable<E>,
     deleted: &mut DeletedSpills,
 ) -> Result<i64, Refusal> {
     let (s, t, d) = (&mut staged.list, &table.list, &mut deleted.list);
@@ -142,6 +146,7 @@ fn pop(
     // SAFETY: as in `append`.
     accepted(unsafe {
         call(
+            E::SECOND,
             parent.as_ptr(),
             &mut head.len,
             &mut head.spills,
@@ -165,12 +170,20 @@ fn pop(
     Ok(number)
 }
 
-fn flip(call: FlipCall, parent: &[u8; 32], head: &mut Head, target: i64, staged: &mut StagedSpills, table: &SegmentTable) -> Result<(), Refusal> {
+fn flip<E: Edition>(
+    call: FlipCall,
+    parent: &[u8; 32],
+    head: &mut Head,
+    target: i64,
+    staged: &mut StagedSpills<E>,
+    table: &SegmentTable<E>,
+) -> Result<(), Refusal> {
     let (s, t) = (&mut staged.list, &table.list);
     let capacity = s.capacity();
     // SAFETY: as in `append`.
     accepted(unsafe {
         call(
+            E::SECOND,
             parent.as_ptr(),
             head.len,
             head.spills,
@@ -232,35 +245,62 @@ impl Segment {
         self.txs.spills
     }
 
+    /// The spills of both kinds, whose rows stand outside the segment.
+    pub fn spills(&self) -> impl Iterator<Item = SpillId> {
+        let parent = self.parent;
+        let of = move |kind, spills| (0..spills).map(move |number| SpillId { parent, kind, number });
+        of(RowKind::Boxes, self.boxes.spills).chain(of(RowKind::Txs, self.txs.spills))
+    }
+
     /// Appends a box number; a full head is first staged as the next row. Refused by 25, 11, 17; at a full head 18, 16.
-    pub fn append_box_entry(&mut self, number: BoxNumber, staged: &mut StagedSpills) -> Result<(), Refusal> {
-        append(ffi::ergo_index_append_box_entry, &self.parent, &mut self.boxes, number.0, staged)
+    pub fn append_box_entry<E: Edition>(&mut self, number: BoxNumber, staged: &mut StagedSpills<E>) -> Result<(), Refusal> {
+        append(ffi::ergo_index_append_box_entry_in_edition, &self.parent, &mut self.boxes, number.0, staged)
     }
 
     /// Appends a transaction number, as [`Segment::append_box_entry`] does a box number.
-    pub fn append_tx_entry(&mut self, number: TxNumber, staged: &mut StagedSpills) -> Result<(), Refusal> {
-        append(ffi::ergo_index_append_tx_entry, &self.parent, &mut self.txs, number.0, staged)
+    pub fn append_tx_entry<E: Edition>(&mut self, number: TxNumber, staged: &mut StagedSpills<E>) -> Result<(), Refusal> {
+        append(ffi::ergo_index_append_tx_entry_in_edition, &self.parent, &mut self.txs, number.0, staged)
     }
 
     /// Takes the last box entry off; on an empty head the newest row becomes the head first. Refused by 25, 11; on an empty head 19, 12, 1 to 6 or 34, 8,
-    /// 20, 21.
-    pub fn pop_box_entry(&mut self, staged: &mut StagedSpills, table: &SegmentTable, deleted: &mut DeletedSpills) -> Result<BoxNumber, Refusal> {
-        pop(ffi::ergo_index_pop_box_entry, &self.parent, &mut self.boxes, staged, table, deleted).map(BoxNumber)
+    /// 35 in edition 2, 20, 21.
+    pub fn pop_box_entry<E: Edition>(
+        &mut self,
+        staged: &mut StagedSpills<E>,
+        table: &SegmentTable<E>,
+        deleted: &mut DeletedSpills,
+    ) -> Result<BoxNumber, Refusal> {
+        pop(ffi::ergo_index_pop_box_entry_in_edition, &self.parent, &mut self.boxes, staged, table, deleted).map(BoxNumber)
     }
 
     /// Takes the last transaction number off, as [`Segment::pop_box_entry`] does a box entry.
-    pub fn pop_tx_entry(&mut self, staged: &mut StagedSpills, table: &SegmentTable, deleted: &mut DeletedSpills) -> Result<TxNumber, Refusal> {
-        pop(ffi::ergo_index_pop_tx_entry, &self.parent, &mut self.txs, staged, table, deleted).map(TxNumber)
+    pub fn pop_tx_entry<E: Edition>(
+        &mut self,
+        staged: &mut StagedSpills<E>,
+        table: &SegmentTable<E>,
+        deleted: &mut DeletedSpills,
+    ) -> Result<TxNumber, Refusal> {
+        pop(ffi::ergo_index_pop_tx_entry_in_edition, &self.parent, &mut self.txs, staged, table, deleted).map(TxNumber)
     }
 
     /// Marks one box as spent, in the head or else in a row, which is then staged. Refused by 25, 9, 10, 11, those of the rows that are read, 16, 14, 15.
-    pub fn flip_box_segment_entry(&mut self, target: BoxNumber, staged: &mut StagedSpills, table: &SegmentTable) -> Result<(), Refusal> {
-        flip(ffi::ergo_index_flip_box_segment_entry, &self.parent, &mut self.boxes, target.0, staged, table)
+    pub fn flip_box_segment_entry<E: Edition>(
+        &mut self,
+        target: BoxNumber,
+        staged: &mut StagedSpills<E>,
+        table: &SegmentTable<E>,
+    ) -> Result<(), Refusal> {
+        flip(ffi::ergo_index_flip_box_segment_entry_in_edition, &self.parent, &mut self.boxes, target.0, staged, table)
     }
 
     /// Takes a spend back. Refused as the spend is.
-    pub fn unflip_box_segment_entry(&mut self, target: BoxNumber, staged: &mut StagedSpills, table: &SegmentTable) -> Result<(), Refusal> {
-        flip(ffi::ergo_index_unflip_box_segment_entry, &self.parent, &mut self.boxes, target.0, staged, table)
+    pub fn unflip_box_segment_entry<E: Edition>(
+        &mut self,
+        target: BoxNumber,
+        staged: &mut StagedSpills<E>,
+        table: &SegmentTable<E>,
+    ) -> Result<(), Refusal> {
+        flip(ffi::ergo_index_unflip_box_segment_entry_in_edition, &self.parent, &mut self.boxes, target.0, staged, table)
     }
 
     /// How many entries of the boxes are unspent, spent and unknown, over all rows and the head. Refused by 25, 10, 11 and those of the rows.
@@ -277,12 +317,13 @@ impl Segment {
     /// assert_eq!((tally.unspent, tally.spent, tally.unknown), (2, 1, 1));
     /// # Ok::<(), ergo_index::Refusal>(())
     /// ```
-    pub fn tally(&self, staged: &StagedSpills, table: &SegmentTable) -> Result<Tally, Refusal> {
+    pub fn tally<E: Edition>(&self, staged: &StagedSpills<E>, table: &SegmentTable<E>) -> Result<Tally, Refusal> {
         let (s, t) = (&staged.list, &table.list);
         let mut tally = Tally { unspent: 0, spent: 0, unknown: 0 };
         // SAFETY: as in `append`.
         accepted(unsafe {
-            ffi::ergo_index_tally(
+            ffi::ergo_index_tally_in_edition(
+                E::SECOND,
                 self.parent.as_ptr(),
                 self.boxes.len,
                 self.boxes.spills,

@@ -3,6 +3,7 @@
 pub mod call;
 pub mod checks;
 pub mod codes;
+pub mod editions;
 pub mod hashlib;
 pub mod index;
 pub mod loads;

@@ -2,6 +2,7 @@
 
 use std::collections::{BTreeMap, HashMap, HashSet};
 
+use ergo_index::{Edition, Second};
 use reference::address::{BalanceInfo, IndexedAddress};
 use reference::calls::{write_segment, Spills};
 use reference::error::IndexerError;
@@ -9,7 +10,7 @@ use reference::segment::Segment;
 use reference::Digest32;
 
 use crate::call::{Answer, Call};
-use crate::index::{row_key, Balance, Direction, Head, Id, Kind, Lists, TOKENS};
+use crate::index::{convert_row, row_key, Balance, Direction, Head, Id, Kind, Lists, TOKENS};
 use crate::report::Report;
 use crate::{codes, ffi};
 
@@ -32,6 +33,8 @@ pub struct Sides {
     pub addresses: Vec<IndexedAddress>,
     /// What the reference's drift rule made of its last flip.
     drift: (u8, bool),
+    /// The index with rows of edition 2, if it goes along.
+    second: Option<InSecond>,
 }
 
 impl Sides {
@@ -42,7 +45,19 @@ impl Sides {
             spills: Spills::default(),
             addresses: Vec::new(),
             drift: (0, false),
+            second: None,
         }
+    }
+
+    /// From here on every call is made with rows of edition 2 as well.
+    pub fn with_second(mut self) -> Self {
+        self.second = Some(InSecond::new(&self.lists, &self.parents));
+        self
+    }
+
+    /// The lists and parents in edition 2, if they go along.
+    pub fn second(&self) -> Option<(&Lists, &[Parent])> {
+        self.second.as_ref().map(|second| (&second.lists, &second.parents[..]))
     }
 
     pub fn add_parent(&mut self, id: Id, segment: Segment) {
@@ -78,7 +93,14 @@ impl Sides {
     /// Makes a call on both sides. The answer is the index's; an error tells a difference that no rule names.
     pub fn call(&mut self, parent: usize, call: &Call, report: &mut Report) -> Result<Answer, String> {
         report.call(call.function());
-        let ours = self.of_index(parent, call);
+        let ours = of_index(&mut self.lists, &mut self.parents[parent], call);
+        if let Some(second) = &mut self.second {
+            report.call("the same call in edition 2");
+            let alike = of_index(&mut second.lists, &mut second.parents[parent], call);
+            if alike != ours {
+                return Err(format!("{} answers {ours:?}, in edition 2 {alike:?}", call.function()));
+            }
+        }
         if ours.code != 0 {
             if let Some(name) = self.only_in_the_table(parent, call, ours.code) {
                 report.named(name);
@@ -111,28 +133,6 @@ impl Sides {
             });
         }
         Ok(ours)
-    }
-
-    fn of_index(&mut self, parent: usize, call: &Call) -> Answer {
-        let lists = &mut self.lists;
-        let Parent { id, boxes, txs, balance } = &mut self.parents[parent];
-        let code = |code| if code == 0 { Ok(0) } else { Err(code) };
-        Answer::of(match call {
-            Call::Append(Kind::Box, n) => code(lists.append(Kind::Box, id, boxes, *n)),
-            Call::Append(Kind::Tx, n) => code(lists.append(Kind::Tx, id, txs, *n)),
-            Call::Flip(direction, target) => code(lists.flip(*direction, id, boxes, *target)),
-            Call::Pop(Kind::Box) => lists.pop(Kind::Box, id, boxes),
-            Call::Pop(Kind::Tx) => lists.pop(Kind::Tx, id, txs),
-            Call::Flush => code(lists.flush()),
-            Call::Credit(nanos, tokens) => {
-                let (ids, amounts) = flat(tokens);
-                code(balance.add_box(*nanos, &ids, &amounts))
-            }
-            Call::Debit(nanos, tokens) => {
-                let (ids, amounts) = flat(tokens);
-                code(balance.subtract_box(*nanos, &ids, &amounts))
-            }
-        })
     }
 
     fn of_reference(&mut self, parent: usize, call: &Call) -> Answer {
@@ -287,6 +287,13 @@ impl Sides {
 
     /// The first part of the state in which the sides differ; rows compare by key.
     pub fn state_differs(&self) -> Option<String> {
+        if let Some(part) = self
+            .second
+            .as_ref()
+            .and_then(|second| second.differs(&self.lists, &self.parents))
+        {
+            return Some(format!("{part} in edition 2"));
+        }
         for (i, (p, a)) in self.parents.iter().zip(&self.addresses).enumerate() {
             let s = &a.segment;
             if p.boxes.used() != s.boxes || p.boxes.spills != s.box_segment_count {
@@ -325,6 +332,90 @@ impl Sides {
         theirs.sort();
         (ours != theirs).then(|| "deleted spills".into())
     }
+}
+
+/// A call on the index.
+fn of_index(lists: &mut Lists, parent: &mut Parent, call: &Call) -> Answer {
+    let Parent { id, boxes, txs, balance } = parent;
+    let code = |code| if code == 0 { Ok(0) } else { Err(code) };
+    Answer::of(match call {
+        Call::Append(Kind::Box, n) => code(lists.append(Kind::Box, id, boxes, *n)),
+        Call::Append(Kind::Tx, n) => code(lists.append(Kind::Tx, id, txs, *n)),
+        Call::Flip(direction, target) => code(lists.flip(*direction, id, boxes, *target)),
+        Call::Pop(Kind::Box) => lists.pop(Kind::Box, id, boxes),
+        Call::Pop(Kind::Tx) => lists.pop(Kind::Tx, id, txs),
+        Call::Flush => code(lists.flush()),
+        Call::Credit(nanos, tokens) => {
+            let (ids, amounts) = flat(tokens);
+            code(balance.add_box(*nanos, &ids, &amounts))
+        }
+        Call::Debit(nanos, tokens) => {
+            let (ids, amounts) = flat(tokens);
+            code(balance.subtract_box(*nanos, &ids, &amounts))
+        }
+    })
+}
+
+/// The index with rows of edition 2, beside the one with rows of edition 1.
+struct InSecond {
+    lists: Lists,
+    parents: Vec<Parent>,
+}
+
+impl InSecond {
+    /// The same state, its rows converted.
+    fn new(lists: &Lists, parents: &[Parent]) -> Self {
+        let mut second = Lists::in_second(lists.staged.capacity, lists.table.capacity, lists.deleted.capacity);
+        for (key, row) in lists.table.rows() {
+            second
+                .table
+                .push(&id_of(key), &converted(true, key, row, parents).expect("a row of a spill"));
+        }
+        Self {
+            lists: second,
+            parents: parents.to_vec(),
+        }
+    }
+
+    /// The first part of the state in which the editions differ: rows are those of the other edition, converted, in the same places.
+    fn differs(&self, lists: &Lists, parents: &[Parent]) -> Option<&'static str> {
+        if self.parents != parents {
+            return Some("parents");
+        }
+        for (part, ours, others) in [
+            ("staged spills", &self.lists.staged, &lists.staged),
+            ("segments table", &self.lists.table, &lists.table),
+        ] {
+            let alike = |((k, row), (other, old)): ((&[u8], &[u8]), (&[u8], &[u8]))| {
+                k == other
+                    && converted(true, k, old, parents).as_deref() == Ok(row)
+                    && converted(false, k, row, parents).as_deref() == Ok(old)
+            };
+            if ours.count != others.count || !ours.rows().zip(others.rows()).all(alike) {
+                return Some(part);
+            }
+        }
+        (self.lists.deleted != lists.deleted).then_some("deleted spills")
+    }
+}
+
+fn id_of(key: &[u8]) -> Id {
+    key.try_into().expect("32 bytes")
+}
+
+/// A row in the other edition, for the spill of a parent whose key it has; rows are few.
+fn converted(to_second: bool, key: &[u8], row: &[u8], parents: &[Parent]) -> Result<Vec<u8>, u8> {
+    let spills = parents.iter().flat_map(|p| {
+        let most = p.boxes.spills.max(p.txs.spills).max(0) + 4;
+        (0..most).flat_map(|n| [(p.id, 1, n), (p.id, 2, n)])
+    });
+    let kind = |byte| if byte == 1 { Kind::Box } else { Kind::Tx };
+    let found = spills.into_iter().find(|(id, byte, n)| row_key(kind(*byte), id, *n) == key);
+    let (id, byte, n) = found.ok_or(0)?;
+    let mut out = vec![0; Second::ROW_LIMIT];
+    let written = convert_row(to_second, row, &id, byte, n, &mut out)?;
+    out.truncate(written);
+    Ok(out)
 }
 
 /// The index's drift rule on the code of a flip: its code, and whether the flip is skipped.

@@ -21,7 +21,9 @@ fn history(rows: usize) -> (Lists, Head) {
             boxes: (first..first + 512).collect(),
             ..Segment::empty()
         };
-        lists.table.push(&row_key(Kind::Box, &PARENT, number as i32), &calls::write_segment(&row));
+        lists
+            .table
+            .push(&row_key(Kind::Box, &PARENT, number as i32), &calls::write_segment(&row));
     }
     (lists, Head::new(&[rows as i64 * 512 + 1], rows as i32))
 }
@@ -81,6 +83,10 @@ pub fn by_room() {
         let (mut lists, _) = history(64);
         lists.staged = Records::new(room);
         let times = alone(1, || keep(lists.flush()));
-        line(&format!("flush of nothing at 64 rows, room for staged spills: {room}"), &times, None);
+        line(
+            &format!("flush of nothing at 64 rows, room for staged spills: {room}"),
+            &times,
+            None,
+        );
     }
 }

@@ -12,7 +12,7 @@ use index_types::TxNumber;
 use segment_id::Kind;
 
 // An append of either kind.
-fn append_entry(
+pub fn append_entry(
     edition: RowEdition,
     kind: Kind,
     parent: &[u8; 32],

@@ -6,7 +6,8 @@ use lib.IntN.{ℤ}
 use Rattle.segment_id.specs.declared.Kind.{Kind}
 use Rattle.index_types.specs.declared.Appended.{Appended}
 use Rattle.index_types.specs.declared.Appended.the-variants as appended
-use Rattle.buffer_core.specs.Edition.{edition-1}
+use Rattle.index_types.specs.declared.RowEdition.{RowEdition}
+use Rattle.buffer_core.specs.Edition.{edition-of}
 use Rattle.buffer_core.specs.Append.{Appending, counts-of, append-of}
 use Rattle.ergo_index_lists.specs.Lists.{list-of}
 
@@ -29,6 +30,6 @@ append-by (appended.Refused code) len spills count head staged = append-out code
 abbrev pub append-export : ℕ → ℤ → ℕ → Appending → AppendOut
 append-export len spills count a = append-by (a .answer) len spills count (a .head) (a .staged)
 
-abbrev pub append-call : Kind → (parent : List ℕ) (len : ℕ) (spills : ℤ) → List ℤ → (number : ℤ) (count capacity : ℕ) → List ℕ → AppendOut
-append-call kind parent len spills head number count capacity staged =
-    append-export len spills count (append-of edition-1 kind parent (counts-of len spills) number (list-of count capacity) head staged)
+abbrev pub append-call : RowEdition → Kind → (parent : List ℕ) (len : ℕ) (spills : ℤ) → List ℤ → (number : ℤ) (count capacity : ℕ) → List ℕ → AppendOut
+append-call v kind parent len spills head number count capacity staged =
+    append-export len spills count (append-of (edition-of v) kind parent (counts-of len spills) number (list-of count capacity) head staged)

@@ -4,14 +4,15 @@ ghost use Prim.Native.Nat.{ℕ};
 ghost use mathlib.Core.Path.{_≡_};
 ghost use mathlib.Core.List.{List};
 ghost use lib.IntN.{ℤ};
+ghost use Rattle.index_types.specs.declared.RowEdition.the-variants.{One};
 ghost use Rattle.segment_id.specs.declared.Kind.the-variants.{Box, Tx};
+ghost use Rattle.ergo_index_lists.specs.Lists.{named-edition};
 ghost use Rattle.ergo_index_append.specs.Append.{append-out, append-by, append-call};
 use index_types::Appended;
-use index_types::BoxNumber;
 use index_types::HeadCounts;
 use index_types::ListCounts;
 use index_types::RowEdition;
-use index_types::TxNumber;
+use segment_id::Kind;
 
 // What an append answers goes to the outs, and its code is the result; a refusal sets no out.
 fn told(appended: Appended, len: &mut usize, spills: &mut i32, staged_count: &mut usize) -> u8
@@ -30,6 +31,43 @@ fn told(appended: Appended, len: &mut usize, spills: &mut i32, staged_count: &mu
     }
 }
 
+// An append of either kind, in either edition.
+fn append(
+    edition: RowEdition,
+    kind: Kind,
+    parent: &[u8; 32],
+    len: &mut usize,
+    spills: &mut i32,
+    head: &mut [i64],
+    number: i64,
+    staged_count: &mut usize,
+    staged_capacity: usize,
+    staged: &mut [u8],
+) -> u8
+    ensures { λ r. ⌜ append-out r (now (len .exit)) (now (spills .exit)) (now («staged_count» .exit)) (now (head .exit)) (now (staged .exit))
+        ≡ append-call edition kind (now (parent .entry)) (now (len .entry)) (now (spills .entry)) (now (head .entry)) number (now («staged_count» .entry)) «staged_capacity» (now (staged .entry)) ⌝ }
+{
+    let counts = HeadCounts {
+        len: *len,
+        spills: *spills,
+    };
+    let staged_counts = ListCounts {
+        count: *staged_count,
+        capacity: staged_capacity,
+    };
+    let appended = append_calls::append_entry(
+        edition,
+        kind,
+        parent,
+        counts,
+        head,
+        number,
+        staged_counts,
+        staged,
+    );
+    told(appended, len, spills, staged_count)
+}
+
 // A box number goes to the end of the head of boxes; a full head becomes the next staged row first.
 #[no_mangle]
 pub extern "C" fn ergo_index_append_box_entry(
@@ -43,26 +81,20 @@ pub extern "C" fn ergo_index_append_box_entry(
     staged: &mut [u8],
 ) -> u8
     ensures { λ r. ⌜ append-out r (now (len .exit)) (now (spills .exit)) (now («staged_count» .exit)) (now (head .exit)) (now (staged .exit))
-        ≡ append-call Box (now (parent .entry)) (now (len .entry)) (now (spills .entry)) (now (head .entry)) number (now («staged_count» .entry)) «staged_capacity» (now (staged .entry)) ⌝ }
+        ≡ append-call One Box (now (parent .entry)) (now (len .entry)) (now (spills .entry)) (now (head .entry)) number (now («staged_count» .entry)) «staged_capacity» (now (staged .entry)) ⌝ }
 {
-    let counts = HeadCounts {
-        len: *len,
-        spills: *spills,
-    };
-    let staged_counts = ListCounts {
-        count: *staged_count,
-        capacity: staged_capacity,
-    };
-    let appended = segment_buffer::append_box_entry(
+    append(
         RowEdition::One,
+        Kind::Box,
         parent,
-        counts,
+        len,
+        spills,
         head,
-        BoxNumber(number),
-        staged_counts,
+        number,
+        staged_count,
+        staged_capacity,
         staged,
-    );
-    told(appended, len, spills, staged_count)
+    )
 }
 
 // The same for transactions.
@@ -78,24 +110,80 @@ pub extern "C" fn ergo_index_append_tx_entry(
     staged: &mut [u8],
 ) -> u8
     ensures { λ r. ⌜ append-out r (now (len .exit)) (now (spills .exit)) (now («staged_count» .exit)) (now (head .exit)) (now (staged .exit))
-        ≡ append-call Tx (now (parent .entry)) (now (len .entry)) (now (spills .entry)) (now (head .entry)) number (now («staged_count» .entry)) «staged_capacity» (now (staged .entry)) ⌝ }
+        ≡ append-call One Tx (now (parent .entry)) (now (len .entry)) (now (spills .entry)) (now (head .entry)) number (now («staged_count» .entry)) «staged_capacity» (now (staged .entry)) ⌝ }
 {
-    let counts = HeadCounts {
-        len: *len,
-        spills: *spills,
-    };
-    let staged_counts = ListCounts {
-        count: *staged_count,
-        capacity: staged_capacity,
-    };
-    let appended = segment_buffer::append_tx_entry(
+    append(
         RowEdition::One,
+        Kind::Tx,
         parent,
-        counts,
+        len,
+        spills,
         head,
-        TxNumber(number),
-        staged_counts,
+        number,
+        staged_count,
+        staged_capacity,
         staged,
-    );
-    told(appended, len, spills, staged_count)
+    )
+}
+
+// ---- with rows of the edition that the flag names
+
+// A box number.
+#[no_mangle]
+pub extern "C" fn ergo_index_append_box_entry_in_edition(
+    second_edition: bool,
+    parent: &[u8; 32],
+    len: &mut usize,
+    spills: &mut i32,
+    head: &mut [i64],
+    number: i64,
+    staged_count: &mut usize,
+    staged_capacity: usize,
+    staged: &mut [u8],
+) -> u8
+    ensures { λ r. ⌜ append-out r (now (len .exit)) (now (spills .exit)) (now («staged_count» .exit)) (now (head .exit)) (now (staged .exit))
+        ≡ append-call (named-edition «second_edition») Box (now (parent .entry)) (now (len .entry)) (now (spills .entry)) (now (head .entry)) number (now («staged_count» .entry)) «staged_capacity» (now (staged .entry)) ⌝ }
+{
+    append(
+        ergo_index_lists::named_edition(second_edition),
+        Kind::Box,
+        parent,
+        len,
+        spills,
+        head,
+        number,
+        staged_count,
+        staged_capacity,
+        staged,
+    )
+}
+
+// A transaction number.
+#[no_mangle]
+pub extern "C" fn ergo_index_append_tx_entry_in_edition(
+    second_edition: bool,
+    parent: &[u8; 32],
+    len: &mut usize,
+    spills: &mut i32,
+    head: &mut [i64],
+    number: i64,
+    staged_count: &mut usize,
+    staged_capacity: usize,
+    staged: &mut [u8],
+) -> u8
+    ensures { λ r. ⌜ append-out r (now (len .exit)) (now (spills .exit)) (now («staged_count» .exit)) (now (head .exit)) (now (staged .exit))
+        ≡ append-call (named-edition «second_edition») Tx (now (parent .entry)) (now (len .entry)) (now (spills .entry)) (now (head .entry)) number (now («staged_count» .entry)) «staged_capacity» (now (staged .entry)) ⌝ }
+{
+    append(
+        ergo_index_lists::named_edition(second_edition),
+        Kind::Tx,
+        parent,
+        len,
+        spills,
+        head,
+        number,
+        staged_count,
+        staged_capacity,
+        staged,
+    )
 }

@@ -8,7 +8,8 @@ use Rattle.index_types.specs.declared.Flipped.{Flipped}
 use Rattle.index_types.specs.declared.Flipped.the-variants as flipped
 use Rattle.index_types.specs.declared.Tallied.{Tallied}
 use Rattle.index_types.specs.declared.Tallied.the-variants as tallied
-use Rattle.buffer_core.specs.Edition.{edition-1}
+use Rattle.index_types.specs.declared.RowEdition.{RowEdition}
+use Rattle.buffer_core.specs.Edition.{edition-of}
 use Rattle.buffer_core.specs.Append.{counts-of}
 use Rattle.buffer_core.specs.Flip.{Flipping, flip-of}
 use Rattle.buffer_core.specs.Tally.{tally-of}
@@ -31,9 +32,9 @@ flip-by (flipped.Refused code) count head staged = flip-out code count head stag
 abbrev pub flip-export : ℕ → Flipping → FlipOut
 flip-export count f = flip-by (f .answer) count (f .head) (f .staged)
 
-abbrev pub flip-call : Direction → (parent : List ℕ) (len : ℕ) (spills : ℤ) → List ℤ → (target : ℤ) (s s-capacity : ℕ) → List ℕ → (t t-capacity : ℕ) → List ℕ → FlipOut
-flip-call d parent len spills head target s sc staged t tc table =
-    flip-export s (flip-of edition-1 d parent (counts-of len spills) target (list-of s sc) staged (list-of t tc) table head)
+abbrev pub flip-call : RowEdition → Direction → (parent : List ℕ) (len : ℕ) (spills : ℤ) → List ℤ → (target : ℤ) (s s-capacity : ℕ) → List ℕ → (t t-capacity : ℕ) → List ℕ → FlipOut
+flip-call v d parent len spills head target s sc staged t tc table =
+    flip-export s (flip-of (edition-of v) d parent (counts-of len spills) target (list-of s sc) staged (list-of t tc) table head)
 
 -- ---- tally: the code, and how many entries are unspent, spent and unknown
 pub record TallyOut : Type 0 where
@@ -49,6 +50,6 @@ abbrev pub tally-export : (u s z : ℕ) → Tallied → TallyOut
 tally-export u s z (tallied.Counts t) = tally-out 0 (t .unspent) (t .spent) (t .unknown)
 tally-export u s z (tallied.Refused code) = tally-out code u s z
 
-abbrev pub tally-call : (parent : List ℕ) (len : ℕ) (spills : ℤ) → List ℤ → (s s-capacity : ℕ) → List ℕ → (t t-capacity : ℕ) → List ℕ → (unspent spent unknown : ℕ) → TallyOut
-tally-call parent len spills head s sc staged t tc table u v z =
-    tally-export u v z (tally-of edition-1 parent (counts-of len spills) (list-of s sc) staged (list-of t tc) table head)
+abbrev pub tally-call : RowEdition → (parent : List ℕ) (len : ℕ) (spills : ℤ) → List ℤ → (s s-capacity : ℕ) → List ℕ → (t t-capacity : ℕ) → List ℕ → (unspent spent unknown : ℕ) → TallyOut
+tally-call v parent len spills head s sc staged t tc table u d z =
+    tally-export u d z (tally-of (edition-of v) parent (counts-of len spills) (list-of s sc) staged (list-of t tc) table head)

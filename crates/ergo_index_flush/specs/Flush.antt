@@ -4,7 +4,8 @@ use Prim.Native.Nat.{ℕ}
 use mathlib.Core.List.{List}
 use Rattle.index_types.specs.declared.Flushed.{Flushed}
 use Rattle.index_types.specs.declared.Flushed.the-variants as flushed
-use Rattle.buffer_core.specs.Edition.{edition-1}
+use Rattle.index_types.specs.declared.RowEdition.{RowEdition}
+use Rattle.buffer_core.specs.Edition.{edition-of}
 use Rattle.buffer_core.specs.Pop.{lists}
 use Rattle.buffer_core.specs.Flush.{Flushing, flush-of}
 use Rattle.ergo_index_lists.specs.Lists.{list-of}
@@ -30,6 +31,6 @@ flush-by (flushed.Refused code) s t d staged table deleted = flush-out code s t 
 abbrev pub flush-export : ℕ → ℕ → ℕ → Flushing → FlushOut
 flush-export s t d f = flush-by (f .answer) s t d (f .staged) (f .table) (f .deleted)
 
-abbrev pub flush-call : (s s-capacity : ℕ) → List ℕ → (t t-capacity : ℕ) → List ℕ → (d d-capacity : ℕ) → List ℕ → FlushOut
-flush-call s sc staged t tc table d dc deleted =
-    flush-export s t d (flush-of edition-1 (lists (list-of s sc) staged (list-of t tc) table (list-of d dc) deleted))
+abbrev pub flush-call : RowEdition → (s s-capacity : ℕ) → List ℕ → (t t-capacity : ℕ) → List ℕ → (d d-capacity : ℕ) → List ℕ → FlushOut
+flush-call v s sc staged t tc table d dc deleted =
+    flush-export s t d (flush-of (edition-of v) (lists (list-of s sc) staged (list-of t tc) table (list-of d dc) deleted))

@@ -2,10 +2,11 @@
 ghost use Prim.Native.Nat.{ℕ};
 ghost use mathlib.Core.Path.{_≡_};
 ghost use mathlib.Core.List.{List};
+ghost use Rattle.index_types.specs.declared.RowEdition.the-variants.{One};
+ghost use Rattle.ergo_index_lists.specs.Lists.{named-edition};
 ghost use Rattle.ergo_index_flush.specs.Flush.{flush-out, flush-by, flush-call};
 use index_types::Flushed;
 use index_types::ListCounts;
-use index_types::RowEdition;
 
 // What the flush answers goes to the outs, and its code is the result; a refusal sets no out.
 fn told(
@@ -43,7 +44,38 @@ pub extern "C" fn ergo_index_flush_staged_spills(
     deleted: &mut [u8],
 ) -> u8
     ensures { λ r. ⌜ flush-out r (now («staged_count» .exit)) (now («table_count» .exit)) (now («deleted_count» .exit)) (now (staged .exit)) (now (table .exit)) (now (deleted .exit))
-        ≡ flush-call (now («staged_count» .entry)) «staged_capacity» (now (staged .entry)) (now («table_count» .entry)) «table_capacity» (now (table .entry)) (now («deleted_count» .entry)) «deleted_capacity» (now (deleted .entry)) ⌝ }
+        ≡ flush-call One (now («staged_count» .entry)) «staged_capacity» (now (staged .entry)) (now («table_count» .entry)) «table_capacity» (now (table .entry)) (now («deleted_count» .entry)) «deleted_capacity» (now (deleted .entry)) ⌝ }
+{
+    ergo_index_flush_staged_spills_in_edition(
+        false,
+        staged_count,
+        staged_capacity,
+        staged,
+        table_count,
+        table_capacity,
+        table,
+        deleted_count,
+        deleted_capacity,
+        deleted,
+    )
+}
+
+// A flush, with rows of the edition that the flag names.
+#[no_mangle]
+pub extern "C" fn ergo_index_flush_staged_spills_in_edition(
+    second_edition: bool,
+    staged_count: &mut usize,
+    staged_capacity: usize,
+    staged: &mut [u8],
+    table_count: &mut usize,
+    table_capacity: usize,
+    table: &mut [u8],
+    deleted_count: &mut usize,
+    deleted_capacity: usize,
+    deleted: &mut [u8],
+) -> u8
+    ensures { λ r. ⌜ flush-out r (now («staged_count» .exit)) (now («table_count» .exit)) (now («deleted_count» .exit)) (now (staged .exit)) (now (table .exit)) (now (deleted .exit))
+        ≡ flush-call (named-edition «second_edition») (now («staged_count» .entry)) «staged_capacity» (now (staged .entry)) (now («table_count» .entry)) «table_capacity» (now (table .entry)) (now («deleted_count» .entry)) «deleted_capacity» (now (deleted .entry)) ⌝ }
 {
     let staged_counts = ListCounts {
         count: *staged_count,
@@ -58,7 +90,7 @@ pub extern "C" fn ergo_index_flush_staged_spills(
         capacity: deleted_capacity,
     };
     let flushed = segment_buffer::flush_staged_spills(
-        RowEdition::One,
+        ergo_index_lists::named_edition(second_edition),
         staged_counts,
         staged,
         table_counts,

@@ -24,20 +24,20 @@ part (suc n) (suc m) [] r = refl
 part n (suc m) (x ∷ p) r = part n m p r
 
 -- the row of the record with index i, in the list
-part-of-row : (i : ℕ) (l : List ℕ) → take (length (row-at 10288 i l)) (drop (i * 10288 + 34) l) ≡ row-at 10288 i l
+part-of-row : (z i : ℕ) (l : List ℕ) → take (length (row-at z i l)) (drop (i * z + 34) l) ≡ row-at z i l
 unfolding stored-row
-part-of-row i l =
-    let rest = drop (i * 10288) l in
-    let r = take 10288 rest in
-    ap (λ (s : List ℕ). take (length (take (stored-length r) (drop 34 r))) s) (sym (drop-drop 34 (i * 10288) l) ∙ ap (λ (s : List ℕ). drop 34 s) (sym (take-append-drop 10288 rest)))
-    ∙ part (stored-length r) 34 r (drop 10288 rest)
+part-of-row z i l =
+    let rest = drop (i * z) l in
+    let r = take z rest in
+    ap (λ (s : List ℕ). take (length (take (stored-length r) (drop 34 r))) s) (sym (drop-drop 34 (i * z) l) ∙ ap (λ (s : List ℕ). drop 34 s) (sym (take-append-drop z rest)))
+    ∙ part (stored-length r) 34 r (drop z rest)
 
-module _ (sc : ListCounts) (staged : List ℕ) (tc : ListCounts) (table key : List ℕ) (i : ℕ) where
+module _ (z limit : ℕ) (sc : ListCounts) (staged : List ℕ) (tc : ListCounts) (table key : List ℕ) (i : ℕ) where
   abbrev shown : List ℕ
-  shown = inspect-row 10288 10254 sc staged tc table key
+  shown = inspect-row z limit sc staged tc table key
 
-  pub staged-part : locate-row 10288 10254 sc staged tc table key ≡ Staged i → take (length shown) (drop (i * 10288 + 34) staged) ≡ shown
-  staged-part e = rw (← (inspect-located 10288 10254 sc staged tc table key (Staged i) (Staged i) (sym e) refl)) (part-of-row i staged)
+  pub staged-part : locate-row z limit sc staged tc table key ≡ Staged i → take (length shown) (drop (i * z + 34) staged) ≡ shown
+  staged-part e = rw (← (inspect-located z limit sc staged tc table key (Staged i) (Staged i) (sym e) refl)) (part-of-row z i staged)
 
-  pub table-part : locate-row 10288 10254 sc staged tc table key ≡ Table i → take (length shown) (drop (i * 10288 + 34) table) ≡ shown
-  table-part e = rw (← (inspect-located 10288 10254 sc staged tc table key (Table i) (Table i) (sym e) refl)) (part-of-row i table)
+  pub table-part : locate-row z limit sc staged tc table key ≡ Table i → take (length shown) (drop (i * z + 34) table) ≡ shown
+  table-part e = rw (← (inspect-located z limit sc staged tc table key (Table i) (Table i) (sym e) refl)) (part-of-row z i table)

@@ -5,7 +5,8 @@ use mathlib.Core.List.{List}
 use lib.IntN.{ℤ}
 use Rattle.index_types.specs.declared.Paged.{Paged}
 use Rattle.index_types.specs.declared.Paged.the-variants.{Numbers, Refused}
-use Rattle.buffer_core.specs.Edition.{edition-1}
+use Rattle.index_types.specs.declared.RowEdition.{RowEdition}
+use Rattle.buffer_core.specs.Edition.{edition-of}
 use Rattle.buffer_core.specs.Append.{counts-of}
 use Rattle.buffer_core.specs.Page.{Paging, page-of}
 use Rattle.ergo_index_lists.specs.Lists.{list-of}
@@ -26,6 +27,6 @@ page-by (Refused code) count page = page-out code count page
 abbrev pub page-export : ℕ → Paging → PageOut
 page-export count p = page-by (p .answer) count (p .page)
 
-abbrev pub page-call : (parent : List ℕ) (len : ℕ) (spills : ℤ) → List ℤ → (s s-capacity : ℕ) → List ℕ → (t t-capacity : ℕ) → List ℕ → (offset n count : ℕ) → List ℤ → PageOut
-page-call parent len spills head s sc staged t tc table offset n count page =
-    page-export count (page-of edition-1 parent (counts-of len spills) (list-of s sc) staged (list-of t tc) table head offset n page)
+abbrev pub page-call : RowEdition → (parent : List ℕ) (len : ℕ) (spills : ℤ) → List ℤ → (s s-capacity : ℕ) → List ℕ → (t t-capacity : ℕ) → List ℕ → (offset n count : ℕ) → List ℤ → PageOut
+page-call v parent len spills head s sc staged t tc table offset n count page =
+    page-export count (page-of (edition-of v) parent (counts-of len spills) (list-of s sc) staged (list-of t tc) table head offset n page)

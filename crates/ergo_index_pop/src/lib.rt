@@ -4,39 +4,15 @@ ghost use Prim.Native.Nat.{ℕ};
 ghost use mathlib.Core.Path.{_≡_};
 ghost use mathlib.Core.List.{List};
 ghost use lib.IntN.{ℤ};
-ghost use Rattle.buffer_checks.specs.Answers.{as-popped-box, as-popped-tx};
+ghost use Rattle.index_types.specs.declared.RowEdition.the-variants.{One};
 ghost use Rattle.segment_id.specs.declared.Kind.the-variants.{Box, Tx};
+ghost use Rattle.ergo_index_lists.specs.Lists.{named-edition};
 ghost use Rattle.ergo_index_pop.specs.Pop.{pop-out, pop-by, pop-call};
 use index_types::HeadCounts;
 use index_types::ListCounts;
 use index_types::Popped;
-use index_types::PoppedBox;
-use index_types::PoppedTx;
 use index_types::RowEdition;
-
-// The answer of a pop of boxes, as that of either kind.
-fn box_answer(popped: PoppedBox) -> Popped
-    ensures { λ r. ⌜ r ≡ as-popped-box popped ⌝ }
-{
-    match popped {
-        PoppedBox::Number(last, after, staged_after, deleted_after) => {
-            Popped::Number(last.0, after, staged_after, deleted_after)
-        }
-        PoppedBox::Refused(code) => Popped::Refused(code),
-    }
-}
-
-// The same for transactions.
-fn tx_answer(popped: PoppedTx) -> Popped
-    ensures { λ r. ⌜ r ≡ as-popped-tx popped ⌝ }
-{
-    match popped {
-        PoppedTx::Number(last, after, staged_after, deleted_after) => {
-            Popped::Number(last.0, after, staged_after, deleted_after)
-        }
-        PoppedTx::Refused(code) => Popped::Refused(code),
-    }
-}
+use segment_id::Kind;
 
 // What a pop answers goes to the outs, and its code is the result; a refusal sets no out.
 fn told(
@@ -65,6 +41,61 @@ fn told(
     }
 }
 
+// A pop of either kind, in either edition.
+fn pop(
+    edition: RowEdition,
+    kind: Kind,
+    parent: &[u8; 32],
+    len: &mut usize,
+    spills: &mut i32,
+    head: &mut [i64],
+    staged_count: &mut usize,
+    staged_capacity: usize,
+    staged: &mut [u8],
+    table_count: usize,
+    table_capacity: usize,
+    table: &[u8],
+    deleted_count: &mut usize,
+    deleted_capacity: usize,
+    deleted: &mut [u8],
+    number: &mut i64,
+) -> u8
+    ensures { λ r. ⌜ pop-out r (now (number .exit)) (now (len .exit)) (now (spills .exit)) (now («staged_count» .exit)) (now («deleted_count» .exit)) (now (head .exit)) (now (staged .exit)) (now (deleted .exit))
+        ≡ pop-call edition kind (now (parent .entry)) (now (len .entry)) (now (spills .entry)) (now (head .entry)) (now («staged_count» .entry)) «staged_capacity» (now (staged .entry)) «table_count» «table_capacity» (now (table .entry))
+        (now («deleted_count» .entry)) «deleted_capacity» (now (deleted .entry)) (now (number .entry)) ⌝ }
+{
+    let counts = HeadCounts {
+        len: *len,
+        spills: *spills,
+    };
+    let staged_counts = ListCounts {
+        count: *staged_count,
+        capacity: staged_capacity,
+    };
+    let table_counts = ListCounts {
+        count: table_count,
+        capacity: table_capacity,
+    };
+    let deleted_counts = ListCounts {
+        count: *deleted_count,
+        capacity: deleted_capacity,
+    };
+    let popped = pop_calls::pop_entry(
+        edition,
+        kind,
+        parent,
+        counts,
+        head,
+        staged_counts,
+        staged,
+        table_counts,
+        table,
+        deleted_counts,
+        deleted,
+    );
+    told(popped, number, len, spills, staged_count, deleted_count)
+}
+
 // The last box number of the head; on an empty head the newest row becomes the head first.
 #[no_mangle]
 pub extern "C" fn ergo_index_pop_box_entry(
@@ -84,39 +115,27 @@ pub extern "C" fn ergo_index_pop_box_entry(
     number: &mut i64,
 ) -> u8
     ensures { λ r. ⌜ pop-out r (now (number .exit)) (now (len .exit)) (now (spills .exit)) (now («staged_count» .exit)) (now («deleted_count» .exit)) (now (head .exit)) (now (staged .exit)) (now (deleted .exit))
-        ≡ pop-call Box (now (parent .entry)) (now (len .entry)) (now (spills .entry)) (now (head .entry)) (now («staged_count» .entry)) «staged_capacity» (now (staged .entry)) «table_count» «table_capacity» (now (table .entry))
+        ≡ pop-call One Box (now (parent .entry)) (now (len .entry)) (now (spills .entry)) (now (head .entry)) (now («staged_count» .entry)) «staged_capacity» (now (staged .entry)) «table_count» «table_capacity» (now (table .entry))
         (now («deleted_count» .entry)) «deleted_capacity» (now (deleted .entry)) (now (number .entry)) ⌝ }
 {
-    let counts = HeadCounts {
-        len: *len,
-        spills: *spills,
-    };
-    let staged_counts = ListCounts {
-        count: *staged_count,
-        capacity: staged_capacity,
-    };
-    let table_counts = ListCounts {
-        count: table_count,
-        capacity: table_capacity,
-    };
-    let deleted_counts = ListCounts {
-        count: *deleted_count,
-        capacity: deleted_capacity,
-    };
-    let popped = segment_buffer::pop_box_entry(
+    pop(
         RowEdition::One,
+        Kind::Box,
         parent,
-        counts,
+        len,
+        spills,
         head,
-        staged_counts,
+        staged_count,
+        staged_capacity,
         staged,
-        table_counts,
+        table_count,
+        table_capacity,
         table,
-        deleted_counts,
+        deleted_count,
+        deleted_capacity,
         deleted,
-    );
-    let answer = box_answer(popped);
-    told(answer, number, len, spills, staged_count, deleted_count)
+        number,
+    )
 }
 
 // The same for transactions.
@@ -138,37 +157,113 @@ pub extern "C" fn ergo_index_pop_tx_entry(
     number: &mut i64,
 ) -> u8
     ensures { λ r. ⌜ pop-out r (now (number .exit)) (now (len .exit)) (now (spills .exit)) (now («staged_count» .exit)) (now («deleted_count» .exit)) (now (head .exit)) (now (staged .exit)) (now (deleted .exit))
-        ≡ pop-call Tx (now (parent .entry)) (now (len .entry)) (now (spills .entry)) (now (head .entry)) (now («staged_count» .entry)) «staged_capacity» (now (staged .entry)) «table_count» «table_capacity» (now (table .entry))
+        ≡ pop-call One Tx (now (parent .entry)) (now (len .entry)) (now (spills .entry)) (now (head .entry)) (now («staged_count» .entry)) «staged_capacity» (now (staged .entry)) «table_count» «table_capacity» (now (table .entry))
         (now («deleted_count» .entry)) «deleted_capacity» (now (deleted .entry)) (now (number .entry)) ⌝ }
 {
-    let counts = HeadCounts {
-        len: *len,
-        spills: *spills,
-    };
-    let staged_counts = ListCounts {
-        count: *staged_count,
-        capacity: staged_capacity,
-    };
-    let table_counts = ListCounts {
-        count: table_count,
-        capacity: table_capacity,
-    };
-    let deleted_counts = ListCounts {
-        count: *deleted_count,
-        capacity: deleted_capacity,
-    };
-    let popped = segment_buffer::pop_tx_entry(
+    pop(
         RowEdition::One,
+        Kind::Tx,
         parent,
-        counts,
+        len,
+        spills,
         head,
-        staged_counts,
+        staged_count,
+        staged_capacity,
         staged,
-        table_counts,
+        table_count,
+        table_capacity,
         table,
-        deleted_counts,
+        deleted_count,
+        deleted_capacity,
         deleted,
-    );
-    let answer = tx_answer(popped);
-    told(answer, number, len, spills, staged_count, deleted_count)
+        number,
+    )
+}
+
+// ---- with rows of the edition that the flag names
+
+// The last box number.
+#[no_mangle]
+pub extern "C" fn ergo_index_pop_box_entry_in_edition(
+    second_edition: bool,
+    parent: &[u8; 32],
+    len: &mut usize,
+    spills: &mut i32,
+    head: &mut [i64],
+    staged_count: &mut usize,
+    staged_capacity: usize,
+    staged: &mut [u8],
+    table_count: usize,
+    table_capacity: usize,
+    table: &[u8],
+    deleted_count: &mut usize,
+    deleted_capacity: usize,
+    deleted: &mut [u8],
+    number: &mut i64,
+) -> u8
+    ensures { λ r. ⌜ pop-out r (now (number .exit)) (now (len .exit)) (now (spills .exit)) (now («staged_count» .exit)) (now («deleted_count» .exit)) (now (head .exit)) (now (staged .exit)) (now (deleted .exit))
+        ≡ pop-call (named-edition «second_edition») Box (now (parent .entry)) (now (len .entry)) (now (spills .entry)) (now (head .entry)) (now («staged_count» .entry)) «staged_capacity» (now (staged .entry)) «table_count» «table_capacity» (now (table .entry))
+        (now («deleted_count» .entry)) «deleted_capacity» (now (deleted .entry)) (now (number .entry)) ⌝ }
+{
+    pop(
+        ergo_index_lists::named_edition(second_edition),
+        Kind::Box,
+        parent,
+        len,
+        spills,
+        head,
+        staged_count,
+        staged_capacity,
+        staged,
+        table_count,
+        table_capacity,
+        table,
+        deleted_count,
+        deleted_capacity,
+        deleted,
+        number,
+    )
+}
+
+// The last transaction number.
+#[no_mangle]
+pub extern "C" fn ergo_index_pop_tx_entry_in_edition(
+    second_edition: bool,
+    parent: &[u8; 32],
+    len: &mut usize,
+    spills: &mut i32,
+    head: &mut [i64],
+    staged_count: &mut usize,
+    staged_capacity: usize,
+    staged: &mut [u8],
+    table_count: usize,
+    table_capacity: usize,
+    table: &[u8],
+    deleted_count: &mut usize,
+    deleted_capacity: usize,
+    deleted: &mut [u8],
+    number: &mut i64,
+) -> u8
+    ensures { λ r. ⌜ pop-out r (now (number .exit)) (now (len .exit)) (now (spills .exit)) (now («staged_count» .exit)) (now («deleted_count» .exit)) (now (head .exit)) (now (staged .exit)) (now (deleted .exit))
+        ≡ pop-call (named-edition «second_edition») Tx (now (parent .entry)) (now (len .entry)) (now (spills .entry)) (now (head .entry)) (now («staged_count» .entry)) «staged_capacity» (now (staged .entry)) «table_count» «table_capacity» (now (table .entry))
+        (now («deleted_count» .entry)) «deleted_capacity» (now (deleted .entry)) (now (number .entry)) ⌝ }
+{
+    pop(
+        ergo_index_lists::named_edition(second_edition),
+        Kind::Tx,
+        parent,
+        len,
+        spills,
+        head,
+        staged_count,
+        staged_capacity,
+        staged,
+        table_count,
+        table_capacity,
+        table,
+        deleted_count,
+        deleted_capacity,
+        deleted,
+        number,
+    )
 }

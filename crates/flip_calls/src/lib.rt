@@ -13,7 +13,7 @@ use index_types::RowEdition;
 use index_types::Tallied;
 
 // A spend or an unspend. It brings no hints: where the records of the table stand is noted in the call, if it goes to the rows of a table of more than 128.
-fn flip_entry(
+pub fn flip_entry(
     edition: RowEdition,
     direction: Direction,
     parent: &[u8; 32],

@@ -15,7 +15,7 @@ use index_types::TxNumber;
 use segment_id::Kind;
 
 // A pop of either kind.
-fn pop_entry(
+pub fn pop_entry(
     edition: RowEdition,
     kind: Kind,
     parent: &[u8; 32],

@@ -4,6 +4,7 @@
 // `vector_fields` says what a record is; the functions that are called here say which fields each kind has, and what stands on its line.
 ghost use Prim.Native.Nat.{_<_};
 ghost use lib.ListN.{length};
+use index_types::RowEdition;
 use libc::STDIN_FILENO;
 use segment_id::Kind;
 use vector_balances::Change;
@@ -40,7 +41,7 @@ fn codec(kind: u8, name: &[u8], s: &[u8]) {
     }
 }
 
-// Balances, calls of the buffer, histories and loads.
+// Balances, calls of the buffer, histories, loads and rows turned into the other edition.
 fn replay(kind: u8, name: &[u8], s: &[u8]) {
     match kind {
         32 => vector_balances::replay(name, Change::Add, s),
@@ -61,6 +62,8 @@ fn replay(kind: u8, name: &[u8], s: &[u8]) {
         64 => vector_runs::run(name, s),
         65 => vector_load::generate(name, s),
         66 => vector_load::go_on(name, s),
+        67 => vector_editions::replay(name, RowEdition::Two, s),
+        68 => vector_editions::replay(name, RowEdition::One, s),
         _ => codec(kind, name, s),
     }
 }

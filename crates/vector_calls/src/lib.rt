@@ -27,8 +27,9 @@ pub enum Call {
     Page,
 }
 
-// The counts of a call's buffers, and its number.
+// The edition of the rows, the counts of a call's buffers, and its number.
 struct Given {
+    edition: RowEdition,
     counts: HeadCounts,
     number: i64,
     staged: ListCounts,
@@ -61,11 +62,12 @@ fn list_at(s: &[u8], at: usize, out: &mut [u8]) -> List
 }
 
 fn append_box(name: &[u8], parent: &[u8; 32], given: Given, head: &mut [i64], staged: &mut [u8]) {
+    let edition = given.edition;
     let counts = given.counts;
     let number = BoxNumber(given.number);
     let rows = given.staged;
     let answer = segment_buffer::append_box_entry(
-        RowEdition::One,
+        edition,
         parent,
         counts,
         head,
@@ -77,11 +79,12 @@ fn append_box(name: &[u8], parent: &[u8; 32], given: Given, head: &mut [i64], st
 }
 
 fn append_tx(name: &[u8], parent: &[u8; 32], given: Given, head: &mut [i64], staged: &mut [u8]) {
+    let edition = given.edition;
     let counts = given.counts;
     let number = TxNumber(given.number);
     let rows = given.staged;
     let answer = segment_buffer::append_tx_entry(
-        RowEdition::One,
+        edition,
         parent,
         counts,
         head,
@@ -101,12 +104,13 @@ fn pop_box(
     table: &[u8],
     deleted: &mut [u8],
 ) {
+    let edition = given.edition;
     let counts = given.counts;
     let rows = given.staged;
     let shelf = given.table;
     let keys = given.deleted;
     let answer = segment_buffer::pop_box_entry(
-        RowEdition::One,
+        edition,
         parent,
         counts,
         head,
@@ -129,12 +133,13 @@ fn pop_tx(
     table: &[u8],
     deleted: &mut [u8],
 ) {
+    let edition = given.edition;
     let counts = given.counts;
     let rows = given.staged;
     let shelf = given.table;
     let keys = given.deleted;
     let answer = segment_buffer::pop_tx_entry(
-        RowEdition::One,
+        edition,
         parent,
         counts,
         head,
@@ -156,12 +161,13 @@ fn spend(
     staged: &mut [u8],
     table: &[u8],
 ) {
+    let edition = given.edition;
     let counts = given.counts;
     let target = BoxNumber(given.number);
     let rows = given.staged;
     let shelf = given.table;
     let answer = segment_buffer::flip_box_segment_entry(
-        RowEdition::One,
+        edition,
         parent,
         counts,
         head,
@@ -182,12 +188,13 @@ fn unspend(
     staged: &mut [u8],
     table: &[u8],
 ) {
+    let edition = given.edition;
     let counts = given.counts;
     let target = BoxNumber(given.number);
     let rows = given.staged;
     let shelf = given.table;
     let answer = segment_buffer::unflip_box_segment_entry(
-        RowEdition::One,
+        edition,
         parent,
         counts,
         head,
@@ -201,11 +208,12 @@ fn unspend(
 }
 
 fn flush(name: &[u8], given: Given, staged: &mut [u8], table: &mut [u8], deleted: &mut [u8]) {
+    let edition = given.edition;
     let rows = given.staged;
     let shelf = given.table;
     let keys = given.deleted;
     let answer = segment_buffer::flush_staged_spills(
-        RowEdition::One,
+        edition,
         rows,
         staged,
         shelf,
@@ -253,12 +261,13 @@ fn paged<'a>(
     length: usize,
     places: &mut [i64],
 ) {
+    let edition = given.edition;
     let counts = given.counts;
     let staged_counts = given.staged;
     let table_counts = given.table;
     let offset = signed::magnitude(given.number) as usize;
     let answer = segment_buffer::unspent_page(
-        RowEdition::One,
+        edition,
         parent,
         counts,
         head,
@@ -286,6 +295,7 @@ fn ask<'a>(
     s: &[u8],
     at: usize,
 ) {
+    let edition = given.edition;
     let counts = given.counts;
     let rows = given.staged;
     let shelf = given.table;
@@ -294,7 +304,7 @@ fn ask<'a>(
         Call::Page => page(name, parent, given, head, staged, table, s, at),
         Call::Tally => {
             let answer = segment_buffer::tally(
-                RowEdition::One,
+                edition,
                 parent,
                 counts,
                 head,
@@ -306,20 +316,12 @@ fn ask<'a>(
             show::tallied(name, answer);
         }
         Call::Lists => {
-            let fit = segment_buffer::lists_ok(
-                RowEdition::One,
-                rows,
-                staged,
-                shelf,
-                table,
-                keys,
-                deleted,
-            );
+            let fit = segment_buffer::lists_ok(edition, rows, staged, shelf, table, keys, deleted);
             show::fit(name, fit);
         }
         _ => {
             let key = segment_id::row_key(parent, Kind::Box, counts.spills);
-            let located = spills::locate_spill(RowEdition::One, &key, rows, staged, shelf, table);
+            let located = spills::locate_spill(edition, &key, rows, staged, shelf, table);
             show::located(name, located);
         }
     }
@@ -362,9 +364,17 @@ fn make(
 
 // How many numbers of the head count and its spill count, the number, the staged spills, the table, the deleted spills and, for a page,
 // what `page` reads.
-fn with_head(name: &[u8], call: Call, parent: &[u8; 32], s: &[u8], at: usize, head: &mut [i64]) {
-    let mut staged = [0u8; 20576];
-    let mut table = [0u8; 20576];
+fn with_head(
+    name: &[u8],
+    call: Call,
+    edition: RowEdition,
+    parent: &[u8; 32],
+    s: &[u8],
+    at: usize,
+    head: &mut [i64],
+) {
+    let mut staged = [0u8; 20652];
+    let mut table = [0u8; 20652];
     let mut deleted = [0u8; 64];
     let len = vector_fields::size_at(s, at);
     let spills = vector_fields::count_at(s, len.next);
@@ -376,6 +386,7 @@ fn with_head(name: &[u8], call: Call, parent: &[u8; 32], s: &[u8], at: usize, he
     let table_counts = shelf.counts;
     let deleted_counts = keys.counts;
     let given = Given {
+        edition,
         counts: HeadCounts {
             len: len.n,
             spills: spills.n,
@@ -402,16 +413,32 @@ fn with_head(name: &[u8], call: Call, parent: &[u8; 32], s: &[u8], at: usize, he
     );
 }
 
-// A call: the parent's byte, which its id has 32 times, the numbers of the head, and what `with_head` reads.
+fn edition_of(byte: u8) -> RowEdition {
+    if byte == 2 {
+        return RowEdition::Two;
+    }
+    RowEdition::One
+}
+
+// A call: the edition's number, the parent's byte, which its id has 32 times, the numbers of the head, and what `with_head` reads.
 pub fn replay(name: &[u8], call: Call, s: &[u8]) {
-    if s.len() == 0 {
+    if s.len() < 2 {
         vector_fields::cut();
         return;
     }
-    let byte = s[0];
+    let edition = edition_of(s[0]);
+    let byte = s[1];
     let parent = [byte; 32];
     let mut head = [0i64; SEGMENT_THRESHOLD];
-    let part = vector_fields::numbers_at(s, 1, &mut head);
+    let part = vector_fields::numbers_at(s, 2, &mut head);
     let len = part.len;
-    with_head(name, call, &parent, s, part.next, &mut head[0..len]);
+    with_head(
+        name,
+        call,
+        edition,
+        &parent,
+        s,
+        part.next,
+        &mut head[0..len],
+    );
 }

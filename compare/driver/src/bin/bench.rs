@@ -2,7 +2,8 @@
 //! the sides take turns, in the thread's own running time; a ratio is the index's time by the reference's in the same round, its spread from the
 //! 10th to the 90th of 100 parts.
 //!
-//!     bench FOLDER    also writes two plots there
+//!     bench FOLDER      also writes two plots there
+//!     bench --editions  only the lines of edition 2 beside edition 1
 
 use std::io::Write;
 use std::process::{Command, Stdio};
@@ -15,7 +16,7 @@ use driver::index::{
 };
 use driver::measure::{both, keep, line, plot, shown, thread_time, Curve, Times, ROUNDS};
 use driver::sides::Sides;
-use driver::{loads, tables};
+use driver::{editions, loads, tables};
 use reference::address::BalanceInfo;
 use reference::segment::Segment;
 use reference::{calls, Digest32, VlqWriter};
@@ -393,6 +394,9 @@ fn runs(path: &str, input: &[u8], calls: usize) -> Times {
 fn main() {
     let folder = env::args().nth(1);
     println!("| call | index | reference | ratio | spread |\n|---|---|---|---|---|");
+    if folder.as_deref() == Some("--editions") {
+        return editions::lines();
+    }
     digests();
     keys();
     rows();
@@ -404,6 +408,7 @@ fn main() {
     tables::by_room();
     loads::in_batches();
     tables::pages();
+    editions::lines();
     runner();
     let Some(folder) = folder else { return };
     let (mut ours, mut theirs) = (Vec::new(), Vec::new());

@@ -20,6 +20,7 @@ fn main() {
     let mut report = Report::default();
     checks::numbers::run(size, &mut report);
     checks::rows::run(size, &mut report);
+    checks::editions::run(size, &mut report);
     checks::keys::run(size, &mut report);
     checks::addresses::run(size, &mut report);
     checks::balances::run(size, &mut report);

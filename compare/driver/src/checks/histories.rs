@@ -1,4 +1,5 @@
-//! Histories over several parents with small lists: calls, forks that undo the newest ones, flushes, and calls that no fork needs.
+//! Histories over several parents with small lists: calls, forks that undo the newest ones, flushes, and calls that no fork needs. Each is run with rows of
+//! edition 2 as well.
 
 use reference::calls::write_segment;
 use reference::segment::Segment;
@@ -75,7 +76,7 @@ impl Start {
                 },
             );
         }
-        sides
+        sides.with_second()
     }
 }
 
@@ -232,7 +233,7 @@ impl History<'_> {
     /// Tally and page are additions of the documents: they are compared with what the reference's rows and head hold.
     fn tally(&mut self, report: &mut Report) -> Result<(), String> {
         const UNTOUCHED: [i64; PAGE + 1] = [7; PAGE + 1];
-        for (parent, address) in self.sides.parents.iter().zip(&self.sides.addresses) {
+        for (i, (parent, address)) in self.sides.parents.iter().zip(&self.sides.addresses).enumerate() {
             report.call("tally");
             report.call("page");
             let mut page = UNTOUCHED;
@@ -243,6 +244,16 @@ impl History<'_> {
                 .sides
                 .lists
                 .unspent_page(&parent.id, &parent.boxes, offset, length, &mut page);
+            if let Some((lists, parents)) = self.sides.second() {
+                let (id, head, mut other) = (&parent.id, &parents[i].boxes, UNTOUCHED);
+                let alike = (
+                    lists.tally(id, head),
+                    lists.unspent_page(id, head, offset, length, &mut other),
+                );
+                if (alike, other) != ((tally, paged), page) {
+                    return Err(format!("tally and page in edition 2: {alike:?}, {tally:?} and {paged:?}"));
+                }
+            }
             let (counts, numbers) = match (tally, paged) {
                 (Ok(counts), Ok(numbers)) => (counts, numbers),
                 (Err(a), Err(b)) if a == b && page == UNTOUCHED => continue,

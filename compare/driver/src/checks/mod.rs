@@ -3,6 +3,7 @@
 pub mod addresses;
 pub mod balances;
 pub mod buffers;
+pub mod editions;
 pub mod histories;
 pub mod keys;
 pub mod numbers;

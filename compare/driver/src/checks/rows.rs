@@ -108,7 +108,9 @@ pub fn segment(random: &mut Random) -> Segment {
 pub fn long(random: &mut Random) -> Vec<u8> {
     let numbers = |random: &mut Random| {
         let ten = |random: &mut Random| (1 << 62) | (random.word() >> 2) as i64;
-        (0..512).map(|_| if random.once_in(2) { !ten(random) } else { ten(random) }).collect()
+        (0..512)
+            .map(|_| if random.once_in(2) { !ten(random) } else { ten(random) })
+            .collect()
     };
     let mut row = calls::write_segment(&Segment {
         txs: numbers(random),

@@ -89,3 +89,28 @@ impl ReadLists {
             && self.boxes[self.n_boxes..].iter().all(|&n| n == 0)
     }
 }
+
+/// A row of edition 1 as one of edition 2, and back.
+pub fn convert_row(to_second: bool, row: &[u8], parent: &Id, kind: u8, number: i32, out: &mut [u8]) -> Result<usize, u8> {
+    let call = match to_second {
+        true => ergo_index_row_to_second,
+        false => ergo_index_row_to_first,
+    };
+    let mut written = 0;
+    let code = unsafe {
+        call(
+            row.as_ptr(),
+            row.len(),
+            parent.as_ptr(),
+            kind,
+            number,
+            out.as_mut_ptr(),
+            out.len(),
+            &mut written,
+        )
+    };
+    match code {
+        0 => Ok(written),
+        refused => Err(refused),
+    }
+}

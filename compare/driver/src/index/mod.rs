@@ -6,18 +6,26 @@ mod codec;
 
 pub use balance::Balance;
 pub use batch::Batch;
-pub use codec::{blake2b256, row_key, write_segment, ReadLists};
+pub use codec::{blake2b256, convert_row, row_key, write_segment, ReadLists};
+
+use ergo_index::{Edition, First, Second};
 
 use crate::ffi::*;
 
 pub const HEAD: usize = 512;
-pub const ROW_LIMIT: usize = 10_254;
-pub const RECORD: usize = 10_288;
+pub const ROW_LIMIT: usize = First::ROW_LIMIT;
 pub const PAGE: usize = 64;
 pub const ADDRESS_LIMIT: usize = 15_675;
 pub const TOKENS: usize = 128;
 
 pub type Id = [u8; 32];
+
+/// A call of edition 1 as it always was, or the same call that names edition 2.
+macro_rules! in_edition {
+    ($second:expr, $call:expr, $named:expr, $($arg:expr),* $(,)?) => {
+        if $second { $named(true, $($arg),*) } else { $call($($arg),*) }
+    };
+}
 
 #[derive(Clone, Copy, PartialEq, Eq, Debug)]
 pub enum Kind {
@@ -57,6 +65,7 @@ impl Head {
 /// Staged spills or the segments table.
 #[derive(Clone, PartialEq)]
 pub struct Records {
+    size: usize,
     pub count: usize,
     pub capacity: usize,
     pub bytes: Vec<u8>,
@@ -64,16 +73,21 @@ pub struct Records {
 
 impl Records {
     pub fn new(capacity: usize) -> Self {
+        Self::of_size(First::RECORD_SIZE, capacity)
+    }
+
+    fn of_size(size: usize, capacity: usize) -> Self {
         Self {
+            size,
             count: 0,
             capacity,
-            bytes: vec![0; capacity * RECORD],
+            bytes: vec![0; capacity * size],
         }
     }
 
     /// Puts a row behind the last record.
     pub fn push(&mut self, key: &Id, row: &[u8]) {
-        let record = &mut self.bytes[self.count * RECORD..][..RECORD];
+        let record = &mut self.bytes[self.count * self.size..][..self.size];
         record.fill(0);
         record[..32].copy_from_slice(key);
         record[32..34].copy_from_slice(&(row.len() as u16).to_be_bytes());
@@ -82,7 +96,7 @@ impl Records {
     }
 
     pub fn rows(&self) -> impl Iterator<Item = (&[u8], &[u8])> {
-        self.bytes.chunks_exact(RECORD).take(self.count).map(|record| {
+        self.bytes.chunks_exact(self.size).take(self.count).map(|record| {
             let len = usize::from(u16::from_be_bytes([record[32], record[33]]));
             (&record[..32], &record[34..34 + len])
         })
@@ -134,6 +148,7 @@ impl Keys {
 
 #[derive(Clone, PartialEq)]
 pub struct Lists {
+    second: bool,
     pub staged: Records,
     pub table: Records,
     pub deleted: Keys,
@@ -142,8 +157,19 @@ pub struct Lists {
 impl Lists {
     pub fn new(staged: usize, table: usize, deleted: usize) -> Self {
         Self {
+            second: false,
             staged: Records::new(staged),
             table: Records::new(table),
+            deleted: Keys::new(deleted),
+        }
+    }
+
+    /// With room for rows of edition 2.
+    pub fn in_second(staged: usize, table: usize, deleted: usize) -> Self {
+        Self {
+            second: true,
+            staged: Records::of_size(Second::RECORD_SIZE, staged),
+            table: Records::of_size(Second::RECORD_SIZE, table),
             deleted: Keys::new(deleted),
         }
     }
@@ -160,9 +186,16 @@ impl Lists {
             Kind::Box => ergo_index_append_box_entry,
             Kind::Tx => ergo_index_append_tx_entry,
         };
+        let named = match kind {
+            Kind::Box => ergo_index_append_box_entry_in_edition,
+            Kind::Tx => ergo_index_append_tx_entry_in_edition,
+        };
         let (h, s) = (&mut head.numbers, &mut self.staged);
         unsafe {
-            call(
+            in_edition!(
+                self.second,
+                call,
+                named,
                 parent.as_ptr(),
                 &mut head.len,
                 &mut head.spills,
@@ -182,10 +215,17 @@ impl Lists {
             Kind::Box => ergo_index_pop_box_entry,
             Kind::Tx => ergo_index_pop_tx_entry,
         };
+        let named = match kind {
+            Kind::Box => ergo_index_pop_box_entry_in_edition,
+            Kind::Tx => ergo_index_pop_tx_entry_in_edition,
+        };
         let (h, s, t, d) = (&mut head.numbers, &mut self.staged, &self.table, &mut self.deleted);
         let mut number = 0;
         let code = unsafe {
-            call(
+            in_edition!(
+                self.second,
+                call,
+                named,
                 parent.as_ptr(),
                 &mut head.len,
                 &mut head.spills,
@@ -217,9 +257,16 @@ impl Lists {
             Direction::Spend => ergo_index_flip_box_segment_entry,
             Direction::Unspend => ergo_index_unflip_box_segment_entry,
         };
+        let named = match direction {
+            Direction::Spend => ergo_index_flip_box_segment_entry_in_edition,
+            Direction::Unspend => ergo_index_unflip_box_segment_entry_in_edition,
+        };
         let (h, s, t) = (&mut head.numbers, &mut self.staged, &self.table);
         unsafe {
-            call(
+            in_edition!(
+                self.second,
+                call,
+                named,
                 parent.as_ptr(),
                 head.len,
                 head.spills,
@@ -243,7 +290,10 @@ impl Lists {
         let (h, s, t) = (&head.numbers, &self.staged, &self.table);
         let (mut unspent, mut spent, mut unknown) = (0, 0, 0);
         let code = unsafe {
-            ergo_index_tally(
+            in_edition!(
+                self.second,
+                ergo_index_tally,
+                ergo_index_tally_in_edition,
                 parent.as_ptr(),
                 head.len,
                 head.spills,
@@ -273,7 +323,10 @@ impl Lists {
         let (h, s, t) = (&head.numbers, &self.staged, &self.table);
         let mut numbers = 0;
         let code = unsafe {
-            ergo_index_unspent_page(
+            in_edition!(
+                self.second,
+                ergo_index_unspent_page,
+                ergo_index_unspent_page_in_edition,
                 parent.as_ptr(),
                 head.len,
                 head.spills,
@@ -303,7 +356,10 @@ impl Lists {
     pub fn flush(&mut self) -> u8 {
         let (s, t, d) = (&mut self.staged, &mut self.table, &mut self.deleted);
         unsafe {
-            ergo_index_flush_staged_spills(
+            in_edition!(
+                self.second,
+                ergo_index_flush_staged_spills,
+                ergo_index_flush_staged_spills_in_edition,
                 &mut s.count,
                 s.capacity,
                 s.bytes.as_mut_ptr(),
@@ -325,7 +381,10 @@ impl Lists {
         let (s, t) = (&self.staged, &self.table);
         let (mut list, mut offset, mut length) = (0, 0, 0);
         let code = unsafe {
-            ergo_index_inspect_spill(
+            in_edition!(
+                self.second,
+                ergo_index_inspect_spill,
+                ergo_index_inspect_spill_in_edition,
                 s.count,
                 s.capacity,
                 s.bytes.as_ptr(),

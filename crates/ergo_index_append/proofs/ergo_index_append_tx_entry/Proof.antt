@@ -1,18 +1,12 @@
--- The counts are put together, the public call appends, and what it answers goes to the outs.
-use mathlib.Core.Path.{_∙_}
-use mir.Syntax.{w32, w64}
-use denote.Ref.{now}
+-- One call, in the first edition.
+use mir.Syntax.{w64}
 use Rattle.signed.proofs.SignedLaws.{back}
-use Rattle.ergo_index_append.proofs.AppendLaws.{append-told}
 use borrow.Author.Needs.{needs}
 use Rattle.ergo_index_append.proofs.ergo_index_append_tx_entry.Statement.{statement}
 use Rattle.ergo_index_append.proofs.ergo_index_append_tx_entry.Tie as tie
 
-append-tx-entry-requires : tie.Need-append-tx-entry-requires
-append-tx-entry-requires c κs = search needs
-
-told-requires : tie.Need-told-requires
-told-requires c κs = search needs
+append-requires : tie.Need-append-requires
+append-requires c κs = search needs
 
 same-length : tie.Need-same-length
 same-length c = search needs
@@ -22,11 +16,8 @@ same-length-2 c = search needs
 
 returns : tie.Need-returns
 returns c =
-    let s = c .before .before .before .before .before .before .before .before .before .before .before .before .before .before in
-    let a = s .args in
-    let e = rw (back w32 (now (a .spills)) (search needs), back w64 (a .number) (s .fits .number)) at (c .before .before .before .before .before .before .before .append-tx-entry .ensures) in
-    c .told .ensures _ _ ∙ append-told _ _ _ _ e (now (a .len)) (now (a .spills)) (now (a .staged-count))
+    let s = c .before .before .before .before .before .before .before .before .before .before in
+    rw (back w64 (s .args .number) (s .fits .number)) at (c .before .before .before .append .ensures)
 
 pub ergo-index-append-tx-entry-spec : {M : Type 1} → statement M
-ergo-index-append-tx-entry-spec =
-    tie.close (tie.spec append-tx-entry-requires told-requires same-length same-length-2 returns)
+ergo-index-append-tx-entry-spec = tie.close (tie.spec append-requires same-length same-length-2 returns)

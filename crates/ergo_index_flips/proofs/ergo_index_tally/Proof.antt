@@ -1,33 +1,17 @@
--- The counts are put together, the public call counts, and its answer is told apart.
+-- One call, in the first edition.
 use mir.Syntax.{w32}
-use denote.Ref.{now}
 use Rattle.signed.proofs.SignedLaws.{back}
-use Rattle.ergo_index_flips.proofs.FlipLaws.{tally-done, tally-refused}
 use borrow.Author.Needs.{needs}
 use Rattle.ergo_index_flips.proofs.ergo_index_tally.Statement.{statement}
 use Rattle.ergo_index_flips.proofs.ergo_index_tally.Tie as tie
 
-tally-requires : tie.Need-tally-requires
-tally-requires c κs = search needs
-
-enum-known-tallied : tie.Need-enum-known-tallied
-enum-known-tallied c = search needs
-
-enum-known-tallied-2 : tie.Need-enum-known-tallied-2
-enum-known-tallied-2 c = search needs
+ergo-index-tally-in-edition-requires : tie.Need-ergo-index-tally-in-edition-requires
+ergo-index-tally-in-edition-requires c κs = search needs
 
 returns : tie.Need-returns
 returns c =
     let s = c .before .before .before .before .before .before in
-    let a = s .args in
-    tally-done _ _ (rw (back w32 (a .spills) (s .fits .spills)) at (c .before .before .before .tally .ensures)) (now (a .unspent)) (now (a .spent)) (now (a .unknown)) _ (c .before .tallied .given .1)
-
-returns-2 : tie.Need-returns-2
-returns-2 c =
-    let s = c .before .before .before .before .before .before in
-    let a = s .args in
-    tally-refused _ _ (rw (back w32 (a .spills) (s .fits .spills)) at (c .before .before .before .tally .ensures)) (now (a .unspent)) (now (a .spent)) (now (a .unknown)) _ (c .before .tallied2 .given .1)
+    rw (back w32 (s .args .spills) (s .fits .spills)) at (c .ergo-index-tally-in-edition .ensures)
 
 pub ergo-index-tally-spec : {M : Type 1} → statement M
-ergo-index-tally-spec =
-    tie.close (tie.spec tally-requires enum-known-tallied enum-known-tallied-2 returns returns-2)
+ergo-index-tally-spec = tie.close (tie.spec ergo-index-tally-in-edition-requires returns)

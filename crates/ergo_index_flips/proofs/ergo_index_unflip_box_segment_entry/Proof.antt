@@ -1,18 +1,12 @@
--- The counts are put together, the public call flips, and what it answers goes to the out.
-use mathlib.Core.Path.{_∙_}
+-- One call, in the first edition.
 use mir.Syntax.{w32, w64}
-use denote.Ref.{now}
 use Rattle.signed.proofs.SignedLaws.{back}
-use Rattle.ergo_index_flips.proofs.FlipLaws.{flip-told}
 use borrow.Author.Needs.{needs}
 use Rattle.ergo_index_flips.proofs.ergo_index_unflip_box_segment_entry.Statement.{statement}
 use Rattle.ergo_index_flips.proofs.ergo_index_unflip_box_segment_entry.Tie as tie
 
-unflip-box-segment-entry-requires : tie.Need-unflip-box-segment-entry-requires
-unflip-box-segment-entry-requires c κs = search needs
-
-told-requires : tie.Need-told-requires
-told-requires c κs = search needs
+flip-requires : tie.Need-flip-requires
+flip-requires c κs = search needs
 
 same-length : tie.Need-same-length
 same-length c = search needs
@@ -22,12 +16,8 @@ same-length-2 c = search needs
 
 returns : tie.Need-returns
 returns c =
-    let s = c .before .before .before .before .before .before .before .before .before .before .before in
-    let a = s .args in
-    let e = rw (back w32 (a .spills) (s .fits .spills), back w64 (a .target) (s .fits .target)) at (c .before .before .before .before .before .unflip-box-segment-entry .ensures) in
-    c .told .ensures _ _ ∙ flip-told _ _ _ _ e (now (a .staged-count))
+    let s = c .before .before .before .before .before .before .before .before .before in
+    rw (back w32 (s .args .spills) (s .fits .spills), back w64 (s .args .target) (s .fits .target)) at (c .before .before .before .flip .ensures)
 
 pub ergo-index-unflip-box-segment-entry-spec : {M : Type 1} → statement M
-ergo-index-unflip-box-segment-entry-spec =
-    tie.close
-    (tie.spec unflip-box-segment-entry-requires told-requires same-length same-length-2 returns)
+ergo-index-unflip-box-segment-entry-spec = tie.close (tie.spec flip-requires same-length same-length-2 returns)

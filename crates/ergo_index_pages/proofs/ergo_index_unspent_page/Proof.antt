@@ -1,47 +1,20 @@
--- The counts are put together, the public call fills the page, and its answer is told apart.
+-- One call, in the first edition.
 use mir.Syntax.{w32}
-use denote.Ref.{now}
 use Rattle.signed.proofs.SignedLaws.{back}
-use Rattle.ergo_index_pages.proofs.PageLaws.{page-done, page-refused}
 use borrow.Author.Needs.{needs}
 use Rattle.ergo_index_pages.proofs.ergo_index_unspent_page.Statement.{statement}
 use Rattle.ergo_index_pages.proofs.ergo_index_unspent_page.Tie as tie
 
-unspent-page-requires : tie.Need-unspent-page-requires
-unspent-page-requires c κs = search needs
-
-enum-known-paged : tie.Need-enum-known-paged
-enum-known-paged c = search needs
-
-enum-known-paged-2 : tie.Need-enum-known-paged-2
-enum-known-paged-2 c = search needs
+ergo-index-unspent-page-in-edition-requires : tie.Need-ergo-index-unspent-page-in-edition-requires
+ergo-index-unspent-page-in-edition-requires c κs = search needs
 
 same-length : tie.Need-same-length
 same-length c = search needs
 
 returns : tie.Need-returns
 returns c =
-    let s = c .before .before .before .before .before .before .before .before in
-    let a = s .args in
-    page-done _ _ _ (rw (back w32 (a .spills) (s .fits .spills)) at (c .before .before .before .before .unspent-page .ensures)) (now (a .numbers)) _ (c .before .paged .given .1)
-
-same-length-2 : tie.Need-same-length-2
-same-length-2 c = search needs
-
-returns-2 : tie.Need-returns-2
-returns-2 c =
-    let s = c .before .before .before .before .before .before .before .before in
-    let a = s .args in
-    page-refused _ _ _ (rw (back w32 (a .spills) (s .fits .spills)) at (c .before .before .before .before .unspent-page .ensures)) (now (a .numbers)) _ (c .before .paged2 .given .1)
+    let s = c .before .before .before .before .before .before in
+    rw (back w32 (s .args .spills) (s .fits .spills)) at (c .before .ergo-index-unspent-page-in-edition .ensures)
 
 pub ergo-index-unspent-page-spec : {M : Type 1} → statement M
-ergo-index-unspent-page-spec =
-    tie.close
-    (tie.spec
-    unspent-page-requires
-    enum-known-paged
-    enum-known-paged-2
-    same-length
-    returns
-    same-length-2
-    returns-2)
+ergo-index-unspent-page-spec = tie.close (tie.spec ergo-index-unspent-page-in-edition-requires same-length returns)
