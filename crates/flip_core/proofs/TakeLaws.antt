@@ -18,7 +18,7 @@ use Rattle.buffer_core.specs.Flip.{check-row, first-of, last-in, look-past, loo
 use Rattle.spill_rows.proofs.CheckedLaws.{nope}
 use Rattle.flip_stage.specs.Steps.{Takes}
 
-position-takes : (zs : List ℤ) (t : ℕ) (d : Bool) (i : ℕ) → t < 9223372036854775808 → position d t zs 0 false ≡ At i → Takes (good zs) i
+pub position-takes : (zs : List ℤ) (t : ℕ) (d : Bool) (i : ℕ) → t < 9223372036854775808 → position d t zs 0 false ≡ At i → Takes (good zs) i
 position-takes zs t d i small e =
     let s = spot d t zs 0 false i e in
     let q : s .at ≡ i = omega (arith, s .is) in

@@ -229,7 +229,8 @@ fn flip_in_order(
     }
 }
 
-fn is_spend(direction: Direction) -> bool
+// Whether a direction is that of a spend.
+pub fn is_spend(direction: Direction) -> bool
     ensures { λ r. ⌜ r ≡ spends direction ⌝ }
 {
     match direction {

@@ -4,6 +4,7 @@ ghost use Prim.Native.Nat.{_+_, _*_, _≤_, _<_};
 ghost use lib.IntN.{pos};
 ghost use lib.ListN.{length};
 ghost use Rattle.records.specs.Find.{row-at};
+ghost use Rattle.segment_id.specs.Key.{row-key};
 ghost use Rattle.buffer_core.specs.Edition.{numbers-of, record-size, row-limit-of, row-under, edition-of};
 ghost use Rattle.buffer_core.specs.Spills.{sources, spill-read};
 ghost use Rattle.buffer_core.specs.Flip.{stage-at};
@@ -67,6 +68,47 @@ fn rewrite_record(
     rewrite(edition, parent, number, row, at, out)
 }
 
+// Stages the row of a spill number, whose key is given, with the entry at a place negated.
+pub fn stage_under(
+    edition: RowEdition,
+    parent: &[u8; 32],
+    number: usize,
+    key: &[u8],
+    at: usize,
+    staged_counts: ListCounts,
+    staged: &mut [u8],
+    table_count: usize,
+    table: &[u8],
+    hints: &[u16],
+) -> Flipped
+    requires { ⌜ RowsReady edition «staged_counts» (now staged) «table_count» (now table) × (number < 2147483648) × (now key ≡ row-key (now parent) Kind.Box (pos number)) × (length (now key) ≡ 32)
+        × Takes (spill-read (edition-of edition) Kind.Box (sources (now parent) (now staged) («staged_counts» .count) (now table) «table_count») number) at ⌝ }
+    ensures { λ r. ⌜ Stages edition (stage-at (edition-of edition) (sources (now (parent .entry)) (now (staged .entry)) («staged_counts» .count) (now (table .entry)) «table_count») («staged_counts» .capacity) number at)
+        «staged_counts» (now (staged .entry)) r (now (staged .exit)) ⌝ }
+{
+    let held = staged_counts.count;
+    let capacity = staged_counts.capacity;
+    let size = buffer_core::record_size(edition);
+    let mut row = [0u8; buffer_core::LONGEST_ROW];
+    let place = record_hints::locate_hinted(staged, held, table, table_count, size, key, hints);
+    match place {
+        Place::Staged(i) => {
+            let n = rewrite_record(edition, parent, number, staged, i, at, &mut row);
+            let count = record_changes::put(staged, size, held, key, &row[..n]);
+            Flipped::Done(ListCounts { count, capacity })
+        }
+        Place::Table(i) => {
+            if capacity <= held {
+                return Flipped::Refused(refusal::STAGING_FULL);
+            }
+            let n = rewrite_record(edition, parent, number, table, i, at, &mut row);
+            let count = record_changes::put(staged, size, held, key, &row[..n]);
+            Flipped::Done(ListCounts { count, capacity })
+        }
+        Place::Missing => Flipped::Refused(refusal::ROW_MISSING),
+    }
+}
+
 // Stages the row of a spill number with the entry at a place negated.
 pub fn stage(
     edition: RowEdition,
@@ -84,26 +126,17 @@ pub fn stage(
     ensures { λ r. ⌜ Stages edition (stage-at (edition-of edition) (sources (now (parent .entry)) (now (staged .entry)) («staged_counts» .count) (now (table .entry)) «table_count») («staged_counts» .capacity) number at)
         «staged_counts» (now (staged .entry)) r (now (staged .exit)) ⌝ }
 {
-    let held = staged_counts.count;
-    let capacity = staged_counts.capacity;
     let key = spill_rows::spill_key(Kind::Box, parent, number);
-    let size = buffer_core::record_size(edition);
-    let mut row = [0u8; buffer_core::LONGEST_ROW];
-    let place = record_hints::locate_hinted(staged, held, table, table_count, size, &key, hints);
-    match place {
-        Place::Staged(i) => {
-            let n = rewrite_record(edition, parent, number, staged, i, at, &mut row);
-            let count = record_changes::put(staged, size, held, &key, &row[..n]);
-            Flipped::Done(ListCounts { count, capacity })
-        }
-        Place::Table(i) => {
-            if capacity <= held {
-                return Flipped::Refused(refusal::STAGING_FULL);
-            }
-            let n = rewrite_record(edition, parent, number, table, i, at, &mut row);
-            let count = record_changes::put(staged, size, held, &key, &row[..n]);
-            Flipped::Done(ListCounts { count, capacity })
-        }
-        Place::Missing => Flipped::Refused(refusal::ROW_MISSING),
-    }
+    stage_under(
+        edition,
+        parent,
+        number,
+        &key,
+        at,
+        staged_counts,
+        staged,
+        table_count,
+        table,
+        hints,
+    )
 }

@@ -66,7 +66,7 @@ module _ (zs : List ℤ) (t : ℕ) (d : Bool) (n : length zs ≡ 512) (z : ℤ) 
 
 -- ---- each way out of the walk
 
-walk-step : (f : ℕ → Look) (low : ℕ) (seen : Bool) → 0 < low → walk-from f low seen ≡ walk-by (f (low - 1)) (low - 1) seen (λ s. walk-from f (low - 1) s)
+pub walk-step : (f : ℕ → Look) (low : ℕ) (seen : Bool) → 0 < low → walk-from f low seen ≡ walk-by (f (low - 1)) (low - 1) seen (λ s. walk-from f (low - 1) s)
 unfolding walk-from
 walk-step f zero seen h = let e : ⊥ = omega arith in absurd e
 walk-step f (suc n) seen h = let e : suc n - 1 ≡ n = omega arith in rw e

@@ -20,7 +20,7 @@ use index_types::SEGMENT_THRESHOLD;
 use spill_rows::Read;
 
 // What a row shows that has no entry to take.
-fn look_past(first: u64, target: u64, seen: bool) -> Look
+pub fn look_past(first: u64, target: u64, seen: bool) -> Look
     ensures { λ r. ⌜ r ≡ look-past (ltb first target) seen ⌝ }
 {
     if first < target {
@@ -82,7 +82,8 @@ fn look_at<'a>(
     }
 }
 
-fn either(a: bool, b: bool) -> bool
+// Whether one of two tests passed.
+pub fn either(a: bool, b: bool) -> bool
     ensures { λ r. ⌜ r ≡ (a || b) ⌝ }
 {
     if a { true } else { b }

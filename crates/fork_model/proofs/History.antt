@@ -53,7 +53,7 @@ module _ (M : Machine) (U : Series → ℕ → Type 0) (Good Tidy : M .Store →
   tidy-call calls σ m t = t
   tidy-call undos σ m t = absurd m
 
-  first : (ss : List Step) (c : Conf) (ch : Series) (s : ℕ) → Mc.Needs M c ch s → Mc.InUse M c ss ch s
+  pub first : (ss : List Step) (c : Conf) (ch : Series) (s : ℕ) → Mc.Needs M c ch s → Mc.InUse M c ss ch s
   unfolding Mc.InUse
   first [] c ch s h = h
   first (x ∷ ss) c ch s h = inl h
@@ -83,10 +83,14 @@ module _ (M : Machine) (U : Series → ℕ → Type 0) (Good Tidy : M .Store →
         record { holds = Hd.hold-append M U Good Tidy GoodB (I .holds) a; tidy = a .tidy; rules = R; typed = (v, I .typed) }
     call-append c ch n (refused-leaving k τ) v e I m R C = inv-refused c (Mc.stored M (c .now) τ) (store-left M (c .now) (append-store (c .now .store) ch n) k τ (L .leaves .appends (c .now .store) ch n) e) I m
 
+    -- the numbers of a parent's boxes do not fall
+    pub in-order : (c : Conf) → Inv c → (p : Parent) → Op.InOrder M (c .now .store) p
+    in-order c I p = subst Sorted (sym (I .holds .numbers (boxes p))) (sorted-nums (c .standing) p (I .rules))
+
     call-spend : (c : Conf) (p : Parent) (t : ℤ) (r : Made Store Store) → mag t < limit → spend-store (c .now .store) p t ≡ r → Inv c → MayCall (c .phase)
         → Inv (Mc.after-call M c (spend p t) (Mc.with-store M (c .now) r))
     call-spend c p t (accepted τ) v e I m =
-        let a = L .spend-ok (c .now .store) p t τ (I .holds .good) (ap result-of e) in
+        let a = L .spend-ok (c .now .store) p t τ (I .holds .good) (in-order c I p) (ap result-of e) in
         record { holds = Hd.hold-spend M U Good Tidy GoodB (I .holds) a; tidy = a .tidy (tidy-call (c .phase) (c .now .store) m (I .tidy)); rules = (tt, I .rules); typed = (v, I .typed) }
     call-spend c p t (refused-leaving k τ) v e I m = inv-refused c (Mc.stored M (c .now) τ) (store-left M (c .now) (spend-store (c .now .store) p t) k τ (L .leaves .spends (c .now .store) p t) e) I m
 
@@ -133,7 +137,7 @@ module _ (M : Machine) (U : Series → ℕ → Type 0) (Good Tidy : M .Store →
 
     undo-spend : (c : Conf) (p : Parent) (t : ℤ) (cs : List Call) (r : Made Store Store) → unspend-store (c .now .store) p t ≡ r → At c (spend p t) cs → Undid c (spend p t) cs (Mc.quiet M (Mc.with-store M (c .now) r))
     undo-spend c p t cs (accepted τ) e A =
-        let a = L .unspend-ok (c .now .store) p t τ (A .0 .good) (ap result-of e) in
+        let a = L .unspend-ok (c .now .store) p t τ (A .0 .good) (subst Sorted (sym (A .0 .numbers (boxes p))) (sorted-nums cs p (A .1 .1))) (ap result-of e) in
         record { inv = record { holds = Hd.hold-unspend M U Good Tidy GoodB (A .0) a; tidy = tt; rules = A .1 .1; typed = A .3 .1 }; answer = refl }
     undo-spend c p t cs (refused-leaving k τ) e A = record {
       inv = kept c (Mc.stored M (c .now) τ) (spend p t) cs (store-left M (c .now) (unspend-store (c .now .store) p t) k τ (L .leaves .unspends (c .now .store) p t) e) A;
@@ -200,7 +204,7 @@ module _ (M : Machine) (U : Series → ℕ → Type 0) (Good Tidy : M .Store →
 
     call-25 : (c : Conf) (a : Call) → Inv c → Mc.Args limit a → Mc.answer-to M c (call a) ≡ refused 25 → ⊥
     call-25 c (append ch n) I v = store-25 (c .now) (append-store (c .now .store) ch n) (L .append-25 (c .now .store) ch n (I .holds .good))
-    call-25 c (spend p t) I v = store-25 (c .now) (spend-store (c .now .store) p t) (L .spend-25 (c .now .store) p t (I .holds .good))
+    call-25 c (spend p t) I v = store-25 (c .now) (spend-store (c .now .store) p t) (L .spend-25 (c .now .store) p t (I .holds .good) (in-order c I p))
     call-25 c (credit p n ts) I v = balance-25 (c .now) p (add (c .now .bals p) n ts) (L .add-25 (c .now .bals p) n ts (I .holds .good-balance p) (v .1))
     call-25 c (debit p n ts) I v = balance-25 (c .now) p (sub (c .now .bals p) n ts) (L .sub-25 (c .now .bals p) n ts (I .holds .good-balance p) (v .1))
 

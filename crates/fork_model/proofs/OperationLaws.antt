@@ -14,7 +14,15 @@ use Rattle.fork_model.proofs.Paid as Pd
 use Rattle.fork_model.proofs.EntryLaws.{Flip, Sorted}
 
 module _ (M : Machine) where
-  open Machine M using (Bal, nano-of, amount-of)
+  open Machine M using (Store, entries, Bal, nano-of, amount-of)
+
+  -- the numbers of a parent's boxes do not fall, as the history rules have it
+  abbrev pub InOrder : Store → Parent → Type 0
+  InOrder σ p = Sorted (map absℤ (entries σ (boxes p)))
+
+  -- one number more: every row that it may make is in U
+  abbrev pub Covers : (Series → ℕ → Type 0) → Store → Series → Type 0
+  Covers U σ ch = (s : ℕ) → M .row-size * suc s < suc (length (entries σ ch)) → U ch s
 
   -- the balances of a machine
   abbrev pub Grew : Bal → ℤ → Tokens → Bal → Type 0
@@ -69,17 +77,17 @@ module _ (M : Machine) (U : Series → ℕ → Type 0) (Good Tidy : M .Store →
     pub empty-tidy : Tidy empty
     pub empty-entries : (ch : Series) → entries empty ch ≡ []
     pub append-ok : (σ : Store) (ch : Series) (n : ℤ) (τ : Store) → Good σ → Tidy σ → mag n < limit → result-of (append-store σ ch n) ≡ done τ
-        → ((s : ℕ) → row-size * suc s < suc (length (entries σ ch)) → U ch s) → Appended Store entries Good Tidy σ ch n τ
+        → Covers M U σ ch → Appended Store entries Good Tidy σ ch n τ
     pub pop-ok : (σ : Store) (ch : Series) (r : Popped Store) → Good σ → result-of (pop-store σ ch) ≡ done r → PoppedOff Store entries Good Tidy σ ch (r .value) (r .left)
     pub pop-no : (σ : Store) (ch : Series) (k : ℕ) → Good σ → entries σ ch ≢ [] → result-of (pop-store σ ch) ≡ refused k → (k ≡ 21) × DeletionFull σ
-    pub spend-ok : (σ : Store) (p : Parent) (t : ℤ) (τ : Store) → Good σ → result-of (spend-store σ p t) ≡ done τ → Spent Store entries Good Tidy σ p t τ
-    pub unspend-ok : (σ : Store) (p : Parent) (t : ℤ) (τ : Store) → Good σ → result-of (unspend-store σ p t) ≡ done τ → Unspent Store entries Good Tidy σ p t τ
-    pub unspend-no : (σ : Store) (p : Parent) (t : ℤ) (k : ℕ) → Good σ → Sorted (map absℤ (entries σ (boxes p))) → List·Memᴰ (negℤ (absℤ t)) (entries σ (boxes p))
+    pub spend-ok : (σ : Store) (p : Parent) (t : ℤ) (τ : Store) → Good σ → InOrder M σ p → result-of (spend-store σ p t) ≡ done τ → Spent Store entries Good Tidy σ p t τ
+    pub unspend-ok : (σ : Store) (p : Parent) (t : ℤ) (τ : Store) → Good σ → InOrder M σ p → result-of (unspend-store σ p t) ≡ done τ → Unspent Store entries Good Tidy σ p t τ
+    pub unspend-no : (σ : Store) (p : Parent) (t : ℤ) (k : ℕ) → Good σ → InOrder M σ p → List·Memᴰ (negℤ (absℤ t)) (entries σ (boxes p))
         → result-of (unspend-store σ p t) ≡ refused k → (k ≡ 16) × StagingFull σ
     pub flush-ok : (σ τ : Store) → Good σ → result-of (flush-store σ) ≡ done τ → Flushed Store entries Good Tidy σ τ
     -- 25 does not arise
     pub append-25 : (σ : Store) (ch : Series) (n : ℤ) → Good σ → result-of (append-store σ ch n) ≡ refused 25 → ⊥
-    pub spend-25 : (σ : Store) (p : Parent) (t : ℤ) → Good σ → result-of (spend-store σ p t) ≡ refused 25 → ⊥
+    pub spend-25 : (σ : Store) (p : Parent) (t : ℤ) → Good σ → InOrder M σ p → result-of (spend-store σ p t) ≡ refused 25 → ⊥
     pub flush-25 : (σ : Store) → Good σ → result-of (flush-store σ) ≡ refused 25 → ⊥
     pub add-25 : (b : Bal) (n : ℤ) (ts : Tokens) → GoodB b → Typed ts → result-of (add b n ts) ≡ refused 25 → ⊥
     pub sub-25 : (b : Bal) (n : ℤ) (ts : Tokens) → GoodB b → Typed ts → result-of (sub b n ts) ≡ refused 25 → ⊥

@@ -89,14 +89,14 @@ module _ (E : St.Env) (B : Balances) where
       append-ok = λ σ ch n τ G t v e u. Al.append-ok E code U apart σ ch n τ G t v (sym (result-keeping σ (St.append-store E σ ch n)) ∙ e) u;
       pop-ok = λ σ ch r G e. Pl.pop-ok E code U apart σ ch r G (sym (result-keeping σ (St.pop-store E σ ch)) ∙ e);
       pop-no = λ σ ch k G n e. Pl.pop-no E code U apart σ ch k G n (sym (result-keeping σ (St.pop-store E σ ch)) ∙ e);
-      spend-ok = λ σ p t τ G e. let a = Fl.guard-ok E code U apart σ (boxes p) (pos (natAbs t)) t τ G (sym (result-keeping σ (St.spend-store E σ p t)) ∙ e) in
+      spend-ok = λ σ p t τ G S e. let a = Fl.guard-ok E code U apart σ (boxes p) (pos (natAbs t)) t τ G (sym (result-keeping σ (St.spend-store E σ p t)) ∙ e) in
           record { good = a .good; tidy = a .tidy; flip = Se.flip-of-split (natAbs t) (a .split); beside = a .beside };
-      unspend-ok = λ σ p t τ G e. let a = Fl.guard-ok E code U apart σ (boxes p) (negℤ (pos (natAbs t))) t τ G (sym (result-keeping σ (St.unspend-store E σ p t)) ∙ e) in
+      unspend-ok = λ σ p t τ G S e. let a = Fl.guard-ok E code U apart σ (boxes p) (negℤ (pos (natAbs t))) t τ G (sym (result-keeping σ (St.unspend-store E σ p t)) ∙ e) in
           record { good = a .good; flip = Se.unflip-of-split (natAbs t) (a .split); beside = a .beside };
       unspend-no = λ σ p t k G S m e. Fl.guard-no E code U apart σ (boxes p) (negℤ (pos (natAbs t))) t k G (Se.sorted-unmap (St.entries E σ (boxes p)) S) (Gs.abs-neg (pos (natAbs t))) m (sym (result-keeping σ (St.unspend-store E σ p t)) ∙ e);
       flush-ok = λ σ τ G e. Fu.flush-ok E code U apart σ τ G (sym (result-keeping σ (St.flush-store E σ)) ∙ e);
       append-25 = λ σ ch n G e. Co.never (St.append-store E σ ch n) (Co.append-not E code U σ G ch n) (sym (result-keeping σ (St.append-store E σ ch n)) ∙ e);
-      spend-25 = λ σ p t G e. Co.never (St.spend-store E σ p t) (Co.spend-not E code U σ G p t) (sym (result-keeping σ (St.spend-store E σ p t)) ∙ e);
+      spend-25 = λ σ p t G S e. Co.never (St.spend-store E σ p t) (Co.spend-not E code U σ G p t) (sym (result-keeping σ (St.spend-store E σ p t)) ∙ e);
       flush-25 = λ σ G e. Co.never (St.flush-store E σ) (Co.flush-not E code U σ G) (sym (result-keeping σ (St.flush-store E σ)) ∙ e);
       add-25 = BL .add-25;
       sub-25 = BL .sub-25;

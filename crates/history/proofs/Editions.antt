@@ -22,7 +22,7 @@ fits : (z : ℤ) → natAbs z < 9223372036854775808 → SFits w64 z
 fits (pos n) h = record { sfits = h }
 fits (negsuc n) h = record { sfits = omega arith }
 
-all-fit : (l : List ℤ) → Small l → All64 l
+pub all-fit : (l : List ℤ) → Small l → All64 l
 all-fit [] h = tt
 all-fit (z ∷ l) h = (fits z (h z (List·Memᴰ·head refl)), all-fit l (λ x m. h x (List·Memᴰ·tail m)))
 

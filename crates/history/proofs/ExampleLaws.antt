@@ -7,7 +7,7 @@ use lib.IntN.{ℤ, pos}
 use lib.ListN.{length, replicate, length-replicate}
 use Rattle.index_types.specs.declared.RowEdition.{RowEdition}
 use Rattle.buffer_core.specs.Edition.{edition-of, record-size}
-use Rattle.ledger.specs.Ledger.{Parent, boxes, absℤ, ledger-numbers, ledger-spent, Call}
+use Rattle.ledger.specs.Ledger.{Parent, Series, boxes, absℤ, ledger-numbers, ledger-spent, Call}
 use Rattle.ledger.specs.Run.{negs, Machine, Conf, Legal, InUse, KeysApart, StepsOk, Agrees, start, run}
 use Rattle.balance.specs.declared.Balance.{Balance}
 use Rattle.balance_laws.proofs.Laws as Bl
@@ -18,7 +18,7 @@ use Rattle.history.specs.Example.{append-box, appends, across-a-row, lef
 use Rattle.history.proofs.Editions.{edition-laws}
 use Rattle.history.proofs.IndexTheorem as Ix
 use Rattle.history.proofs.ForkUndoLaw.{fork-undo}
-use Rattle.history.proofs.ExampleRules.{numbers-more, numbers-up-to, plain-up-to}
+use Rattle.history.proofs.ExampleRules.{numbers-more, numbers-up-to, plain-up-to, FirstRow}
 use Rattle.history.proofs.ExampleRun as Er
 
 -- in either edition, for all parents' ids and all borrowed buffers in which each list has room for 600 records
@@ -49,8 +49,12 @@ module _ (v : RowEdition) (ids : Parent → List ℕ) (ids-in : (p : Parent) →
   pub example-legal : Legal M (start M) across-a-row
   example-legal = goes .legal
 
+  -- one row key is in use
+  pub example-rows : (ch : Series) (n : ℕ) → InUse M (start M) across-a-row ch n → FirstRow ch n
+  example-rows = goes .rows
+
   pub example-keys-apart : KeysApart M (InUse M (start M) across-a-row)
-  example-keys-apart d e s t u v k = let a = goes .rows d s u in let b = goes .rows e t v in (a .0 ∙ sym (b .0), a .1 ∙ sym (b .1))
+  example-keys-apart d e s t u v k = let a = example-rows d s u in let b = example-rows e t v in (a .0 ∙ sym (b .0), a .1 ∙ sym (b .1))
 
   -- every call and undo was accepted: what stands at the end
   pub example-standing : ended .standing ≡ left-standing

@@ -1,7 +1,7 @@
 -- The run of the example: each of its calls and undos is accepted, because lists with room for 600 records are never full and the arguments are in order.
 use mathlib.Core.Path.{_≡_, refl, sym, _∙_, ap, subst}
 use mathlib.Core.Logic.{_⊎_, inl, inr, ⊎-elim}
-use mathlib.Core.List.{List, [], _∷_, List·Memᴰ, nil≢cons}
+use mathlib.Core.List.{List, [], _∷_, map, List·Memᴰ, nil≢cons}
 use Prim.Native.Nat.{ℕ, zero, suc, _+_, _≤_, _<_}
 use native.Mathlib.Omega.{arith}
 use lib.IntN.{ℤ, pos, negℤ}
@@ -10,10 +10,10 @@ use Rattle.records.specs.Records.{records}
 use Rattle.records.proofs.TurnLaws.{length-keys}
 use Rattle.buffer_core.specs.declared.Direction.the-variants.{Spend, Unspend}
 use Rattle.buffer_core.specs.Edition.{Edition}
-use Rattle.ledger.specs.Ledger.{Parent, Series, boxes, Call, append, spend, ledger-numbers, ledger-spent, Rules}
+use Rattle.ledger.specs.Ledger.{Parent, Series, boxes, absℤ, Call, append, spend, ledger-numbers, ledger-spent, Rules}
 use Rattle.ledger.specs.Run.{Res, done, refused, Made, accepted, refused-leaving, Popped, Phase, clean, calls, undos, Step, call, undo, flush, MayCall, MayUndo}
 use Rattle.ledger.specs.Run as Mc
-use Rattle.fork_model.proofs.EntryLaws.{Sorted, sorted-nums}
+use Rattle.fork_model.proofs.EntryLaws.{Sorted}
 use Rattle.fork_model.proofs.OperationLaws as Op
 use Rattle.fork_model.proofs.Holding.{counted-boxes}
 use Rattle.fork_model.proofs.History as Hi
@@ -64,7 +64,7 @@ module _ (E : Edition) (ids : Parent → List ℕ) (L : EditionLaws E ids) (B : 
   abbrev Tidy : Index → Type 0
   Tidy b = Gs.Tidy W code FirstRow (abs b)
 
-  abbrev sims : Sm.Sims (Ix.M E ids L B s Q) (Ix.N E ids L B s Q) abs (Ix.Inv E ids L B s Q) Good
+  abbrev sims : Sm.Sims (Ix.M E ids L B s Q) (Ix.N E ids L B s Q) abs (Ix.Inv E ids L B s Q) Good FirstRow
   sims = Ix.sims E ids L B s Q FirstRow
 
   laws : Op.Laws M FirstRow Fine Tidy GoodB
@@ -123,6 +123,9 @@ module _ (E : Edition) (ids : Parent → List ℕ) (L : EditionLaws E ids) (B : 
     fine : Fine b
     fine = S .inv .holds .good
 
+    ordered : Op.InOrder (Ix.M E ids L B s Q) (abs b) 0
+    ordered = subst (λ (l : List ℤ). Sorted (map absℤ l)) (sims .shows b (fine .0) (boxes 0)) (Hi.in-order M FirstRow Fine Tidy GoodB laws c (S .inv) 0)
+
     stands-on : (x : Step) (ds : List Call) (g : Phase) (m : ℕ) → Mc.Allowed M c x → (v : Moves c x ds g m) → Rules ds → Within ds → Stands (v .after) ds g m
     stands-on x ds g m a v R w = record {
       inv = subst Inv (v .is) (Hi.one-step M FirstRow Fine Tidy GoodB laws c x (S .inv) a (subst (λ (y : Conf). Rules (y .standing)) (sym (v .is)) R)
@@ -149,7 +152,7 @@ module _ (E : Edition) (ids : Parent → List ℕ) (L : EditionLaws E ids) (B : 
 
       append-moves : (m : ℕ) → Moves c (call (append-box m)) (append-box m ∷ cs) calls (suc n)
       append-moves m =
-          let a = goes-well abs (do-append E ids b (boxes 0) (pos m)) (St.append-store W (abs b) (boxes 0) (pos m)) (sims .append b (boxes 0) (pos m) (fine .0) (fine .1) .same ∙ result-keeping (abs b) _)
+          let a = goes-well abs (do-append E ids b (boxes 0) (pos m)) (St.append-store W (abs b) (boxes 0) (pos m)) (Ix.append-does E ids L B s Q FirstRow b (boxes 0) (pos m) (fine .0) (fine .1) ∙ result-keeping (abs b) _)
           (λ k e. Ro.append-accepted W code (abs b) (boxes 0) m k count-small staged-few e) in
           record {
             after = record { store = a .0; bals = σ .bals };
@@ -173,9 +176,8 @@ module _ (E : Edition) (ids : Parent → List ℕ) (L : EditionLaws E ids) (B : 
           let seen = sims .shows b (fine .0) (boxes 0) in
           let held = S .inv .holds .numbers (boxes 0) in
           let there = unspent-entry m (entries-of E ids b (boxes 0)) (subst (List·Memᴰ (pos m)) (sym held) t) (S .inv .holds .copies (boxes 0) m p ∙ counted-boxes cs 0 m ∙ z) in
-          let sorted = Se.sorted-unmap (entries-of E ids b (boxes 0)) (subst Sorted (sym held) (sorted-nums cs 0 (S .inv .rules))) in
-          let a = goes-well abs (do-flip E ids Spend b 0 (pos m)) (St.spend-store W (abs b) 0 (pos m)) (sims .spend b 0 (pos m) (fine .0) (fine .1) .same ∙ result-keeping (abs b) _)
-          (λ k e. omega (arith, staged-few, Fl.guard-no W code FirstRow apart (abs b) (boxes 0) (pos m) (pos m) k (fine .1) (subst Sorted seen sorted) refl (subst (List·Memᴰ (pos m)) seen there) e .1)) in
+          let a = goes-well abs (do-flip E ids Spend b 0 (pos m)) (St.spend-store W (abs b) 0 (pos m)) (sims .spend b 0 (pos m) (fine .0) (fine .1) ordered .same ∙ result-keeping (abs b) _)
+          (λ k e. omega (arith, staged-few, Fl.guard-no W code FirstRow apart (abs b) (boxes 0) (pos m) (pos m) k (fine .1) (Se.sorted-unmap (St.entries W (abs b) (boxes 0)) ordered) refl (subst (List·Memᴰ (pos m)) seen there) e .1)) in
           record {
             after = record { store = a .0; bals = σ .bals };
             is = ap (λ (x : Made Index Index). Mc.after-call M c (spend 0 (pos m)) (Mc.with-store M σ x)) (a .1);
@@ -214,7 +216,7 @@ module _ (E : Edition) (ids : Parent → List ℕ) (L : EditionLaws E ids) (B : 
         after = record { store = d; bals = σ .bals };
         is = ap (λ (y : Made Index Index). Mc.after-undo M (conf σ (spend 0 (pos m) ∷ cs) f) cs (Mc.quiet M (Mc.with-store M σ y))) e;
         room = Ro.flip-room W code (abs (σ .store)) (boxes 0) (negℤ (pos m)) n (S .room) (abs d) (pos m)
-            (Sm.map-keeps-done abs (result-of (do-flip E ids Unspend (σ .store) 0 (pos m))) d (St.unspend-store W (abs (σ .store)) 0 (pos m)) (sims .unspend (σ .store) 0 (pos m) (fit .0) (fit .1) .same ∙ result-keeping (abs (σ .store)) _) (ap result-of e));
+            (Sm.map-keeps-done abs (result-of (do-flip E ids Unspend (σ .store) 0 (pos m))) d (St.unspend-store W (abs (σ .store)) 0 (pos m)) (sims .unspend (σ .store) 0 (pos m) (fit .0) (fit .1) (ordered σ (spend 0 (pos m) ∷ cs) f n S) .same ∙ result-keeping (abs (σ .store)) _) (ap result-of e));
       }
 
   -- ---- the steps in turn

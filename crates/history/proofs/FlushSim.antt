@@ -184,6 +184,36 @@ module _ (E : Edition) (ids : Parent → List ℕ) (L : EditionLaws E ids) (dels
         cap = a .cap ∙ capacity-without f (t .counts);
       }
 
+-- ---- the table after a flush of lists that pass 25
+module _ (E : Edition) (ids : Parent → List ℕ) (L : EditionLaws E ids) (x : Lists) (lf : ListsFit E x) where
+  abbrev rs : List (List ℕ)
+  rs = records (E .size) (x .staged-counts .count) (x .staged)
+
+  -- room for the keys that are new
+  abbrev pub Room : Type 0
+  Room = new-keys E x ≤ x .table-counts .capacity - x .table-counts .count
+
+  stored : AllStored E rs
+  stored = all-stored E rs (λ i h. record-sized (E .size) (x .staged-counts .count) i (x .staged) (lf .in-staged .bounds .within) (omega (arith, length-records (E .size) (x .staged-counts .count) (x .staged))))
+      (lf .in-staged .lengths)
+
+  puts : Room → AllDoes E ids L (deleted-keys E x) rs (listed (x .table-counts) (x .table)) (put-undeleted E (deleted-keys E x) rs (listed (x .table-counts) (x .table)))
+  puts h = put-all-does E ids L (deleted-keys E x) rs (listed (x .table-counts) (x .table)) stored (lf .in-table) (omega (arith, lf .in-table .bounds .counted))
+
+  gone : Room → GoneDoes E ids L (deleted-keys E x) (deleted-keys E x) (put-undeleted E (deleted-keys E x) rs (listed (x .table-counts) (x .table))) (table-after E x)
+  unfolding table-after
+  gone h = remove-all-does E ids L (deleted-keys E x) (deleted-keys E x) (put-undeleted E (deleted-keys E x) rs (listed (x .table-counts) (x .table))) (puts h .keeps)
+
+  pub table-same : Room → tab (records (E .size) (table-after E x .counts .count) (table-after E x .bytes))
+      ≡ remove-all (deleted-keys E x) (write-all (tab rs) (deleted-keys E x) (tab (records (E .size) (x .table-counts .count) (x .table))))
+  table-same h = gone h .same ∙ ap (remove-all (deleted-keys E x)) (puts h .same)
+
+  pub table-fits : Room → RecordsOk (E .size) (E .limit) (table-after E x .counts) (table-after E x .bytes)
+  table-fits h = gone h .keeps
+
+  pub table-capacity : Room → table-after E x .counts .capacity ≡ x .table-counts .capacity
+  table-capacity h = gone h .cap ∙ puts h .cap
+
 -- ---- the flush
 module _ (E : Edition) (ids : Parent → List ℕ) (L : EditionLaws E ids) (caps : Capacities) where
   abbrev W : St.Env
@@ -214,25 +244,10 @@ module _ (E : Edition) (ids : Parent → List ℕ) (L : EditionLaws E ids) (caps
       fresh-is (records (E .size) (x .staged-counts .count) (x .staged)) (deleted-keys E x) (records (E .size) (x .table-counts .count) (x .table)),
     )
 
-    abbrev rs : List (List ℕ)
-    rs = records (E .size) (x .staged-counts .count) (x .staged)
-
-    stored : AllStored E rs
-    stored = all-stored E rs (λ i h. record-sized (E .size) (x .staged-counts .count) i (x .staged) (lf .in-staged .bounds .within) (omega (arith, length-records (E .size) (x .staged-counts .count) (x .staged))))
-        (lf .in-staged .lengths)
-
-    puts : new ≤ x .table-counts .capacity - x .table-counts .count → AllDoes E ids L (deleted-keys E x) rs (listed (x .table-counts) (x .table)) (put-undeleted E (deleted-keys E x) rs (listed (x .table-counts) (x .table)))
-    puts h = put-all-does E ids L (deleted-keys E x) rs (listed (x .table-counts) (x .table)) stored (lf .in-table) (omega (arith, lf .in-table .bounds .counted))
-
-    gone : new ≤ x .table-counts .capacity - x .table-counts .count
-        → GoneDoes E ids L (deleted-keys E x) (deleted-keys E x) (put-undeleted E (deleted-keys E x) rs (listed (x .table-counts) (x .table))) (table-after E x)
-    unfolding table-after
-    gone h = remove-all-does E ids L (deleted-keys E x) (deleted-keys E x) (put-undeleted E (deleted-keys E x) rs (listed (x .table-counts) (x .table))) (puts h .keeps)
-
     done-same : new ≤ x .table-counts .capacity - x .table-counts .count → map-res abs (end (flushed E x)) ≡ done (St.flushed W (abs b))
     unfolding flushed records
     done-same h =
-        let e = gone h .same ∙ ap (remove-all (deleted-keys E x)) (puts h .same) in
+        let e = table-same E ids L x lf h in
         ap (λ (t : Table). done (record { heads = abs b .heads; counts = abs b .counts; staging = []; table = t; deletion = [] })) e
 
     by-room : (t : Bool) → leb new (x .table-counts .capacity - x .table-counts .count) ≡ t → map-res abs (end (cond t (flushed E x) refuse)) ≡ St.flush-store W (abs b)
@@ -263,10 +278,10 @@ module _ (E : Edition) (ids : Parent → List ℕ) (L : EditionLaws E ids) (caps
           spills-in = I .spills-in;
           lists-in = fit-lists E y (record {
             in-staged = records-ok-after-clear (E .size) (E .limit) (x .staged-counts) (x .staged) (lf .in-staged .bounds .room);
-            in-table = gone h .keeps;
+            in-table = table-fits E ids L x lf h;
             in-deleted = keys-ok-after-clear (x .deleted-counts) (x .deleted) (lf .in-deleted .bounds .room);
           });
-          table-at = gone h .cap ∙ puts h .cap ∙ I .table-at;
+          table-at = table-capacity E ids L x lf h ∙ I .table-at;
           staged-at = I .staged-at;
           deleted-at = I .deleted-at;
         })

@@ -18,13 +18,13 @@ use Rattle.history.proofs.Editions.{edition-laws}
 use Rattle.history.proofs.IndexTheorem as Ix
 
 module _ (E : Edition) (ids : Parent → List ℕ) (L : EditionLaws E ids) (B : Borrowed E) (s : Parent → Places) where
-  abbrev Q : Wh.Balances
+  abbrev pub Q : Wh.Balances
   Q = Bl.balances (λ p. s p .ids) (λ p. s p .amounts) (λ p. s p .ids-in) (λ p. s p .amounts-in)
 
-  abbrev GoodB : Balance → Type 0
+  abbrev pub GoodB : Balance → Type 0
   GoodB b = Bl.Good (λ p. s p .ids) (λ p. s p .amounts) (λ p. s p .ids-in) (λ p. s p .amounts-in) b
 
-  balance-laws : Wh.BalanceLaws (Ix.W E ids L B s Q) Q GoodB
+  pub balance-laws : Wh.BalanceLaws (Ix.W E ids L B s Q) Q GoodB
   balance-laws = Bl.laws (λ p. s p .ids) (λ p. s p .amounts) (λ p. s p .ids-in) (λ p. s p .amounts-in) (Ix.W E ids L B s Q)
 
 -- shown a single time, with the edition as a parameter

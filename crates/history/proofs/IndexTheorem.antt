@@ -21,7 +21,7 @@ use Rattle.fork_model.proofs.Store as St
 use Rattle.fork_model.proofs.GoodStore as Gs
 use Rattle.fork_model.proofs.FlushLaws as Fl
 use Rattle.fork_model.proofs.Whole as Wh
-use Rattle.fork_model.proofs.Results.{result-of, result-keeping}
+use Rattle.fork_model.proofs.Results.{map-res, result-of, result-keeping}
 use Rattle.history.specs.Index.{Index, kind-of, id-of, to-res, do-flush}
 use Rattle.history.specs.Machine.{Borrowed, none-of, start}
 use Rattle.history.specs.ForkUndo.{Places, index-machine}
@@ -95,7 +95,15 @@ module _ (E : Edition) (ids : Parent → List ℕ) (L : EditionLaws E ids) (B : 
     deleted-at = refl;
   }
 
-  pub sims : (U : Series → ℕ → Type 0) → Sm.Sims M N abs Inv (Gs.Good W code U)
+  -- an append in bytes does what an append to the tables does
+  pub append-does : (U : Series → ℕ → Type 0) (b : Index) (ch : Series) (n : ℤ) → Inv b → Gs.Good W code U (abs b)
+      → map-res abs (result-of (N .append-store b ch n)) ≡ result-of (M .append-store (abs b) ch n)
+  append-does U b ch n I G = Ap.append-same E ids L caps b ch I (G .small ch) n ∙ sym (result-keeping (abs b) (St.append-store W (abs b) ch n))
+
+  pub flush-does : (U : Series → ℕ → Type 0) (b : Index) → Inv b → Gs.Good W code U (abs b) → map-res abs (result-of (N .flush-store b)) ≡ St.flush-store W (abs b)
+  flush-does U b I G = Fu.flush-same E ids L caps b I
+
+  pub sims : (U : Series → ℕ → Type 0) → Sm.Sims M N abs Inv (Gs.Good W code U) U
   sims U = record {
     leaves = refusals-leave E ids B s;
     start = start-same;
@@ -103,22 +111,23 @@ module _ (E : Edition) (ids : Parent → List ℕ) (L : EditionLaws E ids) (B : 
     shows = λ b I ch. Po.shows E ids caps b ch;
     staging-full = λ b I h. omega (arith, length-table (E .size) (b .lists .staged-counts .count) (b .lists .staged), I .staged-at);
     deletion-full = λ b I h. omega (arith, length-keys 32 (b .lists .deleted-counts .count) (b .lists .deleted), I .deleted-at);
-    append = λ b ch n I G. record {
-      same = Ap.append-same E ids L caps b ch I (G .small ch) n ∙ sym (result-keeping (abs b) (St.append-store W (abs b) ch n));
-      keeps = λ d e. Ap.append-inv E ids L caps b ch I (G .small ch) n d e;
-    };
+    append = λ b ch n d I G u e. (
+      Sm.map-keeps-done abs (result-of (N .append-store b ch n)) d (result-of (M .append-store (abs b) ch n)) (append-does U b ch n I G) e,
+      Ap.append-inv E ids L caps b ch I (G .small ch) n d e,
+    );
+    append-25 = λ b ch n I G e. Sm.map-keeps-refused abs (result-of (N .append-store b ch n)) 25 (result-of (M .append-store (abs b) ch n)) (append-does U b ch n I G) e;
     pop = λ b ch I G. record {
       same = Po.pop-same E ids L caps b ch I ∙ sym (result-keeping (abs b) (St.pop-store W (abs b) ch));
       keeps = λ d e. Po.pop-inv E ids L caps b ch I d e;
     };
-    spend = λ b p t I G.
+    spend = λ b p t I G o.
         let D = Fp.spend-does E ids L caps b p I (G .small (boxes p)) (G .full (boxes p)) t in
         record { same = D .same ∙ sym (result-keeping (abs b) (St.spend-store W (abs b) p t)); keeps = D .keeps };
-    unspend = λ b p t I G.
+    unspend = λ b p t I G o.
         let D = Fp.unspend-does E ids L caps b p I (G .small (boxes p)) (G .full (boxes p)) t in
         record { same = D .same ∙ sym (result-keeping (abs b) (St.unspend-store W (abs b) p t)); keeps = D .keeps };
     flush = λ b I G. record {
-      same = Fu.flush-same E ids L caps b I ∙ sym (result-keeping (abs b) (St.flush-store W (abs b)));
+      same = flush-does U b I G ∙ sym (result-keeping (abs b) (St.flush-store W (abs b)));
       keeps = λ d e. Fu.flush-inv E ids L caps b I d e;
     };
   }
@@ -134,10 +143,10 @@ module _ (E : Edition) (ids : Parent → List ℕ) (L : EditionLaws E ids) (B : 
   machine = Sm.lower M N
 
   pub index-theorem : (GoodB : Q .Bal → Type 0) → Wh.BalanceLaws W Q GoodB → Mc.ForkUndo machine
-  index-theorem GoodB laws = Sm.fork-undo M N abs Inv (Gs.Tidy W code (λ ch s. ⊥)) (Gs.Good W code) GoodB (Wh.store-laws W Q code GoodB laws) sims
+  index-theorem GoodB laws = Sm.fork-undo M N abs Inv (Gs.Tidy W code (λ ch s. ⊥)) (Gs.Good W code) GoodB (Wh.store-laws W Q code GoodB laws) (λ U k. sims U)
 
   pub index-never-25 : (GoodB : Q .Bal → Type 0) → Wh.BalanceLaws W Q GoodB → Mc.Never25 machine
-  index-never-25 GoodB laws = Sm.never-25 M N abs Inv (Gs.Tidy W code (λ ch s. ⊥)) (Gs.Good W code) GoodB (Wh.store-laws W Q code GoodB laws) sims
+  index-never-25 GoodB laws = Sm.never-25 M N abs Inv (Gs.Tidy W code (λ ch s. ⊥)) (Gs.Good W code) GoodB (Wh.store-laws W Q code GoodB laws) (λ U k. sims U)
 
   -- ---- what holds after a legal list
   sound-of : (U : Series → ℕ → Type 0) (b : Index) → Inv b → Gs.Good W code U (abs b) → Sound E ids b
@@ -151,8 +160,8 @@ module _ (E : Edition) (ids : Parent → List ℕ) (L : EditionLaws E ids) (B : 
   module _ (GoodB : Q .Bal → Type 0) (laws : Wh.BalanceLaws W Q GoodB) (ss : List Mc.Step) (l : Mc.Legal machine (Mc.start machine) ss) (k : Mc.KeysApart machine (Mc.InUse machine (Mc.start machine) ss)) where
     pub index-sound : Sound E ids (Mc.run machine (Mc.start machine) ss .now .store)
     index-sound =
-        let f = Sm.fine-after M N abs Inv (Gs.Tidy W code (λ ch s. ⊥)) (Gs.Good W code) GoodB (Wh.store-laws W Q code GoodB laws) sims ss l k in
+        let f = Sm.fine-after M N abs Inv (Gs.Tidy W code (λ ch s. ⊥)) (Gs.Good W code) GoodB (Wh.store-laws W Q code GoodB laws) (λ U k. sims U) ss l k in
         sound-of (Mc.InUse machine (Mc.start machine) ss) (Mc.run machine (Mc.start machine) ss .now .store) (f .0) (f .1)
 
     pub index-balances : (p : Parent) → GoodB (Mc.run machine (Mc.start machine) ss .now .bals p)
-    index-balances = Sm.balances-after M N abs Inv (Gs.Tidy W code (λ ch s. ⊥)) (Gs.Good W code) GoodB (Wh.store-laws W Q code GoodB laws) sims ss l k
+    index-balances = Sm.balances-after M N abs Inv (Gs.Tidy W code (λ ch s. ⊥)) (Gs.Good W code) GoodB (Wh.store-laws W Q code GoodB laws) (λ U k. sims U) ss l k

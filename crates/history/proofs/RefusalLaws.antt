@@ -39,6 +39,7 @@ same-part f ch d (no n) = refl
 put-back : (b : Index) (ch : Series) → index (set-part (b .parts) ch (b .parts ch)) (b .lists) ≡ b
 put-back b ch = ap (λ (f : Series → Part). index f (b .lists)) (fun-ext (λ d. same-part (b .parts) ch d (series-dec ch d)))
 
+-- ---- from what a definition leaves to what the index is
 module _ (b : Index) where
   -- the same head and the same lists, put back beside the counts that a refusal keeps
   abbrev put-anew : Series → List ℤ → (staged deleted : List ℕ) → Index
@@ -50,22 +51,22 @@ module _ (b : Index) where
       → put-anew ch head staged deleted ≡ b
   anew ch e f g = (λ i. put-anew ch (e i) (f i) (g i)) ∙ put-back b ch
 
-  append-by : (ch : Series) (a : Appended) (head : List ℤ) (staged : List ℕ) → AppendSame (b .parts ch .places) (b .lists .staged) (appending a head staged)
+  pub append-by : (ch : Series) (a : Appended) (head : List ℤ) (staged : List ℕ) → AppendSame (b .parts ch .places) (b .lists .staged) (appending a head staged)
       → Leaves b (after-append b ch a head staged)
   append-by ch (appended.Done h c) head staged same = tt
   append-by ch (appended.Refused code) head staged same = let e = same code refl in anew ch (e .0) (e .1) refl
 
-  pop-by : (ch : Series) (a : Popped) (head : List ℤ) (staged deleted : List ℕ) → PopSame (b .parts ch .places) (b .lists) (popping a head staged deleted)
+  pub pop-by : (ch : Series) (a : Popped) (head : List ℤ) (staged deleted : List ℕ) → PopSame (b .parts ch .places) (b .lists) (popping a head staged deleted)
       → Leaves b (after-pop b ch a head staged deleted)
   pop-by ch (popped.Number n h c d) head staged deleted same = tt
   pop-by ch (popped.Refused code) head staged deleted same = let e = same code refl in anew ch (e .0) (e .1) (e .2)
 
-  flip-by : (p : Parent) (a : Flipped) (head : List ℤ) (staged : List ℕ) → FlipSame (b .parts (boxes p) .places) (b .lists .staged) (flipping a head staged)
+  pub flip-by : (p : Parent) (a : Flipped) (head : List ℤ) (staged : List ℕ) → FlipSame (b .parts (boxes p) .places) (b .lists .staged) (flipping a head staged)
       → Leaves b (after-flip b (boxes p) a head staged)
   flip-by p (flipped.Done c) head staged same = tt
   flip-by p (flipped.Refused code) head staged same = let e = same code refl in anew (boxes p) (e .0) (e .1) refl
 
-  flush-by : (a : Flushed) (table staged deleted : List ℕ) → FlushSame (b .lists) (flushing a table staged deleted) → Leaves b (after-flush b a table staged deleted)
+  pub flush-by : (a : Flushed) (table staged deleted : List ℕ) → FlushSame (b .lists) (flushing a table staged deleted) → Leaves b (after-flush b a table staged deleted)
   flush-by (flushed.Done t c d) table staged deleted same = tt
   flush-by (flushed.Refused code) table staged deleted same =
       let e = same code refl in

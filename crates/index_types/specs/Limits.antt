@@ -1,4 +1,4 @@
--- The limits of document 01, each once.
+-- The limits of documents 01 and 02, each once.
 use Prim.Native.Nat.{ℕ}
 
 -- "A head holds at most 512": so many numbers stand in a head, and in each list of a row, at most
@@ -19,3 +19,7 @@ token-id-bytes = 4096
 -- the most bytes of an address record
 abbrev pub address-limit : ℕ
 address-limit = 15675
+
+-- document 02, U8: "a line of five unsigned 64-bit numbers"
+abbrev pub summary-line : ℕ
+summary-line = 5

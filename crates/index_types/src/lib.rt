@@ -16,6 +16,9 @@ pub const TOKEN_ID_BYTES: usize = 4096;
 // The most bytes of an address record.
 pub const ADDRESS_LIMIT: usize = 15675;
 
+// The numbers in a line of a summary.
+pub const SUMMARY_LINE: usize = 5;
+
 // ---- types
 
 // An edition of the spill rows. The second writes the parent, the kind and the spill number before the body.
@@ -80,6 +83,12 @@ pub struct Tally {
 // The figures of a tally.
 pub enum Tallied {
     Counts(Tally),
+    Refused(u8),
+}
+
+// A summary was made afresh.
+pub enum Summarized {
+    Done,
     Refused(u8),
 }
 

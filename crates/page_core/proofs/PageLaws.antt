@@ -7,11 +7,8 @@ use native.Mathlib.Nat.{sub-zero}
 use lib.IntN.{ℤ, pos}
 use lib.ListN.{length, take, replicate}
 use Rattle.stores.specs.Stores.{write}
-use Rattle.index_types.specs.declared.Tally.{Tally}
 use Rattle.entries.specs.Unspent.{unspent-newest-first, stretch, page-places}
 use Rattle.entries.proofs.UnspentLaws.{newest-append, newest-none}
-use Rattle.index_types.specs.declared.Tallied.{Tallied}
-use Rattle.index_types.specs.declared.Tallied.the-variants as tallied
 use Rattle.index_types.specs.declared.Paged.the-variants.{Numbers, Refused}
 use Rattle.buffer_core.specs.Edition.{RowRead, good, bad}
 use Rattle.buffer_core.specs.Rows.{then-rows, rows-up}
@@ -20,8 +17,6 @@ use Rattle.spill_rows.specs.declared.Read.{Read}
 use Rattle.spill_rows.specs.declared.Read.the-variants.{Good, Faulty}
 use Rattle.spill_rows.specs.Steps.{CheckedInto, read-of}
 use Rattle.spill_rows.proofs.CheckedLaws.{nope, faulty}
-use Rattle.tally_core.specs.Steps.{tally-rows}
-use Rattle.tally_core.proofs.TallyLaws.{added, all-added}
 use Rattle.page_entries.specs.declared.Filling.{Filling}
 use Rattle.page_entries.specs.Steps.{Ready, Filled}
 use Rattle.page_entries.proofs.FillLaws.{filled-none, filled-full, filled-then, count-is, page-is}
@@ -90,21 +85,6 @@ down-full g spills wanted f p n h f′ p′ a full =
     rw q (filled-then wanted _ _ f f′ f′ p p′ p′ a (filled-full wanted f′ p′ (a .ready) full (unspent-newest-first (rows-flat g 0 n))))
 
 -- ---- what the checks tell
-
-module _ (g : ℕ → RowRead) (k : ℕ) (t : Tally) where
-  pub all-good : (s : Tally) → tallied.Counts s ≡ tally-rows g 0 k t → Good ≡ read-of (rows-up g 0 k)
-  all-good s e = by-rows (rows-up g 0 k) (e ∙ all-added g 0 k t)
-    where
-      by-rows : (x : RowRead) → tallied.Counts s ≡ added x t → Good ≡ read-of x
-      by-rows (good zs) q = refl
-      by-rows (bad code) q = nope (cc)
-
-  pub first-bad : (code : ℕ) → tallied.Refused code ≡ tally-rows g 0 k t → Faulty code ≡ read-of (rows-up g 0 k)
-  first-bad code e = by-rows (rows-up g 0 k) (e ∙ all-added g 0 k t)
-    where
-      by-rows : (x : RowRead) → tallied.Refused code ≡ added x t → Faulty code ≡ read-of x
-      by-rows (good zs) q = nope (cc)
-      by-rows (bad d) q = let z : code ≡ d = cc in ap Faulty z
 
 -- rows that pass are the rows as one list
 pub flat-good : (g : ℕ → RowRead) (n k : ℕ) (zs : List ℤ) → rows-up g n k ≡ good zs → rows-flat g n k ≡ zs

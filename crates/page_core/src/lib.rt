@@ -14,14 +14,11 @@ ghost use Rattle.buffer_core.specs.Rows.{rows-up};
 ghost use Rattle.buffer_core.specs.Flip.{row-checked};
 ghost use Rattle.index_types.specs.declared.Paged.the-variants.{Numbers};
 ghost use Rattle.buffer_core.specs.Page.{paging, put-page, page-over};
-ghost use Rattle.spill_rows.specs.Steps.{read-of};
 ghost use Rattle.page_entries.specs.Steps.{Ready, Filled};
 ghost use Rattle.page_core.specs.Steps.{numbers-in, rows-flat};
 use index_types::Paged;
 use index_types::RowEdition;
 use index_types::SEGMENT_THRESHOLD;
-use index_types::Tallied;
-use index_types::Tally;
 use page_entries::Filling;
 use spill_rows::Read;
 
@@ -106,43 +103,6 @@ fn put_rows<'a>(
     filled
 }
 
-// Checks every row from spill 0 up as a tally does, also those that the page needs nothing of.
-fn check_rows<'a>(
-    edition: RowEdition,
-    parent: &[u8; 32],
-    rows: usize,
-    staged: &'a [u8],
-    staged_count: usize,
-    table: &'a [u8],
-    table_count: usize,
-    hints: &[u16],
-) -> Read
-    requires { ⌜ («staged_count» * record-size edition ≤ length (now staged)) × («table_count» * record-size edition ≤ length (now table)) × (rows < 2147483648)
-        × (distinct (keys (record-size edition) «table_count» (now table)) ≡ true) ⌝ }
-    ensures { λ r. ⌜ r ≡ read-of (rows-up (row-checked (edition-of edition) (sources (now (parent .entry)) (now (staged .entry)) «staged_count» (now (table .entry)) «table_count»)) 0 rows) ⌝ }
-{
-    let none = Tally {
-        unspent: 0,
-        spent: 0,
-        unknown: 0,
-    };
-    let tallied = tally_core::count_rows(
-        edition,
-        parent,
-        rows,
-        none,
-        staged,
-        staged_count,
-        table,
-        table_count,
-        hints,
-    );
-    match tallied {
-        Tallied::Counts(_) => Read::Good,
-        Tallied::Refused(code) => Read::Faulty(code),
-    }
-}
-
 // Fills a page from the head and the rows and copies it out. The answer is how many numbers stand in it.
 fn put_page<'a>(
     edition: RowEdition,
@@ -211,7 +171,7 @@ fn page_hinted<'a>(
         ≡ page-over (rows-up (row-checked (edition-of edition) (sources (now (parent .entry)) (now (staged .entry)) «staged_count» (now (table .entry)) «table_count»)) 0 spills)
         (take len (now (head .entry))) offset wanted (now (out .entry)) ⌝ }
 {
-    let read = check_rows(
+    let read = tally_core::check_rows(
         edition,
         parent,
         spills,

@@ -9,6 +9,7 @@ ghost use Rattle.index_types.specs.Limits.{segment-threshold};
 ghost use Rattle.records.specs.Records.{keys};
 ghost use Rattle.records.specs.Find.{distinct};
 ghost use Rattle.segment_id.specs.Key.{row-key};
+ghost use Rattle.segment_id.specs.declared.Kind.the-variants.{Box};
 ghost use Rattle.buffer_core.specs.Edition.{edition-of, record-size};
 ghost use Rattle.buffer_core.specs.Spills.{sources, spill-read};
 ghost use Rattle.buffer_core.specs.Flip.{row-checked};
@@ -77,45 +78,12 @@ pub fn read_under<'a>(
     }
 }
 
-// Reads the numbers of a kind in the row of a spill number.
-pub fn read_spill<'a>(
-    edition: RowEdition,
-    kind: Kind,
-    parent: &[u8; 32],
-    number: usize,
-    staged: &'a [u8],
-    staged_count: usize,
-    table: &'a [u8],
-    table_count: usize,
-    hints: &[u16],
-    out: &mut [i64],
-) -> SpillRead
-    requires { ⌜ («staged_count» * record-size edition ≤ length (now staged)) × («table_count» * record-size edition ≤ length (now table)) × (number < 2147483648)
-        × (length (now out) ≡ segment-threshold) × (distinct (keys (record-size edition) «table_count» (now table)) ≡ true) ⌝ }
-    ensures { λ r. ⌜ SpillInto (spill-read (edition-of edition) kind (sources (now (parent .entry)) (now (staged .entry)) «staged_count» (now (table .entry)) «table_count») number)
-        r (now (out .exit)) ⌝ }
-{
-    let key = spill_key(kind, parent, number);
-    read_under(
-        edition,
-        kind,
-        parent,
-        number,
-        &key,
-        staged,
-        staged_count,
-        table,
-        table_count,
-        hints,
-        out,
-    )
-}
-
-// Reads the row of a spill number: 512 numbers in order.
-pub fn read_checked<'a>(
+// Reads the row of a spill number, whose key is given: 512 numbers in order.
+pub fn read_checked_under<'a>(
     edition: RowEdition,
     parent: &[u8; 32],
     number: usize,
+    key: &[u8],
     staged: &'a [u8],
     staged_count: usize,
     table: &'a [u8],
@@ -124,15 +92,17 @@ pub fn read_checked<'a>(
     out: &mut [i64],
 ) -> Read
     requires { ⌜ («staged_count» * record-size edition ≤ length (now staged)) × («table_count» * record-size edition ≤ length (now table)) × (number < 2147483648)
-        × (length (now out) ≡ segment-threshold) × (distinct (keys (record-size edition) «table_count» (now table)) ≡ true) ⌝ }
+        × (length (now out) ≡ segment-threshold) × (now key ≡ row-key (now parent) Box (pos number)) × (length (now key) ≡ 32)
+        × (distinct (keys (record-size edition) «table_count» (now table)) ≡ true) ⌝ }
     ensures { λ r. ⌜ CheckedInto (row-checked (edition-of edition) (sources (now (parent .entry)) (now (staged .entry)) «staged_count» (now (table .entry)) «table_count») number)
         r (now (out .exit)) ⌝ }
 {
-    let read = read_spill(
+    let read = read_under(
         edition,
         Kind::Box,
         parent,
         number,
+        key,
         staged,
         staged_count,
         table,
@@ -153,4 +123,36 @@ pub fn read_checked<'a>(
         }
         SpillRead::Refused(code) => Read::Faulty(code),
     }
+}
+
+// Reads the row of a spill number: 512 numbers in order.
+pub fn read_checked<'a>(
+    edition: RowEdition,
+    parent: &[u8; 32],
+    number: usize,
+    staged: &'a [u8],
+    staged_count: usize,
+    table: &'a [u8],
+    table_count: usize,
+    hints: &[u16],
+    out: &mut [i64],
+) -> Read
+    requires { ⌜ («staged_count» * record-size edition ≤ length (now staged)) × («table_count» * record-size edition ≤ length (now table)) × (number < 2147483648)
+        × (length (now out) ≡ segment-threshold) × (distinct (keys (record-size edition) «table_count» (now table)) ≡ true) ⌝ }
+    ensures { λ r. ⌜ CheckedInto (row-checked (edition-of edition) (sources (now (parent .entry)) (now (staged .entry)) «staged_count» (now (table .entry)) «table_count») number)
+        r (now (out .exit)) ⌝ }
+{
+    let key = spill_key(Kind::Box, parent, number);
+    read_checked_under(
+        edition,
+        parent,
+        number,
+        &key,
+        staged,
+        staged_count,
+        table,
+        table_count,
+        hints,
+        out,
+    )
 }

@@ -24,6 +24,7 @@ use Rattle.buffer_core.specs.Tally.{tally-over, tally-core}
 use Rattle.spill_rows.specs.declared.Read.{Read}
 use Rattle.spill_rows.specs.declared.Read.the-variants as read
 use Rattle.spill_rows.specs.Steps.{CheckedInto, read-of}
+use Rattle.spill_rows.proofs.CheckedLaws.{nope}
 use Rattle.tally_core.specs.Steps.{counted, tally-row, tally-rows}
 
 -- ---- a row
@@ -116,6 +117,23 @@ module _ (f : ℕ → RowRead) where
       by-rows : (x : RowRead) → added x (figures zs) ≡ tally-over x zs
       by-rows (bad code) = refl
       by-rows (good ys) = ap Counts (plus-comm (figures zs) (figures ys) ∙ sym (figures-append ys zs))
+
+-- ---- what the checks tell
+
+module _ (g : ℕ → RowRead) (k : ℕ) (t : Tally) where
+  pub all-good : (s : Tally) → Counts s ≡ tally-rows g 0 k t → read.Good ≡ read-of (rows-up g 0 k)
+  all-good s e = by-rows (rows-up g 0 k) (e ∙ all-added g 0 k t)
+    where
+      by-rows : (x : RowRead) → Counts s ≡ added x t → read.Good ≡ read-of x
+      by-rows (good zs) q = refl
+      by-rows (bad code) q = nope (cc)
+
+  pub first-bad : (code : ℕ) → Refused code ≡ tally-rows g 0 k t → read.Faulty code ≡ read-of (rows-up g 0 k)
+  first-bad code e = by-rows (rows-up g 0 k) (e ∙ all-added g 0 k t)
+    where
+      by-rows : (x : RowRead) → Refused code ≡ added x t → read.Faulty code ≡ read-of x
+      by-rows (good zs) q = nope (cc)
+      by-rows (bad d) q = let z : code ≡ d = cc in ap read.Faulty z
 
 -- ---- the ways out
 

@@ -8,10 +8,12 @@ ghost use Rattle.records.specs.Records.{keys};
 ghost use Rattle.records.specs.Find.{distinct};
 ghost use Rattle.buffer_core.specs.Edition.{edition-of, record-size};
 ghost use Rattle.buffer_core.specs.Spills.{sources};
+ghost use Rattle.buffer_core.specs.Rows.{rows-up};
 ghost use Rattle.buffer_core.specs.Flip.{row-checked};
 ghost use Rattle.buffer_core.specs.Tally.{tally-core};
 ghost use Rattle.flip_core.specs.Ready.{FlipReady};
 ghost use Rattle.entries.specs.Tally.{plus};
+ghost use Rattle.spill_rows.specs.Steps.{read-of};
 ghost use Rattle.tally_core.specs.Steps.{counted, tally-rows};
 use index_types::HeadCounts;
 use index_types::ListCounts;
@@ -55,7 +57,7 @@ fn count_row<'a>(
 }
 
 // The sums of two tallies' figures.
-fn plus(a: Tally, b: Tally) -> Tally
+pub fn plus(a: Tally, b: Tally) -> Tally
     requires { ⌜ (a .unspent + b .unspent < 18446744073709551616) × (a .spent + b .spent < 18446744073709551616)
         × (a .unknown + b .unknown < 18446744073709551616) ⌝ }
     ensures { λ r. ⌜ r ≡ plus a b ⌝ }
@@ -107,6 +109,43 @@ pub fn count_rows<'a>(
         n += 1;
     }
     Tallied::Counts(t)
+}
+
+// Checks every row from spill 0 up, and counts nothing.
+pub fn check_rows<'a>(
+    edition: RowEdition,
+    parent: &[u8; 32],
+    rows: usize,
+    staged: &'a [u8],
+    staged_count: usize,
+    table: &'a [u8],
+    table_count: usize,
+    hints: &[u16],
+) -> Read
+    requires { ⌜ («staged_count» * record-size edition ≤ length (now staged)) × («table_count» * record-size edition ≤ length (now table)) × (rows < 2147483648)
+        × (distinct (keys (record-size edition) «table_count» (now table)) ≡ true) ⌝ }
+    ensures { λ r. ⌜ r ≡ read-of (rows-up (row-checked (edition-of edition) (sources (now (parent .entry)) (now (staged .entry)) «staged_count» (now (table .entry)) «table_count»)) 0 rows) ⌝ }
+{
+    let none = Tally {
+        unspent: 0,
+        spent: 0,
+        unknown: 0,
+    };
+    let tallied = count_rows(
+        edition,
+        parent,
+        rows,
+        none,
+        staged,
+        staged_count,
+        table,
+        table_count,
+        hints,
+    );
+    match tallied {
+        Tallied::Counts(_) => Read::Good,
+        Tallied::Refused(code) => Read::Faulty(code),
+    }
 }
 
 // count_rows for a table of few records.

@@ -1,0 +1,2 @@
+-- Laws of an append with a summary.
+pub mod AppendLaws

@@ -1,0 +1,2 @@
+-- The laws of lines written and read.
+pub mod LineLaws

@@ -1,0 +1,2 @@
+-- Laws of the tests of 36.
+pub mod MoveLaws

@@ -1,0 +1,2 @@
+-- Laws of a pop with a summary.
+pub mod PopLaws

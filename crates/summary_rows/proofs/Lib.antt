@@ -1,0 +1,2 @@
+-- Laws of a summary made afresh.
+pub mod MakingLaws

@@ -1,0 +1,2 @@
+-- Laws of a match in a row, with a summary.
+pub mod TakeLaws

@@ -1,0 +1,2 @@
+-- Laws of a tally with a summary.
+pub mod TallyLaws
