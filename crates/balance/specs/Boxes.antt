@@ -13,7 +13,7 @@ use Rattle.signed.specs.Checked.{checked}
 use Rattle.refusal.specs.declared.Answer.the-variants.{Accepted, Refused}
 use Rattle.balance.specs.declared.Balance.{Balance}
 use Rattle.balance.specs.declared.Outcome.{Outcome}
-use Rattle.balance_tokens.specs.Tokens.{Held, Changed, held, turned, change-tokens}
+use Rattle.balance_tokens.specs.Tokens.{Held, Changed, held, refused-by, change-tokens}
 
 -- 25 unless the balance's count is at most 128, and the box's ids and amounts are there for its n tokens
 unfoldable pub buffers-ok : ℕ → List ℕ → List ℤ → ℕ → Bool
@@ -38,7 +38,7 @@ refused code b = record { answer = Refused code; balance = b }
 abbrev pub settled : Balance → ℤ → Changed → Outcome
 settled b nanos (held h) =
     record { answer = Accepted; balance = record { ids = h .ids; amounts = h .amounts; count = h .count; nanos = nanos } }
-settled b nanos (turned code) = refused code b
+settled b nanos (refused-by code) = refused code b
 
 -- "in list order, nanoErgs first: 23 sum or difference (before the stop at 0) leaves 64 signed bits; 24 a 129th token"
 abbrev pub box-by : Bool → Balance → List ℕ → List ℤ → ℕ → Checked → Outcome

@@ -16,7 +16,7 @@ use Rattle.signed.specs.declared.Checked.the-variants.{Is, Out}
 use Rattle.signed.specs.Checked.{checked}
 use Rattle.balance.specs.declared.Balance.{Balance}
 use Rattle.balance.specs.declared.Outcome.{Outcome}
-use Rattle.balance.specs.Tokens.{Held, Changed, held, turned, change-token, change-tokens}
+use Rattle.balance.specs.Tokens.{Held, Changed, held, refused-by, change-token, change-tokens}
 use Rattle.balance.specs.Boxes.{buffers-ok, stopped, nanos-after, held-by, settled, refused as refused-box, box-by, change-box}
 use Rattle.ledger.specs.Ledger.{TokenId, Parent, Tokens, Typed}
 use Rattle.ledger.specs.Run.{Res, done, refused, Leaves}
@@ -50,7 +50,7 @@ settle b v (held h) Y d = record {
       let z : record { ids = h .ids; amounts = h .amounts; count = h .count; nanos = v } ≡ c = cc in
       subst (λ (c : Balance). Fits (held-by c)) z (record { few = f .few; ids-in = f .ids-in; amounts-in = f .amounts-in });
 }
-settle b v (turned code) Y d = record { same = ap (λ (y : Res Tokens). then-do y (λ l. done (bal v l))) d; keeps = λ c e. absurd (done≢refused (sym e)) }
+settle b v (refused-by code) Y d = record { same = ap (λ (y : Res Tokens). then-do y (λ l. done (bal v l))) d; keeps = λ c e. absurd (done≢refused (sym e)) }
 
 no-bal : (k : ℕ) → DoesB (refused k) (refused k)
 no-bal k = record { same = refl; keeps = λ c e. absurd (done≢refused (sym e)) }
@@ -128,7 +128,7 @@ module _ (b : Balance) (I : Fits (held-by b)) (n : ℤ) (ts : Tokens) (t : Typed
 -- ---- a refusal gives back the old balance
 settled-leaves : (b : Balance) (v : ℤ) (x : Changed) → Leaves b (outcome-of (settled b v x))
 settled-leaves b v (held h) = tt
-settled-leaves b v (turned code) = refl
+settled-leaves b v (refused-by code) = refl
 
 pub change-leaves : (adds : Bool) (b : Balance) (n : ℤ) (ids : List ℕ) (amounts : List ℤ) (m : ℕ) → Leaves b (outcome-of (change-box adds b n ids amounts m))
 unfolding change-box

@@ -20,7 +20,7 @@ use Rattle.signed.specs.declared.Checked.the-variants.{Is, Out}
 use Rattle.signed.specs.Checked.{checked}
 use Rattle.stores.specs.Stores.{write}
 use Rattle.stores.proofs.StoreLaws.{length-write}
-use Rattle.balance.specs.Tokens.{Held, Changed, held, turned, id-at, place-of, with-amount, with-token, without-token, sum-at, add-token, difference-at, subtract-token, and-then, change-token, change-tokens}
+use Rattle.balance.specs.Tokens.{Held, Changed, held, refused-by, id-at, place-of, with-amount, with-token, without-token, sum-at, add-token, difference-at, subtract-token, and-then, change-token, change-tokens}
 use Rattle.ledger.specs.Ledger.{TokenId, Tokens, Typed, ite, id-dec}
 use Rattle.ledger.specs.Run.{Res, done, refused}
 use Rattle.fork_model.proofs.Balances as Ba
@@ -44,11 +44,11 @@ pub record Fits (h : Held) : Type 0 where
 -- what is held afterwards are the ledger's tokens, or both refuse; the places stay
 abbrev pub Does : Changed → Res Tokens → Type 0
 Does (held h) Y = (done (tokens-of h) ≡ Y) × Fits h
-Does (turned code) Y = refused code ≡ Y
+Does (refused-by code) Y = refused code ≡ Y
 
 to : (x : Changed) {Y Z : Res Tokens} → Does x Y → Y ≡ Z → Does x Z
 to (held h) d z = (d .0 ∙ z, d .1)
-to (turned code) d z = d ∙ z
+to (refused-by code) d z = d ∙ z
 
 -- a test of naturals, as the ledger's balance makes it
 pub ite-lt : {A : Type 0} (m n : ℕ) (w : Dec (m < n)) (a b : A) → ite w a b ≡ cond (ltb m n) a b
@@ -87,7 +87,7 @@ module _ (h : Held) (I : Fits h) (key : List ℕ) (kl : length key ≡ 32) (v : 
   by-sum g x true = set-does g x
   by-sum g x false = refl
 
-  by-new : h .count ≤ at → (t : Bool) → ltb (h .count) 128 ≡ t → Does (cond t (held (with-token h key v)) (turned 24)) (cond t (done (l ++ ((key, v) ∷ []))) (refused 24))
+  by-new : h .count ≤ at → (t : Bool) → ltb (h .count) 128 ≡ t → Does (cond t (held (with-token h key v)) (refused-by 24)) (cond t (done (l ++ ((key, v) ∷ []))) (refused 24))
   by-new g true e =
       let c = ltb-true (h .count) 128 e in (
         ap done (ap (λ (m : ℕ). tokens-from (write (h .count * 32) key (h .ids)) (set (h .amounts) (h .count) v) 0 m) (add-one (h .count))
@@ -104,7 +104,7 @@ module _ (h : Held) (I : Fits h) (key : List ℕ) (kl : length key ≡ 32) (v : 
   adding = ite (Ba.has-dec l key) (done (Ba.set-token l key (amount-in l key +ℤ v))) (ite (decLt (length l) 128) (done (l ++ ((key, v) ∷ []))) (refused 24))
 
   by-place : mag v < limit → (t : Bool) → ltb at (h .count) ≡ t
-      → Does (cond t (sum-at h at (checked (getD (h .amounts) at (pos 0) +ℤ v))) (cond (ltb (h .count) 128) (held (with-token h key v)) (turned 24))) (Ba.token-added limit 128 l key v)
+      → Does (cond t (sum-at h at (checked (getD (h .amounts) at (pos 0) +ℤ v))) (cond (ltb (h .count) 128) (held (with-token h key v)) (refused-by 24))) (Ba.token-added limit 128 l key v)
   unfolding checked
   by-place f true e =
       let g = ltb-true at (h .count) e in
@@ -116,7 +116,7 @@ module _ (h : Held) (I : Fits h) (key : List ℕ) (kl : length key ≡ 32) (v : 
   by-place f false e =
       let g = ltb-false at (h .count) e in
       let z : amount-in l key +ℤ v ≡ v = ap (λ (a : ℤ). a +ℤ v) (no-amt l key (hasn't g)) ∙ +ℤ-idl v in
-      to (cond (ltb (h .count) 128) (held (with-token h key v)) (turned 24)) (by-new g (ltb (h .count) 128) refl)
+      to (cond (ltb (h .count) 128) (held (with-token h key v)) (refused-by 24)) (by-new g (ltb (h .count) 128) refl)
       (ap (λ (m : ℕ). cond (ltb m 128) (done (l ++ ((key, v) ∷ []))) (refused 24)) (sym (length-tokens (h .ids) (h .amounts) (h .count) 0))
       ∙ sym (ite-yes (decLt (mag (amount-in l key +ℤ v)) limit) adding (refused 23) (rw z f)
       ∙ ite-no (Ba.has-dec l key) _ _ (hasn't g)
@@ -169,7 +169,7 @@ module _ (h : Held) (I : Fits h) (key : List ℕ) (kl : length key ≡ 32) (v : 
 then-does : (x : Changed) (Y : Res Tokens) (more : Held → Changed) (run : Tokens → Res Tokens) → Does x Y → ((g : Held) → Fits g → Does (more g) (run (tokens-of g)))
     → Does (and-then x more) (then-do Y run)
 then-does (held g) Y more run d f = to (more g) (f g (d .1)) (ap (λ (y : Res Tokens). then-do y run) (d .0))
-then-does (turned code) Y more run d f = ap (λ (y : Res Tokens). then-do y run) d
+then-does (refused-by code) Y more run d f = ap (λ (y : Res Tokens). then-do y run) d
 
 id-of : (pre name rest : List ℕ) (j : ℕ) → length pre ≡ j * 32 → length name ≡ 32 → id-at (pre ++ (name ++ rest)) j ≡ name
 id-of pre name rest j e f = ap (take 32) (drop-at pre (name ++ rest) (j * 32) e) ∙ take-at name rest 32 f

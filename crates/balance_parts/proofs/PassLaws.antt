@@ -12,7 +12,7 @@ use lib.Signed.{mag, leZ}
 use borrow.Author.Tests.{ltb-true, ltb-false}
 use Rattle.signed.specs.Checked.{checked}
 use Rattle.signed.proofs.SignedLaws.{natAbs-mag, natAbs-neg, checked-is}
-use Rattle.balance_tokens.specs.Tokens.{Held, Changed, held, turned, id-at, place-of, closed-up, with-amount, with-token, without-token, sum-at, difference-at, add-token, subtract-token, change-token, and-then, change-tokens, left-in}
+use Rattle.balance_tokens.specs.Tokens.{Held, Changed, held, refused-by, id-at, place-of, closed-up, with-amount, with-token, without-token, sum-at, difference-at, add-token, subtract-token, change-token, and-then, change-tokens, left-in}
 use Rattle.balance_tokens.specs.declared.Counted.{Counted}
 use Rattle.balance_tokens.specs.declared.Counted.the-variants as counted
 use Rattle.balance.specs.Parts.{Small, Passed, Kept}
@@ -56,7 +56,7 @@ record Ready (adding : Bool) (b n : ℕ) (h : Held) : Type 0 where
 
 abbrev Fine : Bool → ℕ → ℕ → Changed → Type 0
 Fine adding b n (held h) = Ready adding b n h
-Fine adding b n (turned code) = ⊥
+Fine adding b n (refused-by code) = ⊥
 
 module _ (adding : Bool) (b c n : ℕ) (h : Held) (r : Ready adding b (suc n) h) (v : ℤ) (s : natAbs v < c) (m : b + c ≤ 9223372036854775808) where
   as-before : Ready adding (b + c) n h
@@ -110,7 +110,7 @@ module _ (adding : Bool) (b c n : ℕ) (h : Held) (r : Ready adding b (suc n) h)
   fine-add a key = let i = place-of key (h .ids) (h .count) in by-test i (ltb i (h .count)) (ltb (h .count) 128) refl refl
     where
       by-test : (i : ℕ) (s t : Bool) → ltb i (h .count) ≡ s → ltb (h .count) 128 ≡ t
-          → Fine adding (b + c) n (cond s (sum-at h i (checked (getD (h .amounts) i (pos 0) +ℤ v))) (cond t (held (with-token h key v)) (turned 24)))
+          → Fine adding (b + c) n (cond s (sum-at h i (checked (getD (h .amounts) i (pos 0) +ℤ v))) (cond t (held (with-token h key v)) (refused-by 24)))
       by-test i true t p q =
           let u = sum-mag (getD (h .amounts) i (pos 0)) v b c (r .below i (ltb-true _ _ p)) (omega arith) in
           rw (checked-is (getD (h .amounts) i (pos 0) +ℤ v) (omega arith)) (amount-set i (getD (h .amounts) i (pos 0) +ℤ v) u)
@@ -145,7 +145,7 @@ module _ (adding : Bool) (b c n : ℕ) (h : Held) (r : Ready adding b (suc n) h)
 module _ (adding : Bool) (ids : List ℕ) (amounts : List ℤ) where
   on-held : (b j n : ℕ) (x : Changed) → Fine adding b n x → ((g : Held) → Ready adding b n g → Passed (change-tokens adding ids amounts j n g)) → Passed (and-then x (change-tokens adding ids amounts j n))
   on-held b j n (held g) f more = more g f
-  on-held b j n (turned code) f more = f
+  on-held b j n (refused-by code) f more = f
 
   pass-from : (n j b : ℕ) (h : Held) → Ready adding b n h → ((k : ℕ) → j ≤ k → k < j + n → natAbs (getD amounts k (pos 0)) < 36028797018963968)
       → b + n * 36028797018963968 ≤ 9223372036854775808 → Passed (change-tokens adding ids amounts j n h)

@@ -13,7 +13,7 @@ use borrow.Author.Tests.{ltb-true}
 use Rattle.signed.specs.declared.Checked.{Checked}
 use Rattle.signed.specs.declared.Checked.the-variants.{Is, Out}
 use Rattle.signed.specs.Checked.{checked}
-use Rattle.balance_tokens.specs.Tokens.{Held, Changed, held, turned, id-at, place-of, with-amount, with-token, without-token, sum-at, difference-at, add-token, subtract-token, change-token, and-then, change-tokens}
+use Rattle.balance_tokens.specs.Tokens.{Held, Changed, held, refused-by, id-at, place-of, with-amount, with-token, without-token, sum-at, difference-at, add-token, subtract-token, change-token, and-then, change-tokens}
 
 module _ (adding : Bool) (ids : List ℕ) (amounts : List ℤ) where
   pub run-step : (j n : ℕ) (h : Held) → j < n
@@ -27,7 +27,7 @@ module _ (adding : Bool) (ids : List ℕ) (amounts : List ℤ) where
     pub run-on : (g : Held) → held g ≡ change-token adding h (id-at ids j) (getD amounts j (pos 0)) → change-tokens adding ids amounts j (n - j) h ≡ change-tokens adding ids amounts (j + 1) (n - (j + 1)) g
     run-on g e = run-step j n h u ∙ rw (← e)
 
-    pub run-refused : (code : ℕ) → turned code ≡ change-token adding h (id-at ids j) (getD amounts j (pos 0)) → change-tokens adding ids amounts j (n - j) h ≡ turned code
+    pub run-refused : (code : ℕ) → refused-by code ≡ change-token adding h (id-at ids j) (getD amounts j (pos 0)) → change-tokens adding ids amounts j (n - j) h ≡ refused-by code
     run-refused code e = run-step j n h u ∙ rw (← e)
 
   pub run-end : (j n : ℕ) (h : Held) → n ≤ j → change-tokens adding ids amounts j (n - j) h ≡ held h
@@ -40,7 +40,7 @@ module _ (adding : Bool) (ids : List ℕ) (amounts : List ℤ) where
 
 abbrev pub Few : Changed → Type 0
 Few (held h) = h .count ≤ 128
-Few (turned code) = Unit {0}
+Few (refused-by code) = Unit {0}
 
 module _ (h : Held) (f : h .count ≤ 128) where
   few-sum : (i : ℕ) (s : Checked) → Few (sum-at h i s)
@@ -60,7 +60,7 @@ module _ (h : Held) (f : h .count ≤ 128) where
   few-add key v = let i = place-of key (h .ids) (h .count) in by-test i (ltb i (h .count)) (ltb (h .count) 128) refl
     where
       by-test : (i : ℕ) (s t : Bool) → ltb (h .count) 128 ≡ t
-          → Few (cond s (sum-at h i (checked (getD (h .amounts) i (pos 0) +ℤ v))) (cond t (held (with-token h key v)) (turned 24)))
+          → Few (cond s (sum-at h i (checked (getD (h .amounts) i (pos 0) +ℤ v))) (cond t (held (with-token h key v)) (refused-by 24)))
       by-test i true t e = few-sum i (checked (getD (h .amounts) i (pos 0) +ℤ v))
       by-test i false true e = omega (arith, ltb-true (h .count) 128 e)
       by-test i false false e = tt

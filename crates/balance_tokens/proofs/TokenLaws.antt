@@ -10,7 +10,7 @@ use Rattle.signed.specs.declared.Checked.{Checked}
 use Rattle.signed.specs.Checked.{checked}
 use Rattle.stores.specs.Stores.{write}
 use Rattle.stores.proofs.StoreLaws.{write-write, length-part}
-use Rattle.balance_tokens.specs.Tokens.{Held, held, turned, place-of, with-token, closed-up, sum-at, add-token, difference-at, subtract-token}
+use Rattle.balance_tokens.specs.Tokens.{Held, held, refused-by, place-of, with-token, closed-up, sum-at, add-token, difference-at, subtract-token}
 
 module _ (h : Held) (key : List ℕ) (v : ℤ) (i : ℕ) (p : i ≡ place-of key (h .ids) (h .count)) where
   pub add-known : (s : Checked) → i < h .count → s ≡ checked (getD (h .amounts) i (pos 0) +ℤ v) → sum-at h i s ≡ add-token h key v
@@ -21,7 +21,7 @@ module _ (h : Held) (key : List ℕ) (v : ℤ) (i : ℕ) (p : i ≡ place-of key
   unfolding add-token
   add-new g k = sym (rw (sym p, le-ltb _ _ g, lt-ltb _ _ k))
 
-  pub add-full : h .count ≤ i → 128 ≤ h .count → turned 24 ≡ add-token h key v
+  pub add-full : h .count ≤ i → 128 ≤ h .count → refused-by 24 ≡ add-token h key v
   unfolding add-token
   add-full g k = sym (rw (sym p, le-ltb _ _ g, le-ltb _ _ k))
 

@@ -38,7 +38,7 @@ pub record Held : Type 0 where
 -- what is held afterwards, or the refusal code
 pub data Changed : Type 0 where
   held : Held → Changed
-  turned : ℕ → Changed
+  refused-by : ℕ → Changed
 
 abbrev pub with-amount : Held → ℕ → ℤ → Held
 with-amount h i v = record { ids = h .ids; amounts = set (h .amounts) i v; count = h .count }
@@ -58,12 +58,12 @@ without-token h i =
 -- 23 where a sum leaves 64 signed bits
 abbrev pub sum-at : Held → ℕ → Checked → Changed
 sum-at h i (Is v) = held (with-amount h i v)
-sum-at h i Out = turned 23
+sum-at h i Out = refused-by 23
 
 -- a token added: to the place that holds its id, or as a new one; 24 for a 129th token
 abbrev pub add-at : Held → List ℕ → ℤ → ℕ → Changed
 add-at h key v i =
-    cond (ltb i (h .count)) (sum-at h i (checked (getD (h .amounts) i (pos 0) +ℤ v))) (cond (ltb (h .count) token-limit) (held (with-token h key v)) (turned 24))
+    cond (ltb i (h .count)) (sum-at h i (checked (getD (h .amounts) i (pos 0) +ℤ v))) (cond (ltb (h .count) token-limit) (held (with-token h key v)) (refused-by 24))
 
 unfoldable pub add-token : Held → List ℕ → ℤ → Changed
 add-token h key v = add-at h key v (place-of key (h .ids) (h .count))
@@ -71,7 +71,7 @@ add-token h key v = add-at h key v (place-of key (h .ids) (h .count))
 -- 23 where a difference leaves 64 signed bits; a token at 0 or below is dropped
 abbrev pub difference-at : Held → ℕ → Checked → Changed
 difference-at h i (Is v) = held (cond (leZ v (pos 0)) (without-token h i) (with-amount h i v))
-difference-at h i Out = turned 23
+difference-at h i Out = refused-by 23
 
 -- a token subtracted: from the place that holds its id; an unknown id is ignored
 abbrev pub subtract-at : Held → ℤ → ℕ → Changed
@@ -87,7 +87,7 @@ change-token adding h key v = cond adding (add-token h key v) (subtract-token h 
 -- on with what is held, or the refusal
 abbrev pub and-then : Changed → (Held → Changed) → Changed
 and-then (held h) more = more h
-and-then (turned code) more = turned code
+and-then (refused-by code) more = refused-by code
 
 -- "in list order": the n tokens of a box from its place j on, until one is refused
 unfoldable pub change-tokens : Bool → List ℕ → List ℤ → ℕ → ℕ → Held → Changed
@@ -98,4 +98,4 @@ change-tokens adding ids amounts j (suc n) h =
 -- what a function answers that works in two borrowed arrays, which it leaves as ids and amounts; after a refusal they do not matter
 abbrev pub left-in : Counted → List ℕ → List ℤ → Changed
 left-in (counted.Count n) ids amounts = held (record { ids = ids; amounts = amounts; count = n })
-left-in (counted.Refused code) ids amounts = turned code
+left-in (counted.Refused code) ids amounts = refused-by code

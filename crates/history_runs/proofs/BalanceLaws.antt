@@ -19,7 +19,7 @@ use Rattle.refusal.specs.declared.Answer.{Answer}
 use Rattle.refusal.specs.declared.Answer.the-variants.{Accepted, Refused}
 use Rattle.balance.specs.declared.Balance.{Balance}
 use Rattle.balance.specs.declared.Outcome.{Outcome}
-use Rattle.balance.specs.Tokens.{Changed, held, turned, change-tokens}
+use Rattle.balance.specs.Tokens.{Changed, held, refused-by, change-tokens}
 use Rattle.balance.specs.Boxes.{buffers-ok, nanos-after, held-by, settled, box-by, change-box}
 use Rattle.balance.proofs.BoxLaws.{count-above, box-25}
 use Rattle.buffer_core.specs.Edition.{edition-1}
@@ -182,7 +182,7 @@ module _ (s : State) (p : ℕ) (w : Within p (s .ids) (s .numbers) (s .lengths) 
       where
         by-tokens : (v : ℤ) (x : Changed) → Unchanged (settled b v x)
         by-tokens v (held h) code e = let z : _≡_ {A = ℕ} 0 1 = cc in absurd (omega arith)
-        by-tokens v (turned y) code e = refl
+        by-tokens v (refused-by y) code e = refl
 
         by-nanos : (x : Checked) → Unchanged (box-by adding b (ids-of ts) (amounts-of ts) (length ts) x)
         by-nanos (Is v) = by-tokens v (change-tokens adding (ids-of ts) (amounts-of ts) 0 (length ts) (held-by b))

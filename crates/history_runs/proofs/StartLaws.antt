@@ -23,7 +23,7 @@ use Rattle.history.specs.Machine.{Borrowed, none-of}
 use Rattle.history.specs.ForkUndo.{Places}
 use Rattle.history_runs.specs.View.{ids-in, filled, part-in}
 use Rattle.call_runs.specs.Made.{made, heard}
-use Rattle.history_runs.specs.Runs.{M, Holds, Spells, StepsSaid, Agrees, Empty, lent}
+use Rattle.history_runs.specs.Runs.{M, Holds, Spells, StepsSaid, Agrees, Empty, borrowed-places}
 use Rattle.history_runs.proofs.ViewLaws.{head-long}
 use Rattle.history_runs.proofs.HoldLaws.{fork-undo-runs}
 
@@ -35,9 +35,9 @@ pub filled-same : (ids : Parent → List ℕ) (p : Parent) → length (ids p) �
 filled-same ids p e = take-append-le 32 (ids p) (replicate 32 0) (omega arith) ∙ take-all 32 (ids p) (omega arith)
 
 module _ (parents : ℕ) (places : Parent → Places) (s : State) (E : Empty parents places s) where
-  pub lent-long : (ch : Series) → 512 ≤ length (lent parents s ch)
+  pub places-long : (ch : Series) → 512 ≤ length (borrowed-places parents s ch)
   unfolding ite
-  lent-long ch = by-parent (decLt (parent-of ch) parents)
+  places-long ch = by-parent (decLt (parent-of ch) parents)
     where
       by-parent : (t : Dec (parent-of ch < parents)) → 512 ≤ length (ite t (part-in s ch .places) (replicate 512 (pos 0)))
       by-parent (yes h) = omega (arith, head-long s ch (within parents s (E .ready) (parent-of ch) h))
@@ -51,11 +51,11 @@ module _ (parents : ℕ) (places : Parent → Places) (s : State) (E : Empty par
         table-cap = s .lists .table-counts .capacity;
         staged-cap = s .lists .staged-counts .capacity;
         deleted-cap = s .lists .deleted-counts .capacity;
-        places = lent parents s;
+        places = borrowed-places parents s;
         table = s .lists .table;
         staged = s .lists .staged;
         deleted = s .lists .deleted;
-        places-in = lent-long;
+        places-in = places-long;
         table-in = f .in-table .bounds .room;
         staged-in = f .in-staged .bounds .room;
         deleted-in = f .in-deleted .bounds .room;

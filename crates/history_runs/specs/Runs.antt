@@ -156,5 +156,5 @@ module _ (parents : ℕ) where
     pub balances : (p : Parent) → p < parents → balance-in s p ≡ empty-balance (places p)
 
   -- the places that the state lends to a head; 512 of them for a parent that it has not
-  abbrev pub lent : State → Series → List ℤ
-  lent s ch = ite (decLt (parent-of ch) parents) (part-in s ch .places) (replicate segment-threshold (pos 0))
+  abbrev pub borrowed-places : State → Series → List ℤ
+  borrowed-places s ch = ite (decLt (parent-of ch) parents) (part-in s ch .places) (replicate segment-threshold (pos 0))

@@ -43,14 +43,14 @@ module _ (E : Edition) (ids : Parent → List ℕ) (lines : Parent → ℕ) (b c
     pub free : ch ≡ boxes q → ltb (p .head .len) 512 ≡ false → natAbs (p .head .spills) < lines q
     pub other : (ch ≡ boxes q → ⊥) → c .summaries q ≡ b .summaries q
 
-  -- a call lent no summary
+  -- a call without a summary
   pub append-other-done : append-without E ids lines b ch n ≡ accepted c → ch ≢ boxes q → AppendDone
   append-other-done e g =
       let d = with-done (b .summaries) (do-append E ids (b .index) ch n) c e in
       record { plain = d .0; own = λ z. absurd (g z); free = λ z. absurd (g z); other = λ z. ap (λ (S : Parent → List ℕ). S q) (d .1) }
 
 module _ (E : Edition) (ids : Parent → List ℕ) (lines : Parent → ℕ) (b c : SummaryIndex) where
-  -- a box call lent the summary of its parent
+  -- a box call with the summary of its parent
   box-done : (p : Parent) (n : ℤ) → append-box-with E ids lines b p n ≡ accepted c → (q : Parent) → AppendDone E ids lines b c (boxes p) n q
   box-done p n e q =
       let o = appending-with E ids lines b p n in

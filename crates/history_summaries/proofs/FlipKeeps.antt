@@ -80,7 +80,7 @@ module _ (E : Edition) (ids : Parent → List ℕ) (lines : Parent → ℕ) (b c
       index (with-places (part₀ .places))
       (with-staged (counts-with E key (b .index .lists .staged-counts) (b .index .lists .staged)) (bytes-with E key row (b .index .lists .staged-counts) (b .index .lists .staged)) (b .index .lists))
 
-  -- the index after the call, and the summary of q where it is lent; where it is another's, it stays
+  -- the index after the call, and the summary of q where it is that parent's; another's stays
   pub data FlipDone : Type 0 where
     in-the-head : (l : List ℤ) → index (with-places l) (b .index .lists) ≡ c .index → (p ≡ q → c .summaries q ≡ b .summaries q) → (p ≢ q → c .summaries q ≡ b .summaries q) → FlipDone
     in-a-row : flip-ok E (part₀ .head) (b .index .lists .staged-counts) (b .index .lists .staged) (b .index .lists .table-counts) (b .index .lists .table) (part₀ .places) ≡ true
@@ -94,7 +94,7 @@ module _ (E : Edition) (ids : Parent → List ℕ) (lines : Parent → ℕ) (b c
     abbrev effected : Effect → Flipping
     effected x = done-by E x (b .index .lists .staged-counts) (part₀ .places) (b .index .lists .staged)
 
-    -- a call lent no summary
+    -- a call without a summary
     pub flip-other-done : flip-without E ids lines d b p target ≡ accepted c → p ≢ q → FlipDone
     flip-other-done e g =
         let y = with-done (b .summaries) (do-flip E ids d (b .index) p target) c e in
@@ -113,7 +113,7 @@ module _ (E : Edition) (ids : Parent → List ℕ) (lines : Parent → ℕ) (b c
             let y = ap end (sym (F .flipped)) ∙ z in
             in-a-row ok x n at zs F (cc) (λ w. absurd (g w)) other
 
-    -- a call lent the summary of its parent
+    -- a call with the summary of its parent
     pub flip-done : flip-with E ids lines d b p target ≡ accepted c → FlipDone
     flip-done e =
         let o = flipping-with E ids lines d b p target in

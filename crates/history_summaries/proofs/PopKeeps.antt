@@ -48,14 +48,14 @@ module _ (E : Edition) (ids : Parent → List ℕ) (lines : Parent → ℕ) (b :
     pub own : ch ≡ boxes q → r .left .summaries q ≡ cond (ltb 0 (p .head .len)) (b .summaries q) (put-line (natAbs (p .head .spills) - 1) no-line (b .summaries q))
     pub other : (ch ≡ boxes q → ⊥) → r .left .summaries q ≡ b .summaries q
 
-  -- a call lent no summary
+  -- a call without a summary
   pub pop-other-done : pop-without E ids lines b ch ≡ accepted r → ch ≢ boxes q → PopDone
   pop-other-done e g =
       let d = pop-done (b .summaries) (do-pop E ids (b .index) ch) r e in
       record { plain = d .0; own = λ z. absurd (g z); other = λ z. ap (λ (S : Parent → List ℕ). S q) (d .1) }
 
 module _ (E : Edition) (ids : Parent → List ℕ) (lines : Parent → ℕ) (b : SummaryIndex) (r : Mc.Popped SummaryIndex) where
-  -- a box call lent the summary of its parent
+  -- a box call with the summary of its parent
   box-done : (p : Parent) → pop-box-with E ids lines b p ≡ accepted r → (q : Parent) → PopDone E ids lines b (boxes p) r q
   box-done p e q =
       let o = popping-with E ids lines b p in

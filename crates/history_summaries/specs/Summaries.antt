@@ -1,5 +1,5 @@
--- The index and a summary for each parent (document 02, U8): "Keep beside each parent a summary of its box spills". A box call that is lent its parent's summary is
--- the very definition that the contract of the public function cites; a call that is lent none is that of the index alone.
+-- The index and a summary for each parent (document 02, U8): "Keep beside each parent a summary of its box spills". A box call with its parent's summary is
+-- the very definition that the contract of the public function cites; a call without one is that of the index alone.
 use mathlib.Core.Path.{_≡_}
 use mathlib.Core.List.{List}
 use Prim.Native.Nat.{ℕ, _*_, _≤_}
@@ -47,7 +47,7 @@ pop-with-summaries S (refused-leaving code b) = refused-leaving code (summary-in
 
 -- `lines` are the lines of each parent's summary, "lent with the same lines throughout"
 module _ (E : Edition) (ids : Parent → List ℕ) (lines : Parent → ℕ) where
-  -- ---- the calls that are lent a summary
+  -- ---- the calls with a summary
   abbrev pub appending-with : SummaryIndex → Parent → ℤ → WithSummary Appending
   appending-with b p n =
       append-lines-of E (ids p) (b .index .parts (boxes p) .head) n (b .index .lists .staged-counts) (b .index .parts (boxes p) .places) (b .index .lists .staged)
@@ -105,7 +105,7 @@ module _ (E : Edition) (ids : Parent → List ℕ) (lines : Parent → ℕ) wher
   abbrev pub flush-without : SummaryIndex → Made SummaryIndex SummaryIndex
   flush-without b = with-summaries (b .summaries) (do-flush E ids (b .index))
 
-  -- ---- a parent's box calls are lent its summary, transaction calls none
+  -- ---- a parent's box calls have its summary, transaction calls none
   abbrev pub append-kept : SummaryIndex → Series → ℤ → Made SummaryIndex SummaryIndex
   append-kept b (boxes p) n = append-box-with b p n
   append-kept b (txs p) n = append-without b (txs p) n

@@ -193,14 +193,14 @@ module _ (kind : Kind) (p : List ℕ) (long : length p ≡ 32) (n : ℕ) (low : 
   of-spill : SFits w32 (pos n)
   of-spill = record { sfits = omega arith }
 
-  abbrev turned : Written
-  turned = convert v u p (kind-byte kind) (pos n) s out
+  abbrev made : Written
+  made = convert v u p (kind-byte kind) (pos n) s out
 
   same-front : (v : RowEdition) → front v p (kind-byte kind) (pos n) ≡ header v kind p (pos n)
   same-front One = refl
   same-front Two = refl
 
-  pub read-alike : turned .answer ≡ Next r → numbers-of kind (row-under u kind p (pos n) (take r (turned .out))) ≡ numbers-of kind (row-under v kind p (pos n) s)
+  pub read-alike : made .answer ≡ Next r → numbers-of kind (row-under u kind p (pos n) (take r (made .out))) ≡ numbers-of kind (row-under v kind p (pos n) s)
   read-alike e =
       let w = accepted p long (kind-byte kind) (pos n) of-spill s all v u out r e in
       let c : List ℕ = row-bytes (w .txs) (w .boxes) (w .box-count) (w .tx-count) in
