@@ -10,18 +10,21 @@
 # make vectors         what the gate's program is held to, made from both lists: compare/sample.txt and sample/vectors.txt
 # make bench           both sides timed in one run; plots go to docs/
 # make all-checks      the gate, the Rust crate and the short comparison
+# make flat-view     one account of the sample history (PARENT, CALLS_FILE) as a flat list beside the index, and where the two differ
 # make fmt    the layout of all Rattle and antt files
 # make times  the seconds of the last gate, crate by crate
 
 SHELL := /bin/bash
 .SHELLFLAGS := -o pipefail -c
-# Four checks at a time keep two cores busy: rt waits for the slowest of those that it started together.
-export RT_JOBS ?= 4
+# Six checks at a time keep two cores busy: rt waits for the slowest of those that it started together.
+export RT_JOBS ?= 6
+# The prover's allocator keeps its pages.
+export MIMALLOC_PURGE_DELAY ?= -1
 RT := $(shell command -v rt 2>/dev/null)
 NO_RT := the Rattle kit is missing: no command 'rt' on PATH (expected in /opt/rattle/bin)
 ARCHIVE := target/staticlib/libergo_index.a
 
-.PHONY: run load test times c-test bindings convert compare compare-full compare-sample compare-build vectors bench all-checks fmt
+.PHONY: run load test times c-test bindings convert flat-view compare compare-full compare-sample compare-build vectors bench all-checks fmt
 
 run:
 ifeq ($(RT),)
@@ -74,6 +77,13 @@ convert: $(ARCHIVE)
 	@$(CONVERT) first $(CURDIR)/target/convert/table-2 $(CURDIR)/target/convert/table-1
 	@cmp target/convert/table target/convert/table-1
 	@echo "convert: ok"
+
+PARENT := 0
+CALLS_FILE := sample/fork.calls
+
+flat-view: $(ARCHIVE)
+	@cd bindings/rust && ERGO_INDEX_LIB_DIR=$(CURDIR)/target/staticlib cargo build --offline --locked --quiet --release --example flat_view
+	@bindings/rust/target/release/examples/flat_view $(PARENT) < $(CALLS_FILE)
 
 times:
 	@scripts/times.py

@@ -15,6 +15,8 @@ CALLS = 'append append-tx pop pop-tx spend unspend tally flush lists locate page
 KINDS.update(zip(CALLS, range(48, 59)), run=64, load=65)
 KINDS['go-on'] = 66
 KINDS.update(zip(('to-second', 'to-first'), (67, 68)))
+FLAT = ['flat-append', 'flat-spend', 'flat-unspend', 'flat-pop']
+KINDS.update(zip(FLAT, range(72, 76)))
 BODIES = {1: 10, 2: 10, 3: 10, 4: 10, 5: 2, 6: 2, 7: 1, 8: 19, 9: 19}
 RECORDS, KEY = {1: 10288, 2: 10326}, 32
 
@@ -278,6 +280,8 @@ def vector_fields(kind, given):
         old = held(get['nanos'], get.get('ids', b''), get.get('amounts', []), get.get('count', len(get.get('amounts', []))))
         box = held(get['box_nanos'], get.get('box_ids', b''), get.get('box_amounts', []), get.get('box_count', len(get.get('box_amounts', []))))
         return old + box
+    if kind in FLAT:
+        return field(get['list'] + [0] * (get.get('room', 4096) - len(get['list']))) + numbered(get.get('count', len(get['list'])), get.get('number', 0))
     if kind in ('load', 'go-on'):
         counts = numbered(get['boxes'], get['txs']) if kind == 'go-on' else b''
         return field(get['out']) + numbered(get['state'], get['calls']) + counts

@@ -63,11 +63,13 @@ extern "C" {
 #define ERGO_INDEX_PAGE_TOO_LONG 33              /* a page of more than 64 numbers is asked for */
 #define ERGO_INDEX_NUMBER_PADDED 34              /* a coded number longer than one byte ends in 00; tested directly after 2 */
 #define ERGO_INDEX_ROW_OF_ANOTHER_SPILL 35       /* a row of edition 2 says another parent, kind or number; no kind is given */
+#define ERGO_INDEX_FLAT_LIST_FULL 37             /* an append to a flat list of 4,096 */
 #define ERGO_INDEX_STATE_IS_ZERO 38              /* a load is asked for from state 0 */
 
 /* ---- sizes */
 #define ERGO_INDEX_HEAD_LENGTH 512     /* numbers in a full head, and in a spilled row */
 #define ERGO_INDEX_PAGE_LENGTH 64      /* places of a page of unspent boxes */
+#define ERGO_INDEX_FLAT_LENGTH 4096    /* places of a flat list */
 #define ERGO_INDEX_ROW_LIMIT 10254     /* bytes of the longest segment row */
 #define ERGO_INDEX_RECORD_SIZE 10288   /* bytes of a record: 32 of the key, 2 of the length (high byte first), then the row and zeros */
 #define ERGO_INDEX_SECOND_ROW_LIMIT 10292   /* bytes of the longest row of edition 2 */
@@ -350,6 +352,22 @@ uint8_t ergo_index_decode_undo_entry(const uint8_t *bytes, size_t bytes_len, boo
  * Changes: heights, *count. */
 uint8_t ergo_index_prune_below_window(uint64_t *heights, size_t heights_len, size_t *count, size_t capacity, uint64_t current,
                                       bool window_named, uint64_t window_heights);
+
+/* ---- a flat list: one parent's box numbers in one list of ERGO_INDEX_FLAT_LENGTH places or more, without rows, keys and staged spills. In a history that
+ * keeps the rules and in which no list is full, the calls answer as those of the segment buffer. */
+
+/* Puts a number at the end. Refusals, in order: 25 (*count above 4,096, a list shorter than that), 17, 37. Changes: *count, list. */
+uint8_t ergo_index_flat_append_box(size_t *count, int64_t *list, size_t list_len, int64_t number);
+
+/* Marks one box as spent: the first entry of the target's absolute value that is not negative is negated. Refusals, in order: 25, 9, 10, 14 or 15.
+ * Changes: list. */
+uint8_t ergo_index_flat_spend_box(size_t *count, int64_t *list, size_t list_len, int64_t target);
+
+/* Takes a spend back: the first negative entry of the target's absolute value is negated. Refusals and changes as for the spend. */
+uint8_t ergo_index_flat_unspend_box(size_t *count, int64_t *list, size_t list_len, int64_t target);
+
+/* Takes the last number; its place becomes 0. Refusals, in order: 25, 19. Changes: *number, *count, list. */
+uint8_t ergo_index_flat_pop_box(size_t *count, int64_t *list, size_t list_len, int64_t *number);
 
 /* ---- answers and figures */
 

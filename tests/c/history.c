@@ -414,6 +414,24 @@ static void codecs(void) {
     printf("\n");
 }
 
+static void flat_lists(void) {
+    static int64_t list[ERGO_INDEX_FLAT_LENGTH];
+    size_t count = 0;
+    int64_t number = 0;
+
+    for (int64_t n = 1; n <= 600; n++) EXPECT(ergo_index_flat_append_box(&count, list, ERGO_INDEX_FLAT_LENGTH, n) == ERGO_INDEX_ACCEPTED);
+    EXPECT(ergo_index_flat_spend_box(&count, list, ERGO_INDEX_FLAT_LENGTH, 7) == ERGO_INDEX_ACCEPTED && list[6] == -7);
+    EXPECT(ergo_index_flat_spend_box(&count, list, ERGO_INDEX_FLAT_LENGTH, 7) == ERGO_INDEX_NO_COPY_OF_THAT_SIGN);
+    EXPECT(ergo_index_flat_spend_box(&count, list, ERGO_INDEX_FLAT_LENGTH, 700) == ERGO_INDEX_TARGET_NOT_SEEN);
+    EXPECT(ergo_index_flat_unspend_box(&count, list, ERGO_INDEX_FLAT_LENGTH, 7) == ERGO_INDEX_ACCEPTED && list[6] == 7);
+    EXPECT(ergo_index_flat_pop_box(&count, list, ERGO_INDEX_FLAT_LENGTH, &number) == ERGO_INDEX_ACCEPTED && number == 600 && count == 599 && list[599] == 0);
+    EXPECT(ergo_index_flat_pop_box(&count, list, ERGO_INDEX_FLAT_LENGTH - 1, &number) == ERGO_INDEX_BUFFERS && count == 599);
+    count = ERGO_INDEX_FLAT_LENGTH;
+    EXPECT(ergo_index_flat_append_box(&count, list, ERGO_INDEX_FLAT_LENGTH, 601) == ERGO_INDEX_FLAT_LIST_FULL && count == ERGO_INDEX_FLAT_LENGTH);
+    EXPECT(ergo_index_flat_append_box(&count, list, ERGO_INDEX_FLAT_LENGTH, -1) == ERGO_INDEX_NEGATIVE_NUMBER);
+    printf("flat list: ok\n");
+}
+
 int main(void) {
     history();
     balances_and_records();
@@ -421,6 +439,7 @@ int main(void) {
     loads();
     editions();
     codecs();
+    flat_lists();
     printf("ok\n");
     return 0;
 }

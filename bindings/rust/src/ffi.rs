@@ -539,6 +539,10 @@ extern "C" {
         txs: *mut u64,
     ) -> u8;
     pub fn ergo_index_go_on(state: *mut u64, boxes: *mut u64, txs: *mut u64, count: u64, out: *mut u8, out_len: usize, written: *mut usize) -> u8;
+    pub fn ergo_index_flat_append_box(count: *mut usize, list: *mut i64, list_len: usize, number: i64) -> u8;
+    pub fn ergo_index_flat_spend_box(count: *mut usize, list: *mut i64, list_len: usize, target: i64) -> u8;
+    pub fn ergo_index_flat_unspend_box(count: *mut usize, list: *mut i64, list_len: usize, target: i64) -> u8;
+    pub fn ergo_index_flat_pop_box(count: *mut usize, list: *mut i64, list_len: usize, number: *mut i64) -> u8;
     pub fn ergo_index_tolerate_secondary_drift(flip: u8, skipped: *mut bool) -> u8;
     pub fn ergo_index_statement_milli_ergs(nano_ergs: i64) -> i64;
 }

@@ -41,6 +41,7 @@ mod codec;
 mod convert;
 mod edition;
 pub mod ffi;
+mod flat;
 mod lists;
 mod load;
 mod pages;
@@ -53,6 +54,7 @@ pub use batch::{Batch, BatchAnswer, END_CUT_CALL, END_NO_CALL, END_NO_ROOM, END_
 pub use codec::{blake2b256, box_segment_id, tx_segment_id, VlqReader, VlqWriter};
 pub use convert::{SpillId, Unconverted};
 pub use edition::{row_to_first, row_to_second, Edition, First, RowKind, Second};
+pub use flat::{FlatAccount, FLAT_LIMIT};
 pub use lists::{flush_staged_spills, inspect_spill, DeletedSpills, Key, SegmentTable, Spill, StagedSpills, KEY_SIZE, RECORD_SIZE, ROW_LIMIT};
 pub use load::{Load, LoadCall};
 pub use pages::{UnspentBoxes, PAGE_LENGTH};

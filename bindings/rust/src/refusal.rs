@@ -86,11 +86,13 @@ pub enum Refusal {
     NumberPadded = 34,
     /// 35: a row of edition 2 says another parent, kind or number than those behind its key, or than those given.
     RowOfAnotherSpill = 35,
+    /// 37: an append to a flat list of 4,096.
+    FlatListFull = 37,
     /// 38: a load is asked for from state 0.
     StateIsZero = 38,
 }
 
-const ALL: [Refusal; 36] = [
+const ALL: [Refusal; 37] = [
     Refusal::BytesEnd,
     Refusal::NumberTooLarge,
     Refusal::NegativeLength,
@@ -126,6 +128,7 @@ const ALL: [Refusal; 36] = [
     Refusal::PageTooLong,
     Refusal::NumberPadded,
     Refusal::RowOfAnotherSpill,
+    Refusal::FlatListFull,
     Refusal::StateIsZero,
 ];
 
@@ -178,6 +181,7 @@ impl Refusal {
             Refusal::PageTooLong => "a page of more than 64 numbers is asked for",
             Refusal::NumberPadded => "a coded number longer than one byte ends in 00",
             Refusal::RowOfAnotherSpill => "a row says another parent, kind or number",
+            Refusal::FlatListFull => "an append to a flat list of 4,096",
             Refusal::StateIsZero => "a load is asked for from state 0",
         }
     }
@@ -205,7 +209,7 @@ mod tests {
 
     #[test]
     fn numbers_and_names_agree() {
-        assert!(ALL.iter().map(|refusal| refusal.code()).eq((1..=35).chain([38])));
+        assert!(ALL.iter().map(|refusal| refusal.code()).eq((1..=35).chain([37, 38])));
         for refusal in ALL {
             assert_eq!(Refusal::from_code(refusal.code()), Some(refusal));
         }

@@ -120,3 +120,17 @@ module _ (E : St.Env) (code : Coded E) (U : Series → ℕ → Type 0) (apart : 
       (λ h a. ite-cases (ℕ-discrete (σ .counts ch) max-count) (refused 18) _ (done τ) a (λ x b. absurd (done≢refused (sym b)))
       (λ x b. subst (Appended σ ch (pos m)) (append-staged σ ch m τ (St.stage E σ (key ch (σ .counts ch)) (enc ch (σ .counts ch) (σ .heads ch))) refl b)
       (append-spill σ ch m G td v (append-size σ ch m τ (St.stage E σ (key ch (σ .counts ch)) (enc ch (σ .counts ch) (σ .heads ch))) G refl b) h x (C (σ .counts ch) (omega (arith, h, G .fits ch, Gs.entries-length E code U σ ch G, mul-suc (suc r) (σ .counts ch)))))))
+
+-- an append of a number that is not below 0 is refused only by 16, or where the spill count is full
+module _ (E : St.Env) (code : Coded E) where
+  stage-no : (σ : St.Store E) (ch : Series) (m k : ℕ) (X : Res (St.Table E)) → St.stage E σ (E .key ch (σ .counts ch)) (E .enc ch (σ .counts ch) (σ .heads ch)) ≡ X
+      → then-do X (λ t. done (St.spilled E σ ch (pos m) t)) ≡ refused k → k ≡ 16
+  stage-no σ ch m k (done t) a c = absurd (done≢refused c)
+  stage-no σ ch m k (refused j) a c =
+      let z : j ≡ k = cc in sym z ∙ Gs.stage-refused E code σ (E .key ch (σ .counts ch)) (E .enc ch (σ .counts ch) (σ .heads ch)) j a .0
+
+  pub append-no : (σ : St.Store E) (ch : Series) (m k : ℕ) → St.append-store E σ ch (pos m) ≡ refused k → (k ≡ 16) ⊎ (σ .counts ch ≡ E .max-count)
+  append-no σ ch m k e =
+      ite-cases (decLe (length (σ .heads ch)) (E .r)) (done (St.with-head E σ ch (σ .heads ch ++ (pos m ∷ [])))) _ (refused k) e (λ a b. absurd (done≢refused b))
+      (λ a b. ite-cases (ℕ-discrete (σ .counts ch) (E .max-count)) (refused 18) _ (refused k) b (λ x y. inr x)
+      (λ x y. inl (stage-no σ ch m k (St.stage E σ (E .key ch (σ .counts ch)) (E .enc ch (σ .counts ch) (σ .heads ch))) refl y)))

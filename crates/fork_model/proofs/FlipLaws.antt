@@ -144,22 +144,22 @@ module _ (E : St.Env) (code : Coded E) (U : Series → ℕ → Type 0) (apart : 
       ∙ ap (λ b. when-b b (done l) (refused 13)) (Se.sorted-ordered l 0 S (λ m t. omega arith))
 
   module _ (σ : St.Store E) (ch : Series) (e : ℤ) (G : Good σ) (S : Sorted (St.entries E σ ch)) where
-    rows-sorted : Sorted (flat (St.store-row E σ ch) (σ .counts ch))
+    pub rows-sorted : Sorted (flat (St.store-row E σ ch) (σ .counts ch))
     rows-sorted = Se.sorted-left (flat (St.store-row E σ ch) (σ .counts ch)) (σ .heads ch) S
 
-    abbrev row : ℕ → List ℤ
+    abbrev pub row : ℕ → List ℤ
     row s = row-or (St.store-row E σ ch s)
 
-    row-size : (s : ℕ) → s < σ .counts ch → length (row s) ≡ suc r
+    pub row-size : (s : ℕ) → s < σ .counts ch → length (row s) ≡ suc r
     row-size s h = full-length lim r (St.store-row E σ ch s) (G .full ch s h)
 
-    reads : (s : ℕ) → s < σ .counts ch → St.read-row E σ ch s ≡ done (row s)
+    pub reads : (s : ℕ) → s < σ .counts ch → St.read-row E σ ch s ≡ done (row s)
     reads s h = read-ok (St.store-row E σ ch s) (G .full ch s h) (Se.sorted-row (St.store-row E σ ch) (σ .counts ch) s h rows-sorted)
 
-    head-in : (s : ℕ) → s < σ .counts ch → List·Memᴰ (getD (row s) 0 (pos 0)) (row s)
+    pub head-in : (s : ℕ) → s < σ .counts ch → List·Memᴰ (getD (row s) 0 (pos 0)) (row s)
     head-in s h = Se.mem-at (row s) 0 (omega (arith, row-size s h))
 
-    rises : (s t : ℕ) → s ≤ t → t < σ .counts ch → first-abs (row s) ≤ first-abs (row t)
+    pub rises : (s t : ℕ) → s ≤ t → t < σ .counts ch → first-abs (row s) ≤ first-abs (row t)
     rises s t a b = go (ℕ-discrete s t)
       where
         go : Dec (s ≡ t) → first-abs (row s) ≤ first-abs (row t)

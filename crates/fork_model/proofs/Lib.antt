@@ -15,6 +15,7 @@ pub mod AppendLaws
 pub mod PopLaws
 pub mod FlushLaws
 pub mod FlipLaws
+pub mod MissLaws
 pub mod CodeLaws
 pub mod Whole
 pub mod Results

@@ -23,3 +23,7 @@ address-limit = 15675
 -- document 02, U8: "a line of five unsigned 64-bit numbers"
 abbrev pub summary-line : ℕ
 summary-line = 5
+
+-- "a single list of at most 4,096 box numbers" (document 02, U9)
+abbrev pub flat-limit : ℕ
+flat-limit = 4096

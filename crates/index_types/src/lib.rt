@@ -19,6 +19,9 @@ pub const ADDRESS_LIMIT: usize = 15675;
 // The numbers in a line of a summary.
 pub const SUMMARY_LINE: usize = 5;
 
+// The most numbers of a flat list.
+pub const FLAT_LIMIT: usize = 4096;
+
 // ---- types
 
 // An edition of the spill rows. The second writes the parent, the kind and the spill number before the body.
@@ -101,6 +104,18 @@ pub enum Paged {
 // The counts of the table, the staged and the deleted spills after a flush.
 pub enum Flushed {
     Done(ListCounts, ListCounts, ListCounts),
+    Refused(u8),
+}
+
+// How many numbers stand in a flat list after an append, a spend or an unspend.
+pub enum FlatChanged {
+    Done(usize),
+    Refused(u8),
+}
+
+// The number that was popped from a flat list, and how many stand in it after.
+pub enum FlatPopped {
+    Number(BoxNumber, usize),
     Refused(u8),
 }
 

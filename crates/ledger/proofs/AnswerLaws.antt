@@ -28,7 +28,7 @@ module _ (M : Machine) where
   flush-told c (accepted σ) = refl
   flush-told c (refused-leaving k σ) = refl
 
-  step-told : (c : Conf) (s : Step) → Mc.step M c s .standing ≡ stands-after s (Mc.answer-to M c s) (c .standing)
+  pub step-told : (c : Conf) (s : Step) → Mc.step M c s .standing ≡ stands-after s (Mc.answer-to M c s) (c .standing)
   step-told c (call a) = call-told c a (Mc.run-call M (c .now) a)
   step-told c undo = newest-told c (c .standing) refl
   step-told c flush = flush-told c (Mc.with-store M (c .now) (M .flush-store (c .now .store)))

@@ -41,7 +41,7 @@ fn codec(kind: u8, name: &[u8], s: &[u8]) {
     }
 }
 
-// Balances, calls of the buffer, histories, loads and rows turned into the other edition.
+// Balances, calls of the buffer, histories, loads, rows turned into the other edition and flat lists.
 fn replay(kind: u8, name: &[u8], s: &[u8]) {
     match kind {
         32 => vector_balances::replay(name, Change::Add, s),
@@ -64,6 +64,10 @@ fn replay(kind: u8, name: &[u8], s: &[u8]) {
         66 => vector_load::go_on(name, s),
         67 => vector_editions::replay(name, RowEdition::Two, s),
         68 => vector_editions::replay(name, RowEdition::One, s),
+        72 => vector_flat::replay(name, 0, s),
+        73 => vector_flat::replay(name, 1, s),
+        74 => vector_flat::replay(name, 2, s),
+        75 => vector_flat::replay(name, 3, s),
         _ => codec(kind, name, s),
     }
 }

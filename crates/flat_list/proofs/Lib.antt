@@ -1,0 +1,2 @@
+-- The laws and proofs of `flat_list`.
+pub mod FlatLaws

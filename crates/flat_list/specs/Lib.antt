@@ -1,0 +1,2 @@
+-- The definitions that the contracts of `flat_list` cite.
+pub mod Flat
