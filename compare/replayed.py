@@ -15,6 +15,8 @@ CALLS = 'append append-tx pop pop-tx spend unspend tally flush lists locate page
 KINDS.update(zip(CALLS, range(48, 59)), run=64, load=65)
 KINDS['go-on'] = 66
 KINDS.update(zip(('to-second', 'to-first'), (67, 68)))
+SUMMARY = ['summarize', 'append-summary', 'pop-summary', 'spend-summary', 'unspend-summary', 'tally-summary']
+KINDS.update(zip(SUMMARY, [*range(59, 64), 69]))
 FLAT = ['flat-append', 'flat-spend', 'flat-unspend', 'flat-pop']
 KINDS.update(zip(FLAT, range(72, 76)))
 BODIES = {1: 10, 2: 10, 3: 10, 4: 10, 5: 2, 6: 2, 7: 1, 8: 19, 9: 19}
@@ -234,18 +236,26 @@ def page_fields(given):
     return coded(int(given.get('length', 64))) + field(value(given.get('page', '[64*7]')))
 
 
+def summary_fields(given):
+    numbers = value(given.get('summary', '[]'))
+    lines = int(given.get('lines', len(numbers) // 5))
+    return coded(lines) + field([n - 2**64 if n >= 2**63 else n for n in numbers])
+
+
 def call_answer(kind, given, answer, after):
     words = list(answer)
     if answer[0] != '0':
         return words
-    for name in CHANGED.get(kind, []):
+    for name in CHANGED.get(kind.removesuffix('-summary'), []):
         text = after.get(name, given.get(name, '[]' if name == 'head' else '0/1'))
         words += listed(value(text)) if name == 'head' else [digest(buffer(given, name, text)[2])]
     return words
 
 
 def vector_fields(kind, given):
-    get = {name: value(text) for name, text in given.items()} if kind not in CALLS else {}
+    get = {name: value(text) for name, text in given.items()} if kind not in CALLS + SUMMARY else {}
+    if kind in SUMMARY:
+        return call_fields(given) + summary_fields(given)
     if kind in CALLS:
         return call_fields(given) + (page_fields(given) if kind == 'page' else b'')
     if kind in ('to-second', 'to-first'):
@@ -306,8 +316,11 @@ def from_vectors(line):
     given = dict(word.split('=', 1) for word in words)
     after = dict(word.split('=', 1) for word in words_of(right) if '=' in word)
     answer = list(answer_words(' '.join(word for word in words_of(right) if '=' not in word)))
-    if kind in CALLS:
+    if kind in CALLS + SUMMARY:
         answer = call_answer(kind, given, answer, after)
+    if kind in SUMMARY:
+        # a second line: the numbers of the summary
+        answer += [f'\n{name}:', 0] + value(after.get('summary', given.get('summary', '[]')))
     return record(kind, name, vector_fields(kind, given)), name, answer
 
 
@@ -319,7 +332,7 @@ def main(sample, vectors, folder):
                 continue
             data, name, words = made_from(line.rstrip('\n'))
             records += data
-            lines.append(f"{name}: {' '.join(map(str, words))}\n")
+            lines.append(f"{name}: {' '.join(map(str, words))}\n".replace(' \n', '\n'))
     open(f'{folder}/stdin', 'wb').write(records)
     open(f'{folder}/stdout', 'w').write(''.join(lines))
 

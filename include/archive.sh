@@ -7,7 +7,7 @@ command -v rt >/dev/null || { echo "the Rattle kit is missing: no command 'rt' o
 command -v ar >/dev/null || { echo "no command 'ar' on PATH: it comes with the C compiler" >&2; exit 2; }
 
 parts=
-for part in $(sed -n 's/^\(ergo_index_[a-z]*\):.*/\1/p' crates.txt); do
+for part in $(sed -n 's/^\(ergo_index_[a-z_]*\):.*/\1/p' crates.txt); do
     if grep -rq no_mangle "crates/$part/src"; then parts="$parts $part"; fi
 done
 

@@ -63,6 +63,7 @@ extern "C" {
 #define ERGO_INDEX_PAGE_TOO_LONG 33              /* a page of more than 64 numbers is asked for */
 #define ERGO_INDEX_NUMBER_PADDED 34              /* a coded number longer than one byte ends in 00; tested directly after 2 */
 #define ERGO_INDEX_ROW_OF_ANOTHER_SPILL 35       /* a row of edition 2 says another parent, kind or number; no kind is given */
+#define ERGO_INDEX_SUMMARY_TOO_SHORT 36          /* a summary has fewer lines than spills, no free line, or a line that is not one of 512 entries */
 #define ERGO_INDEX_FLAT_LIST_FULL 37             /* an append to a flat list of 4,096 */
 #define ERGO_INDEX_STATE_IS_ZERO 38              /* a load is asked for from state 0 */
 
@@ -70,6 +71,7 @@ extern "C" {
 #define ERGO_INDEX_HEAD_LENGTH 512     /* numbers in a full head, and in a spilled row */
 #define ERGO_INDEX_PAGE_LENGTH 64      /* places of a page of unspent boxes */
 #define ERGO_INDEX_FLAT_LENGTH 4096    /* places of a flat list */
+#define ERGO_INDEX_SUMMARY_LINE 5      /* numbers in a line of a summary */
 #define ERGO_INDEX_ROW_LIMIT 10254     /* bytes of the longest segment row */
 #define ERGO_INDEX_RECORD_SIZE 10288   /* bytes of a record: 32 of the key, 2 of the length (high byte first), then the row and zeros */
 #define ERGO_INDEX_SECOND_ROW_LIMIT 10292   /* bytes of the longest row of edition 2 */
@@ -267,6 +269,68 @@ uint8_t ergo_index_row_to_second(const uint8_t *row, size_t row_len, const uint8
  * Changes: out, *written. */
 uint8_t ergo_index_row_to_first(const uint8_t *row, size_t row_len, const uint8_t parent[32], uint8_t kind, int32_t number, uint8_t *out,
                                 size_t out_len, size_t *written);
+
+/* ---- a summary of one parent's box spills
+ *
+ * A summary is `lines` lines of ERGO_INDEX_SUMMARY_LINE numbers, line n for spill n: the first and the last absolute value of its row, and how many of its
+ * entries are above 0, equal to 0 and below 0. Lines that no spill has are zero. With one, a tally reads no row, and a spend or an unspend reads only the rows
+ * that it searches; it is worth its 40 bytes a spill where a parent has many spills.
+ *
+ * - Each parent has a summary of its own: all zero while the parent has no box spill, or made by ergo_index_summarize_boxes at any time.
+ * - From then on lend it to every box append, box pop, spend and unspend of that parent, with the same `lines`: in a history that keeps the rules these calls
+ *   keep it what ergo_index_summarize_boxes would make. A call without it (the functions above, the batch) that spills, pops or changes a row leaves the
+ *   summary behind; make it afresh then. Flushes, transactions, tallies over the rows and pages need none.
+ * - A row that a call does not read is not checked: damage there goes unnoticed. ergo_index_summarize_boxes checks every row, as ergo_index_tally does. With a
+ *   summary that is not the parent's, what the calls find is not what the rows say.
+ * - summary_len is at least ERGO_INDEX_SUMMARY_LINE * lines, or 25, which every call tests first, beside what it tests without a summary. Numbers behind the
+ *   last line stay.
+ * - second_edition names the edition of the rows, as for the functions _in_edition; 35 comes in edition 2 only. */
+
+/* Makes the summary afresh: a line for each box spill, made from its row, and zeros on the lines behind.
+ * Refusals, in order: 25 (head, staged spills, table, summary), 10, 11, 36 (fewer lines than spills); per row from spill 0 up: 12, 1 to 6 or 34, 8, 35, 13.
+ * Changes: summary. */
+uint8_t ergo_index_summarize_boxes(bool second_edition, const uint8_t parent[32], size_t len, int32_t spills, const int64_t *head, size_t head_len,
+                                   size_t staged_count, size_t staged_capacity, const uint8_t *staged, size_t staged_len,
+                                   size_t table_count, size_t table_capacity, const uint8_t *table, size_t table_len, size_t lines, uint64_t *summary,
+                                   size_t summary_len);
+
+/* Counts the entries of the boxes that are above 0 (unspent), below 0 (spent) and equal to 0 (unknown), by the lines of the spills and the head.
+ * Refusals, in order: 25 (head, summary), 10, 11, 36 (fewer lines than spills), 36 (a line whose three counts do not add up to 512).
+ * Changes: *unspent, *spent, *unknown. */
+uint8_t ergo_index_tally_with_summary(size_t len, int32_t spills, const int64_t *head, size_t head_len, size_t lines, const uint64_t *summary,
+                                      size_t summary_len, size_t *unspent, size_t *spent, size_t *unknown);
+
+/* Appends a box number to the head. A head of 512 first becomes the staged row numbered by the spill count, and the row gets its line.
+ * Refusals, in order: 25 (head, staged spills, summary), 11, 36 (fewer lines than spills), 17; at a head of 512 only: 18, 36 (no free line), 16.
+ * Changes: *len, *spills, head, *staged_count, staged, summary. */
+uint8_t ergo_index_append_box_entry_with_summary(bool second_edition, const uint8_t parent[32], size_t *len, int32_t *spills, int64_t *head,
+                                                 size_t head_len, int64_t number, size_t *staged_count, size_t staged_capacity, uint8_t *staged,
+                                                 size_t staged_len, size_t lines, uint64_t *summary, size_t summary_len);
+
+/* Takes the last box number off the head. On an empty head the newest row becomes the head first, and its line becomes zero.
+ * Refusals, in order: 25 (head, all three lists, summary), 11, 36 (fewer lines than spills); on an empty head: 19, 12, 1 to 6 or 34, 8, 35, 20, 21.
+ * Changes: *number, *len, *spills, head, *staged_count, staged, *deleted_count, deleted, summary. */
+uint8_t ergo_index_pop_box_entry_with_summary(bool second_edition, const uint8_t parent[32], size_t *len, int32_t *spills, int64_t *head,
+                                              size_t head_len, size_t *staged_count, size_t staged_capacity, uint8_t *staged, size_t staged_len,
+                                              size_t table_count, size_t table_capacity, const uint8_t *table, size_t table_len,
+                                              size_t *deleted_count, size_t deleted_capacity, uint8_t *deleted, size_t deleted_len, size_t lines,
+                                              uint64_t *summary, size_t summary_len, int64_t *number);
+
+/* Marks one box as spent, in the head or else in the first row that the walk over the lines finds it in; the row is staged, and its line made anew.
+ * Refusals, in order: 25 (head, staged spills, table, summary), 9, 10, 11, 36 (fewer lines than spills); per row read: 12, 1 to 6 or 34, 8, 35, 13; 16 at a
+ * match in the table; 14, 15.
+ * Changes: head, *staged_count, staged, summary. */
+uint8_t ergo_index_flip_box_segment_entry_with_summary(bool second_edition, const uint8_t parent[32], size_t len, int32_t spills, int64_t *head,
+                                                       size_t head_len, int64_t target, size_t *staged_count, size_t staged_capacity,
+                                                       uint8_t *staged, size_t staged_len, size_t table_count, size_t table_capacity,
+                                                       const uint8_t *table, size_t table_len, size_t lines, uint64_t *summary, size_t summary_len);
+
+/* Takes a spend back. Refusals and changes as for the spend. */
+uint8_t ergo_index_unflip_box_segment_entry_with_summary(bool second_edition, const uint8_t parent[32], size_t len, int32_t spills, int64_t *head,
+                                                         size_t head_len, int64_t target, size_t *staged_count, size_t staged_capacity,
+                                                         uint8_t *staged, size_t staged_len, size_t table_count, size_t table_capacity,
+                                                         const uint8_t *table, size_t table_len, size_t lines, uint64_t *summary,
+                                                         size_t summary_len);
 
 /* ---- digests and row keys; these refuse nothing */
 

@@ -1,5 +1,6 @@
 /* One parent's history over the C interface: 513 appends, a spend in the row that spilled, a flush, the unspend, and pops across the row; then a
- * balance, an address record, a batch and an undo entry. Every answer is asserted; the lines that are printed are compared with tests/c/history.stdout. */
+ * balance, an address record, a batch, two rows with a summary and an undo entry. Every answer is asserted; the lines that are printed are compared
+ * with tests/c/history.stdout. */
 #include "ergo_index.h"
 
 #include <stdio.h>
@@ -291,8 +292,8 @@ static struct {
     uint8_t bytes[CAPACITY * ERGO_INDEX_SECOND_RECORD_SIZE];
 } staged_2, table_2;
 
-static uint8_t flush_2(void) {
-    return ergo_index_flush_staged_spills_in_edition(true, &staged_2.count, CAPACITY, staged_2.bytes, sizeof staged_2.bytes,
+static uint8_t flush_in(bool second) {
+    return ergo_index_flush_staged_spills_in_edition(second, &staged_2.count, CAPACITY, staged_2.bytes, sizeof staged_2.bytes,
                                                      &table_2.count, CAPACITY, table_2.bytes, sizeof table_2.bytes,
                                                      &deleted.count, CAPACITY, deleted.bytes, sizeof deleted.bytes);
 }
@@ -303,7 +304,7 @@ static void editions(void) {
         EXPECT(ergo_index_append_box_entry_in_edition(true, parent, &head.len, &head.spills, head.numbers, ERGO_INDEX_HEAD_LENGTH, n,
                                                       &staged_2.count, CAPACITY, staged_2.bytes, sizeof staged_2.bytes) == 0);
     EXPECT(head.len == 1 && head.spills == 1 && staged_2.count == 1);
-    EXPECT(flush_2() == 0 && table_2.count == 1);
+    EXPECT(flush_in(true) == 0 && table_2.count == 1);
     EXPECT(ergo_index_flip_box_segment_entry_in_edition(true, parent, head.len, head.spills, head.numbers, ERGO_INDEX_HEAD_LENGTH, 100,
                                                         &staged_2.count, CAPACITY, staged_2.bytes, sizeof staged_2.bytes,
                                                         table_2.count, CAPACITY, table_2.bytes, sizeof table_2.bytes) == 0);
@@ -369,8 +370,129 @@ static void editions(void) {
                                               table_2.count, CAPACITY, table_2.bytes, sizeof table_2.bytes,
                                               &deleted.count, CAPACITY, deleted.bytes, sizeof deleted.bytes, &tx) == 0
            && tx == 7);
-    EXPECT(flush_2() == 0 && staged_2.count == 0 && table_2.count == 0 && deleted.count == 0);
+    EXPECT(flush_in(true) == 0 && staged_2.count == 0 && table_2.count == 0 && deleted.count == 0);
     puts("editions: ok");
+}
+
+/* Two rows with a summary of two lines, in either edition; the number behind the lines stays. */
+#define LINES 2
+#define NUMBERS (LINES * ERGO_INDEX_SUMMARY_LINE + 1)
+
+static struct head lined;
+static uint64_t summary[NUMBERS];
+
+static uint8_t append_with_summary(bool second, int64_t number, size_t lines) {
+    return ergo_index_append_box_entry_with_summary(second, parent, &lined.len, &lined.spills, lined.numbers, ERGO_INDEX_HEAD_LENGTH, number,
+                                                    &staged_2.count, CAPACITY, staged_2.bytes, sizeof staged_2.bytes, lines, summary, NUMBERS);
+}
+
+static uint8_t pop_with_summary(bool second, int64_t *number) {
+    return ergo_index_pop_box_entry_with_summary(second, parent, &lined.len, &lined.spills, lined.numbers, ERGO_INDEX_HEAD_LENGTH,
+                                                 &staged_2.count, CAPACITY, staged_2.bytes, sizeof staged_2.bytes,
+                                                 table_2.count, CAPACITY, table_2.bytes, sizeof table_2.bytes,
+                                                 &deleted.count, CAPACITY, deleted.bytes, sizeof deleted.bytes, LINES, summary, NUMBERS, number);
+}
+
+static uint8_t spend_with_summary(bool second, int64_t target) {
+    return ergo_index_flip_box_segment_entry_with_summary(second, parent, lined.len, lined.spills, lined.numbers, ERGO_INDEX_HEAD_LENGTH, target,
+                                                          &staged_2.count, CAPACITY, staged_2.bytes, sizeof staged_2.bytes,
+                                                          table_2.count, CAPACITY, table_2.bytes, sizeof table_2.bytes, LINES, summary, NUMBERS);
+}
+
+static uint8_t unspend_with_summary(bool second, int64_t target) {
+    return ergo_index_unflip_box_segment_entry_with_summary(second, parent, lined.len, lined.spills, lined.numbers, ERGO_INDEX_HEAD_LENGTH, target,
+                                                            &staged_2.count, CAPACITY, staged_2.bytes, sizeof staged_2.bytes,
+                                                            table_2.count, CAPACITY, table_2.bytes, sizeof table_2.bytes, LINES, summary, NUMBERS);
+}
+
+static uint8_t summarize(bool second, size_t lines, uint64_t *fresh) {
+    return ergo_index_summarize_boxes(second, parent, lined.len, lined.spills, lined.numbers, ERGO_INDEX_HEAD_LENGTH,
+                                      staged_2.count, CAPACITY, staged_2.bytes, sizeof staged_2.bytes,
+                                      table_2.count, CAPACITY, table_2.bytes, sizeof table_2.bytes, lines, fresh, NUMBERS);
+}
+
+/* how many boxes are spent: the tally by the summary is the one over the rows, and the summary the fresh one */
+static size_t spent_by_summary(bool second) {
+    size_t unspent = 0, spent = 0, unknown = 0, row_unspent = 1, row_spent = 1, row_unknown = 1;
+    uint64_t fresh[NUMBERS] = {9, 9, 9, 9, 9, 9, 9, 9, 9, 9, 7};
+    EXPECT(ergo_index_tally_with_summary(lined.len, lined.spills, lined.numbers, ERGO_INDEX_HEAD_LENGTH, LINES, summary, NUMBERS, &unspent, &spent,
+                                         &unknown) == ERGO_INDEX_ACCEPTED);
+    EXPECT(ergo_index_tally_in_edition(second, parent, lined.len, lined.spills, lined.numbers, ERGO_INDEX_HEAD_LENGTH,
+                                       staged_2.count, CAPACITY, staged_2.bytes, sizeof staged_2.bytes,
+                                       table_2.count, CAPACITY, table_2.bytes, sizeof table_2.bytes, &row_unspent, &row_spent, &row_unknown)
+           == ERGO_INDEX_ACCEPTED);
+    EXPECT(unspent == row_unspent && spent == row_spent && unknown == row_unknown);
+    EXPECT(summarize(second, LINES, fresh) == ERGO_INDEX_ACCEPTED && memcmp(summary, fresh, sizeof summary) == 0);
+    return spent;
+}
+
+static void say_summary(const char *what) {
+    printf("%s:", what);
+    for (size_t i = 0; i < LINES * ERGO_INDEX_SUMMARY_LINE; i++)
+        printf("%s %llu", i == ERGO_INDEX_SUMMARY_LINE ? "," : "", (unsigned long long)summary[i]);
+    printf("\n");
+}
+
+/* damage in the row of spill 1 is not seen by a spend in the row of spill 0, but by the summary made afresh, which changes nothing then */
+static void damaged_row(bool second) {
+    uint8_t key[32], list = 0;
+    size_t offset = 0, length = 0;
+    uint64_t fresh[NUMBERS] = {9};
+    ergo_index_box_segment_id(parent, 1, key);
+    EXPECT(ergo_index_inspect_spill_in_edition(second, staged_2.count, CAPACITY, staged_2.bytes, sizeof staged_2.bytes,
+                                               table_2.count, CAPACITY, table_2.bytes, sizeof table_2.bytes, key, &list, &offset, &length) == 0);
+    EXPECT(list == 2);
+    table_2.bytes[offset] ^= 1;
+    EXPECT(spend_with_summary(second, 7) == ERGO_INDEX_ACCEPTED && unspend_with_summary(second, 7) == ERGO_INDEX_ACCEPTED);
+    EXPECT(summarize(second, LINES, fresh) == (second ? ERGO_INDEX_ROW_OF_ANOTHER_SPILL : ERGO_INDEX_NEGATIVE_LENGTH) && fresh[0] == 9);
+    table_2.bytes[offset] ^= 1;
+}
+
+static void summaries(bool second) {
+    int64_t number = 0;
+    size_t unspent = 1, spent = 2, unknown = 3;
+
+    memset(&lined, 0, sizeof lined);
+    memset(summary, 0, sizeof summary);
+    summary[NUMBERS - 1] = 7;
+    for (int64_t n = 1; n <= 1025; n++) EXPECT(append_with_summary(second, n, LINES) == ERGO_INDEX_ACCEPTED);
+    EXPECT(lined.len == 1 && lined.spills == 2 && staged_2.count == 2 && spent_by_summary(second) == 0);
+    say_summary("1025 appends with a summary");
+    EXPECT(flush_in(second) == ERGO_INDEX_ACCEPTED && table_2.count == 2);
+
+    EXPECT(spend_with_summary(second, 100) == ERGO_INDEX_ACCEPTED && staged_2.count == 1 && spent_by_summary(second) == 1);
+    EXPECT(spend_with_summary(second, 1025) == ERGO_INDEX_ACCEPTED && lined.numbers[0] == -1025 && spent_by_summary(second) == 2);
+    say_summary("two spends");
+    EXPECT(spend_with_summary(second, 100) == ERGO_INDEX_NO_COPY_OF_THAT_SIGN && spend_with_summary(second, 1026) == ERGO_INDEX_TARGET_NOT_SEEN);
+    damaged_row(second);
+    EXPECT(spent_by_summary(second) == 2);
+    EXPECT(unspend_with_summary(second, 1025) == ERGO_INDEX_ACCEPTED && unspend_with_summary(second, 100) == ERGO_INDEX_ACCEPTED);
+    EXPECT(spent_by_summary(second) == 0 && summary[2] == 512 && summary[4] == 0);
+
+    /* 25 for a summary too short for its lines; 36 for fewer lines than spills, and for a line that is not one of 512 entries */
+    EXPECT(summarize(second, LINES + 1, summary) == ERGO_INDEX_BUFFERS && summarize(second, LINES - 1, summary) == ERGO_INDEX_SUMMARY_TOO_SHORT);
+    summary[3]++;
+    EXPECT(ergo_index_tally_with_summary(lined.len, lined.spills, lined.numbers, ERGO_INDEX_HEAD_LENGTH, LINES, summary, NUMBERS, &unspent, &spent,
+                                         &unknown) == ERGO_INDEX_SUMMARY_TOO_SHORT);
+    EXPECT(unspent == 1 && spent == 2 && unknown == 3);
+    summary[3]--;
+
+    EXPECT(pop_with_summary(second, &number) == ERGO_INDEX_ACCEPTED && number == 1025 && lined.len == 0 && lined.spills == 2);
+    EXPECT(pop_with_summary(second, &number) == ERGO_INDEX_ACCEPTED && number == 1024 && lined.len == 511 && lined.spills == 1);
+    EXPECT(spent_by_summary(second) == 0);
+    say_summary("two pops");
+
+    /* a full head with no free line: 36, and nothing changes */
+    EXPECT(append_with_summary(second, 1024, LINES - 1) == ERGO_INDEX_ACCEPTED && lined.len == 512);
+    EXPECT(append_with_summary(second, -1, LINES - 1) == ERGO_INDEX_NEGATIVE_NUMBER);
+    EXPECT(append_with_summary(second, 1025, LINES - 1) == ERGO_INDEX_SUMMARY_TOO_SHORT && lined.len == 512 && lined.spills == 1);
+    EXPECT(append_with_summary(second, -1, 0) == ERGO_INDEX_SUMMARY_TOO_SHORT && staged_2.count == 1 && summary[5] == 0);
+
+    for (int64_t n = 1024; n >= 1; n--) EXPECT(pop_with_summary(second, &number) == ERGO_INDEX_ACCEPTED && number == n);
+    EXPECT(lined.len == 0 && lined.spills == 0 && pop_with_summary(second, &number) == ERGO_INDEX_NOTHING_TO_POP && number == 1);
+    for (size_t i = 0; i < NUMBERS; i++) EXPECT(summary[i] == (i == NUMBERS - 1 ? 7 : 0));
+    EXPECT(flush_in(second) == ERGO_INDEX_ACCEPTED && staged_2.count == 0 && table_2.count == 0 && deleted.count == 0);
+    printf("summary, edition %d: ok\n", second ? 2 : 1);
 }
 
 static void codecs(void) {
@@ -438,6 +560,8 @@ int main(void) {
     batch();
     loads();
     editions();
+    summaries(false);
+    summaries(true);
     codecs();
     flat_lists();
     printf("ok\n");

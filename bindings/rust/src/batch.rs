@@ -244,7 +244,7 @@ impl Batch {
     pub fn segment(&self, parent: usize) -> Segment {
         let mut id = [0; 32];
         id.copy_from_slice(&self.ids[parent * IDS..parent * IDS + 32]);
-        Segment { parent: id, boxes: self.head(parent, 0), txs: self.head(parent, 1) }
+        Segment { parent: id, boxes: self.head(parent, 0), txs: self.head(parent, 1), summary: None }
     }
 
     /// A parent's balance, as the calls that were made left it. Panics if there is no such parent.

@@ -48,6 +48,7 @@ mod pages;
 mod records;
 mod refusal;
 mod segment;
+mod summary;
 
 pub use balance::{statement_milli_ergs, Balance, Token, MAX_TOKENS};
 pub use batch::{Batch, BatchAnswer, END_CUT_CALL, END_NO_CALL, END_NO_ROOM, END_OF_INPUT, MAX_PARENTS};
@@ -61,3 +62,4 @@ pub use pages::{UnspentBoxes, PAGE_LENGTH};
 pub use records::{prune_below_window, IndexedAddress, UndoEntry, ADDRESS_LIMIT};
 pub use refusal::Refusal;
 pub use segment::{tolerate_secondary_drift, BoxNumber, Segment, Tally, Tolerated, TxNumber, SEGMENT_THRESHOLD};
+pub use summary::SummaryLine;

@@ -86,13 +86,15 @@ pub enum Refusal {
     NumberPadded = 34,
     /// 35: a row of edition 2 says another parent, kind or number than those behind its key, or than those given.
     RowOfAnotherSpill = 35,
+    /// 36: a summary has no line for a spill, or a line whose counts are not those of a row.
+    SummaryTooShort = 36,
     /// 37: an append to a flat list of 4,096.
     FlatListFull = 37,
     /// 38: a load is asked for from state 0.
     StateIsZero = 38,
 }
 
-const ALL: [Refusal; 37] = [
+const ALL: [Refusal; 38] = [
     Refusal::BytesEnd,
     Refusal::NumberTooLarge,
     Refusal::NegativeLength,
@@ -128,6 +130,7 @@ const ALL: [Refusal; 37] = [
     Refusal::PageTooLong,
     Refusal::NumberPadded,
     Refusal::RowOfAnotherSpill,
+    Refusal::SummaryTooShort,
     Refusal::FlatListFull,
     Refusal::StateIsZero,
 ];
@@ -181,6 +184,7 @@ impl Refusal {
             Refusal::PageTooLong => "a page of more than 64 numbers is asked for",
             Refusal::NumberPadded => "a coded number longer than one byte ends in 00",
             Refusal::RowOfAnotherSpill => "a row says another parent, kind or number",
+            Refusal::SummaryTooShort => "a summary has too few lines, or a line that does not add up",
             Refusal::FlatListFull => "an append to a flat list of 4,096",
             Refusal::StateIsZero => "a load is asked for from state 0",
         }
@@ -209,12 +213,12 @@ mod tests {
 
     #[test]
     fn numbers_and_names_agree() {
-        assert!(ALL.iter().map(|refusal| refusal.code()).eq((1..=35).chain([37, 38])));
+        assert!(ALL.iter().map(|refusal| refusal.code()).eq(1..=38));
         for refusal in ALL {
             assert_eq!(Refusal::from_code(refusal.code()), Some(refusal));
         }
         assert_eq!(Refusal::from_code(0), None);
-        assert_eq!(Refusal::from_code(36), None);
+        assert_eq!(Refusal::from_code(39), None);
         assert_eq!(accepted(0), Ok(()));
         assert_eq!(accepted(25), Err(Refusal::Buffers));
     }

@@ -6,6 +6,7 @@ use crate::edition::{Edition, RowKind};
 use crate::ffi;
 use crate::lists::{DeletedSpills, SegmentTable, StagedSpills};
 use crate::refusal::{accepted, Refusal};
+use crate::summary::{Summary, SummaryLine};
 
 /// The numbers of a full head, and of a spilled row.
 pub const SEGMENT_THRESHOLD: usize = 512;
@@ -77,12 +78,23 @@ impl Eq for Head {}
 /// assert_eq!(segment.pop_box_entry(&mut staged, &table, &mut deleted)?, BoxNumber(5));
 /// # Ok::<(), Refusal>(())
 /// ```
-#[derive(Clone, Debug, PartialEq, Eq)]
+///
+/// A segment may keep a summary of its spilled boxes ([`Segment::summarize`]); two segments are equal whatever summaries they keep.
+#[derive(Clone, Debug)]
 pub struct Segment {
     pub(crate) parent: [u8; 32],
     pub(crate) boxes: Head,
     pub(crate) txs: Head,
+    pub(crate) summary: Option<Summary>,
 }
+
+impl PartialEq for Segment {
+    fn eq(&self, other: &Self) -> bool {
+        self.parent == other.parent && self.boxes == other.boxes && self.txs == other.txs
+    }
+}
+
+impl Eq for Segment {}
 
 type AppendCall = unsafe extern "C" fn(bool, *const u8, *mut usize, *mut i32, *mut i64, usize, i64, *mut usize, usize, *mut u8, usize) -> u8;
 
@@ -205,7 +217,7 @@ fn flip<E: Edition>(
 impl Segment {
     /// An empty segment of a parent.
     pub fn new(parent: [u8; 32]) -> Self {
-        Segment { parent, boxes: Head::empty(), txs: Head::empty() }
+        Segment { parent, boxes: Head::empty(), txs: Head::empty(), summary: None }
     }
 
     /// A parent's segment from its row, as [`Segment::to_row`] writes it. Refused by 25, 1 to 6 or 34, 8.
@@ -254,7 +266,10 @@ impl Segment {
 
     /// Appends a box number; a full head is first staged as the next row. Refused by 25, 11, 17; at a full head 18, 16.
     pub fn append_box_entry<E: Edition>(&mut self, number: BoxNumber, staged: &mut StagedSpills<E>) -> Result<(), Refusal> {
-        append(ffi::ergo_index_append_box_entry_in_edition, &self.parent, &mut self.boxes, number.0, staged)
+        match &mut self.summary {
+            None => append(ffi::ergo_index_append_box_entry_in_edition, &self.parent, &mut self.boxes, number.0, staged),
+            Some(summary) => summary.append(&self.parent, &mut self.boxes, number.0, staged),
+        }
     }
 
     /// Appends a transaction number, as [`Segment::append_box_entry`] does a box number.
@@ -270,7 +285,11 @@ impl Segment {
         table: &SegmentTable<E>,
         deleted: &mut DeletedSpills,
     ) -> Result<BoxNumber, Refusal> {
-        pop(ffi::ergo_index_pop_box_entry_in_edition, &self.parent, &mut self.boxes, staged, table, deleted).map(BoxNumber)
+        match &mut self.summary {
+            None => pop(ffi::ergo_index_pop_box_entry_in_edition, &self.parent, &mut self.boxes, staged, table, deleted),
+            Some(summary) => summary.pop(&self.parent, &mut self.boxes, staged, table, deleted),
+        }
+        .map(BoxNumber)
     }
 
     /// Takes the last transaction number off, as [`Segment::pop_box_entry`] does a box entry.
@@ -290,7 +309,11 @@ impl Segment {
         staged: &mut StagedSpills<E>,
         table: &SegmentTable<E>,
     ) -> Result<(), Refusal> {
-        flip(ffi::ergo_index_flip_box_segment_entry_in_edition, &self.parent, &mut self.boxes, target.0, staged, table)
+        let (parent, boxes) = (&self.parent, &mut self.boxes);
+        match &mut self.summary {
+            None => flip(ffi::ergo_index_flip_box_segment_entry_in_edition, parent, boxes, target.0, staged, table),
+            Some(summary) => summary.flip(ffi::ergo_index_flip_box_segment_entry_with_summary, parent, boxes, target.0, staged, table),
+        }
     }
 
     /// Takes a spend back. Refused as the spend is.
@@ -300,10 +323,49 @@ impl Segment {
         staged: &mut StagedSpills<E>,
         table: &SegmentTable<E>,
     ) -> Result<(), Refusal> {
-        flip(ffi::ergo_index_unflip_box_segment_entry_in_edition, &self.parent, &mut self.boxes, target.0, staged, table)
+        let (parent, boxes) = (&self.parent, &mut self.boxes);
+        match &mut self.summary {
+            None => flip(ffi::ergo_index_unflip_box_segment_entry_in_edition, parent, boxes, target.0, staged, table),
+            Some(summary) => summary.flip(ffi::ergo_index_unflip_box_segment_entry_with_summary, parent, boxes, target.0, staged, table),
+        }
     }
 
-    /// How many entries of the boxes are unspent, spent and unknown, over all rows and the head. Refused by 25, 10, 11 and those of the rows.
+    /// Makes a summary of the spilled boxes from their rows, a line for each, and keeps it from now on: appends, pops, spends and unspends of boxes keep it
+    /// current, a tally adds it up and reads no row, and a spend reads only the rows in which it searches. Damage in a row that is not read goes unnoticed;
+    /// making the summary afresh reads every row. Refused as a tally is, and by 36 where more spills are counted than both lists have records; a refused call
+    /// leaves the summary that was kept.
+    ///
+    /// ```
+    /// use ergo_index::{BoxNumber, Segment, SegmentTable, StagedSpills, Tally};
+    /// let mut segment = Segment::new([7; 32]);
+    /// let (mut staged, table) = (StagedSpills::with_capacity(2), SegmentTable::with_capacity(1));
+    /// segment.summarize(&staged, &table)?;
+    /// for n in 0..600 {
+    ///     segment.append_box_entry(BoxNumber(n), &mut staged)?;
+    /// }
+    /// segment.flip_box_segment_entry(BoxNumber(9), &mut staged, &table)?;
+    /// let line = segment.summary().unwrap()[0];
+    /// assert_eq!((line.first, line.last, line.unspent, line.unknown, line.spent), (0, 511, 510, 1, 1));
+    /// assert_eq!(segment.tally(&staged, &table)?, Tally { unspent: 598, spent: 1, unknown: 1 });
+    /// # Ok::<(), ergo_index::Refusal>(())
+    /// ```
+    pub fn summarize<E: Edition>(&mut self, staged: &StagedSpills<E>, table: &SegmentTable<E>) -> Result<(), Refusal> {
+        self.summary = Some(Summary::fresh(&self.parent, &self.boxes, staged, table)?);
+        Ok(())
+    }
+
+    /// The lines of the summary, one for each row of boxes, oldest first, if one is kept.
+    pub fn summary(&self) -> Option<&[SummaryLine]> {
+        self.summary.as_ref().map(|summary| summary.of_spills(self.boxes.spills))
+    }
+
+    /// Keeps no summary from now on.
+    pub fn drop_summary(&mut self) {
+        self.summary = None;
+    }
+
+    /// How many entries of the boxes are unspent, spent and unknown, over all rows and the head. Refused by 25, 10, 11 and those of the rows. With a summary
+    /// no row is read: refused by 25, 10, 11, 36.
     ///
     /// ```
     /// use ergo_index::{BoxNumber, Segment, SegmentTable, StagedSpills};
@@ -318,6 +380,9 @@ impl Segment {
     /// # Ok::<(), ergo_index::Refusal>(())
     /// ```
     pub fn tally<E: Edition>(&self, staged: &StagedSpills<E>, table: &SegmentTable<E>) -> Result<Tally, Refusal> {
+        if let Some(summary) = &self.summary {
+            return summary.tally(&self.boxes);
+        }
         let (s, t) = (&staged.list, &table.list);
         let mut tally = Tally { unspent: 0, spent: 0, unknown: 0 };
         // SAFETY: as in `append`.

@@ -12,6 +12,7 @@ pub mod random;
 pub mod report;
 pub mod sample;
 pub mod sides;
+pub mod summaries;
 pub mod tables;
 
 pub use ergo_index::ffi;

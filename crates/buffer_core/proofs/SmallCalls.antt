@@ -1,7 +1,7 @@
--- Small calls, computed: what a flush leaves of a staged row whose key is deleted or not, and what a spend writes to a row. Records have 36 bytes here.
+-- Small calls, computed: what a flush leaves of a staged row whose key is deleted or not, where the halving ends, and what a spend writes to a row. Records have 36 bytes here.
 use mathlib.Core.Path.{_≡_, refl}
 use mathlib.Core.List.{List, [], _∷_, _++_}
-use Prim.Native.Nat.{ℕ, zero, suc}
+use Prim.Native.Nat.{ℕ, zero, suc, _+_, _*_}
 use lib.IntN.{ℤ, pos, negsuc}
 use lib.ListN.{getD, replicate}
 use Rattle.stores.specs.Stores.{write}
@@ -12,12 +12,14 @@ use Rattle.records.specs.Find.{find-from, distinct}
 use Rattle.records.specs.Checks.{lengths-ok, records-ok, keys-ok}
 use Rattle.buffer_core.specs.declared.Direction.{Direction}
 use Rattle.buffer_core.specs.declared.Direction.the-variants.{Spend, Unspend}
+use Rattle.buffer_core.specs.declared.Lead.the-variants.{Leads}
+use Rattle.buffer_core.specs.declared.Low.the-variants.{Upto}
 use Rattle.index_types.specs.declared.Flushed.the-variants.{Done}
 use Rattle.buffer_core.specs.Edition.{Edition, good, edition-1}
 use Rattle.buffer_core.specs.Spills.{place-at, spill-read}
 use Rattle.buffer_core.specs.Append.{counts-of}
 use Rattle.buffer_core.specs.Pop.{Lists, lists, lists-ok}
-use Rattle.buffer_core.specs.Flip.{flip-of, flip-ok, flip-core, flip-effect, in-order, in-rows, search-by, walk-from, look-in, stage-at, row-flipped}
+use Rattle.buffer_core.specs.Flip.{flip-of, flip-ok, flip-core, flip-effect, in-order, in-rows, search-by, search-in, walk-from, look-in, stage-at, row-flipped}
 use Rattle.buffer_core.specs.Flush.{flush-of, flush-core, flushed, table-after, put-undeleted, put-staged, remove-key, remove-keys, new-count}
 
 abbrev pub one-place : (count : ℕ) → ListCounts
@@ -39,6 +41,11 @@ flush-writes = refl
 pub flush-leaves-out : flush-of short-records (staged-row-lists 1) .answer ≡ Done (one-place 0) (one-place 0) (one-place 0)
 unfolding flush-of flush-core flushed table-after put-undeleted put-staged remove-key remove-keys new-count lists-ok records-ok keys-ok lengths-ok distinct records find-from same-bytes
 flush-leaves-out = refl
+
+-- ---- the halving: of rows that begin with 1, 11 and 21 the first two may hold 15
+pub halving-ends : search-in (λ n. Leads (n * 10 + 1)) 15 0 3 ≡ Upto 2
+unfolding search-by
+halving-ends = refl
 
 -- ---- a spend in a row: rows of one byte, 512 times the number 5, the first of them spent where the byte is not 0
 abbrev first-five : ℕ → ℤ

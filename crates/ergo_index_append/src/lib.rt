@@ -15,7 +15,7 @@ use index_types::RowEdition;
 use segment_id::Kind;
 
 // What an append answers goes to the outs, and its code is the result; a refusal sets no out.
-fn told(appended: Appended, len: &mut usize, spills: &mut i32, staged_count: &mut usize) -> u8
+pub fn told(appended: Appended, len: &mut usize, spills: &mut i32, staged_count: &mut usize) -> u8
     ensures { λ r. ⌜ ((head : List ℤ) (staged : List ℕ) → append-out r (now (len .exit)) (now (spills .exit)) (now («staged_count» .exit)) head staged
         ≡ append-by appended (now (len .entry)) (now (spills .entry)) (now («staged_count» .entry)) head staged) ⌝ }
 {

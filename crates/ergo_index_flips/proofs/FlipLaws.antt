@@ -1,6 +1,6 @@
 -- The ways out of the exports of the spend, the unspend and the tally: the answer was accepted or refused, and the outs hold its counts or are as they were.
 use Prim.Native.Nat.{ℕ}
-use mathlib.Core.Path.{_≡_, ap}
+use mathlib.Core.Path.{_≡_, _∙_, ap}
 use mathlib.Core.List.{List}
 use lib.IntN.{ℤ}
 use Rattle.index_types.specs.declared.ListCounts.{ListCounts}
@@ -24,10 +24,14 @@ module _ (r : Flipped) (count : ℕ) (head : List ℤ) (staged : List ℕ) where
 pub flip-told : (r : Flipped) (head : List ℤ) (staged : List ℕ) (o : Flipping) → flipping r head staged ≡ o → (count : ℕ) → flip-by r count head staged ≡ flip-export count o
 flip-told r head staged o e count = ap (λ (f : Flipping). flip-export count f) e
 
--- ---- tally
-module _ (r o : Tallied) (e : r ≡ o) (u s z : ℕ) where
-  pub tally-done : (t : Tally) → r ≡ tallied.Counts t → tally-out 0 (t .unspent) (t .spent) (t .unknown) ≡ tally-export u s z o
-  tally-done t f = rw (← e, f)
+-- ---- tally: what goes to the outs
+module _ (r : Tallied) (u s z : ℕ) where
+  pub tally-done : (t : Tally) → r ≡ tallied.Counts t → tally-out 0 (t .unspent) (t .spent) (t .unknown) ≡ tally-export u s z r
+  tally-done t f = rw f
 
-  pub tally-refused : (code : ℕ) → r ≡ tallied.Refused code → tally-out code u s z ≡ tally-export u s z o
-  tally-refused code f = rw (← e, f)
+  pub tally-refused : (code : ℕ) → r ≡ tallied.Refused code → tally-out code u s z ≡ tally-export u s z r
+  tally-refused code f = rw f
+
+-- r is what the public call answered
+pub tally-told : (u s z : ℕ) (r o : Tallied) → r ≡ o → (code u′ s′ z′ : ℕ) → tally-out code u′ s′ z′ ≡ tally-export u s z r → tally-out code u′ s′ z′ ≡ tally-export u s z o
+tally-told u s z r o e code u′ s′ z′ f = f ∙ ap (λ (t : Tallied). tally-export u s z t) e

@@ -6,7 +6,7 @@ ghost use lib.IntN.{ℤ};
 ghost use Rattle.buffer_core.specs.declared.Direction.the-variants.{Spend, Unspend};
 ghost use Rattle.index_types.specs.declared.RowEdition.the-variants.{One};
 ghost use Rattle.ergo_index_lists.specs.Lists.{named-edition};
-ghost use Rattle.ergo_index_flips.specs.Flips.{flip-out, flip-by, flip-call, tally-out, tally-call};
+ghost use Rattle.ergo_index_flips.specs.Flips.{flip-out, flip-by, flip-call, tally-out, tally-export, tally-call};
 use buffer_core::Direction;
 use index_types::Flipped;
 use index_types::HeadCounts;
@@ -15,7 +15,7 @@ use index_types::RowEdition;
 use index_types::Tallied;
 
 // What a spend or an unspend answers goes to the out, and its code is the result; a refusal sets no out.
-fn told(flipped: Flipped, staged_count: &mut usize) -> u8
+pub fn told(flipped: Flipped, staged_count: &mut usize) -> u8
     ensures { λ r. ⌜ ((head : List ℤ) (staged : List ℕ) → flip-out r (now («staged_count» .exit)) head staged ≡ flip-by flipped (now («staged_count» .entry)) head staged) ⌝ }
 {
     match flipped {
@@ -138,6 +138,26 @@ pub extern "C" fn ergo_index_unflip_box_segment_entry(
         table_capacity,
         table,
     )
+}
+
+// What a tally answers goes to the outs, and its code is the result; a refusal sets no out.
+pub fn told_tally(
+    tallied: Tallied,
+    unspent: &mut usize,
+    spent: &mut usize,
+    unknown: &mut usize,
+) -> u8
+    ensures { λ r. ⌜ tally-out r (now (unspent .exit)) (now (spent .exit)) (now (unknown .exit)) ≡ tally-export (now (unspent .entry)) (now (spent .entry)) (now (unknown .entry)) tallied ⌝ }
+{
+    match tallied {
+        Tallied::Counts(tally) => {
+            *unspent = tally.unspent;
+            *spent = tally.spent;
+            *unknown = tally.unknown;
+            0
+        }
+        Tallied::Refused(code) => code,
+    }
 }
 
 // How many entries of the boxes are unspent (above 0), spent (below 0) and unknown (equal to 0), over all rows and the head.
@@ -292,13 +312,5 @@ pub extern "C" fn ergo_index_tally_in_edition<'a>(
         table_counts,
         table,
     );
-    match tallied {
-        Tallied::Counts(tally) => {
-            *unspent = tally.unspent;
-            *spent = tally.spent;
-            *unknown = tally.unknown;
-            0
-        }
-        Tallied::Refused(code) => code,
-    }
+    told_tally(tallied, unspent, spent, unknown)
 }

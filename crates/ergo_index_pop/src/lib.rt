@@ -15,7 +15,7 @@ use index_types::RowEdition;
 use segment_id::Kind;
 
 // What a pop answers goes to the outs, and its code is the result; a refusal sets no out.
-fn told(
+pub fn told(
     popped: Popped,
     number: &mut i64,
     len: &mut usize,

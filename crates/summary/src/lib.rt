@@ -103,8 +103,8 @@ pub fn append_box_entry_with_summary(
     Appended::Refused(refusal::BUFFERS)
 }
 
-// A pop of a box number.
-fn pop_entry(
+// A pop of a box number, as a plain number.
+pub fn pop_entry(
     edition: RowEdition,
     parent: &[u8; 32],
     counts: HeadCounts,
@@ -196,8 +196,8 @@ pub fn pop_box_entry_with_summary(
 
 // ---- spend, unspend and tally
 
-// A spend or an unspend.
-fn flip_entry(
+// A spend or an unspend, as the direction says.
+pub fn flip_entry(
     edition: RowEdition,
     direction: Direction,
     parent: &[u8; 32],

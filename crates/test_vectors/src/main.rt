@@ -59,6 +59,12 @@ fn replay(kind: u8, name: &[u8], s: &[u8]) {
         56 => vector_calls::replay(name, Call::Lists, s),
         57 => vector_calls::replay(name, Call::Locate, s),
         58 => vector_calls::replay(name, Call::Page, s),
+        59 => vector_calls::replay(name, Call::Summarize, s),
+        60 => vector_calls::replay(name, Call::AppendSummary, s),
+        61 => vector_calls::replay(name, Call::PopSummary, s),
+        62 => vector_calls::replay(name, Call::SpendSummary, s),
+        63 => vector_calls::replay(name, Call::UnspendSummary, s),
+        69 => vector_calls::replay(name, Call::TallySummary, s),
         64 => vector_runs::run(name, s),
         65 => vector_load::generate(name, s),
         66 => vector_load::go_on(name, s),
@@ -109,7 +115,7 @@ fn records(s: &[u8]) {
 }
 
 fn main() {
-    let mut input = [0u8; 262144];
+    let mut input = [0u8; 393216];
     let n = io::read_full(STDIN_FILENO, &mut input);
     records(&input[..n]);
 }

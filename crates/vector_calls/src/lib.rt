@@ -1,17 +1,17 @@
 // One call of the segment buffer over the buffers of a record, a line each: the refusal code, or 0, what the call gave, and what it changed: the
 // numbers of the head, and of each list that the call may change the digest of all its bytes.
+mod asks;
+mod changes;
 mod show;
+mod summaries;
 
 ghost use mathlib.Core.Path.{_≡_};
 ghost use Prim.Native.Nat.{_≤_};
 ghost use lib.ListN.{length};
-use index_types::BoxNumber;
 use index_types::HeadCounts;
 use index_types::ListCounts;
 use index_types::RowEdition;
 use index_types::SEGMENT_THRESHOLD;
-use index_types::TxNumber;
-use segment_id::Kind;
 
 pub enum Call {
     AppendBox,
@@ -25,16 +25,22 @@ pub enum Call {
     Lists,
     Locate,
     Page,
+    Summarize,
+    AppendSummary,
+    PopSummary,
+    SpendSummary,
+    UnspendSummary,
+    TallySummary,
 }
 
 // The edition of the rows, the counts of a call's buffers, and its number.
-struct Given {
-    edition: RowEdition,
-    counts: HeadCounts,
-    number: i64,
-    staged: ListCounts,
-    table: ListCounts,
-    deleted: ListCounts,
+pub struct Given {
+    pub edition: RowEdition,
+    pub counts: HeadCounts,
+    pub number: i64,
+    pub staged: ListCounts,
+    pub table: ListCounts,
+    pub deleted: ListCounts,
 }
 
 // A list's counts, how many of its bytes are borrowed, and the position behind it.
@@ -61,272 +67,6 @@ fn list_at(s: &[u8], at: usize, out: &mut [u8]) -> List
     }
 }
 
-fn append_box(name: &[u8], parent: &[u8; 32], given: Given, head: &mut [i64], staged: &mut [u8]) {
-    let edition = given.edition;
-    let counts = given.counts;
-    let number = BoxNumber(given.number);
-    let rows = given.staged;
-    let answer = segment_buffer::append_box_entry(
-        edition,
-        parent,
-        counts,
-        head,
-        number,
-        rows,
-        staged,
-    );
-    show::appended(name, answer, head, staged);
-}
-
-fn append_tx(name: &[u8], parent: &[u8; 32], given: Given, head: &mut [i64], staged: &mut [u8]) {
-    let edition = given.edition;
-    let counts = given.counts;
-    let number = TxNumber(given.number);
-    let rows = given.staged;
-    let answer = segment_buffer::append_tx_entry(
-        edition,
-        parent,
-        counts,
-        head,
-        number,
-        rows,
-        staged,
-    );
-    show::appended(name, answer, head, staged);
-}
-
-fn pop_box(
-    name: &[u8],
-    parent: &[u8; 32],
-    given: Given,
-    head: &mut [i64],
-    staged: &mut [u8],
-    table: &[u8],
-    deleted: &mut [u8],
-) {
-    let edition = given.edition;
-    let counts = given.counts;
-    let rows = given.staged;
-    let shelf = given.table;
-    let keys = given.deleted;
-    let answer = segment_buffer::pop_box_entry(
-        edition,
-        parent,
-        counts,
-        head,
-        rows,
-        staged,
-        shelf,
-        table,
-        keys,
-        deleted,
-    );
-    show::popped_box(name, answer, head, staged, deleted);
-}
-
-fn pop_tx(
-    name: &[u8],
-    parent: &[u8; 32],
-    given: Given,
-    head: &mut [i64],
-    staged: &mut [u8],
-    table: &[u8],
-    deleted: &mut [u8],
-) {
-    let edition = given.edition;
-    let counts = given.counts;
-    let rows = given.staged;
-    let shelf = given.table;
-    let keys = given.deleted;
-    let answer = segment_buffer::pop_tx_entry(
-        edition,
-        parent,
-        counts,
-        head,
-        rows,
-        staged,
-        shelf,
-        table,
-        keys,
-        deleted,
-    );
-    show::popped_tx(name, answer, head, staged, deleted);
-}
-
-fn spend(
-    name: &[u8],
-    parent: &[u8; 32],
-    given: Given,
-    head: &mut [i64],
-    staged: &mut [u8],
-    table: &[u8],
-) {
-    let edition = given.edition;
-    let counts = given.counts;
-    let target = BoxNumber(given.number);
-    let rows = given.staged;
-    let shelf = given.table;
-    let answer = segment_buffer::flip_box_segment_entry(
-        edition,
-        parent,
-        counts,
-        head,
-        target,
-        rows,
-        staged,
-        shelf,
-        table,
-    );
-    show::flipped(name, answer, head, counts.len, staged);
-}
-
-fn unspend(
-    name: &[u8],
-    parent: &[u8; 32],
-    given: Given,
-    head: &mut [i64],
-    staged: &mut [u8],
-    table: &[u8],
-) {
-    let edition = given.edition;
-    let counts = given.counts;
-    let target = BoxNumber(given.number);
-    let rows = given.staged;
-    let shelf = given.table;
-    let answer = segment_buffer::unflip_box_segment_entry(
-        edition,
-        parent,
-        counts,
-        head,
-        target,
-        rows,
-        staged,
-        shelf,
-        table,
-    );
-    show::flipped(name, answer, head, counts.len, staged);
-}
-
-fn flush(name: &[u8], given: Given, staged: &mut [u8], table: &mut [u8], deleted: &mut [u8]) {
-    let edition = given.edition;
-    let rows = given.staged;
-    let shelf = given.table;
-    let keys = given.deleted;
-    let answer = segment_buffer::flush_staged_spills(
-        edition,
-        rows,
-        staged,
-        shelf,
-        table,
-        keys,
-        deleted,
-    );
-    show::flushed(name, answer, staged, table, deleted);
-}
-
-// A page: the offset is the call's number; its length and the list that is borrowed for it stand behind the other lists.
-fn page<'a>(
-    name: &[u8],
-    parent: &[u8; 32],
-    given: Given,
-    head: &[i64],
-    staged: &'a [u8],
-    table: &'a [u8],
-    s: &[u8],
-    at: usize,
-) {
-    let mut places = [0i64; 128];
-    let length = vector_fields::size_at(s, at);
-    let part = vector_fields::numbers_at(s, length.next, &mut places);
-    let len = part.len;
-    paged(
-        name,
-        parent,
-        given,
-        head,
-        staged,
-        table,
-        length.n,
-        &mut places[0..len],
-    );
-}
-
-fn paged<'a>(
-    name: &[u8],
-    parent: &[u8; 32],
-    given: Given,
-    head: &[i64],
-    staged: &'a [u8],
-    table: &'a [u8],
-    length: usize,
-    places: &mut [i64],
-) {
-    let edition = given.edition;
-    let counts = given.counts;
-    let staged_counts = given.staged;
-    let table_counts = given.table;
-    let offset = signed::magnitude(given.number) as usize;
-    let answer = segment_buffer::unspent_page(
-        edition,
-        parent,
-        counts,
-        head,
-        offset,
-        length,
-        staged_counts,
-        staged,
-        table_counts,
-        table,
-        places,
-    );
-    show::paged(name, answer, places);
-}
-
-// The calls that change neither head nor lists of spills.
-fn ask<'a>(
-    name: &[u8],
-    call: Call,
-    parent: &[u8; 32],
-    given: Given,
-    head: &[i64],
-    staged: &'a [u8],
-    table: &'a [u8],
-    deleted: &[u8],
-    s: &[u8],
-    at: usize,
-) {
-    let edition = given.edition;
-    let counts = given.counts;
-    let rows = given.staged;
-    let shelf = given.table;
-    let keys = given.deleted;
-    match call {
-        Call::Page => page(name, parent, given, head, staged, table, s, at),
-        Call::Tally => {
-            let answer = segment_buffer::tally(
-                edition,
-                parent,
-                counts,
-                head,
-                rows,
-                staged,
-                shelf,
-                table,
-            );
-            show::tallied(name, answer);
-        }
-        Call::Lists => {
-            let fit = segment_buffer::lists_ok(edition, rows, staged, shelf, table, keys, deleted);
-            show::fit(name, fit);
-        }
-        _ => {
-            let key = segment_id::row_key(parent, Kind::Box, counts.spills);
-            let located = spills::locate_spill(edition, &key, rows, staged, shelf, table);
-            show::located(name, located);
-        }
-    }
-}
-
 fn make(
     name: &[u8],
     call: Call,
@@ -340,14 +80,62 @@ fn make(
     at: usize,
 ) {
     match call {
-        Call::AppendBox => append_box(name, parent, given, head, staged),
-        Call::AppendTx => append_tx(name, parent, given, head, staged),
-        Call::PopBox => pop_box(name, parent, given, head, staged, table, deleted),
-        Call::PopTx => pop_tx(name, parent, given, head, staged, table, deleted),
-        Call::Spend => spend(name, parent, given, head, staged, table),
-        Call::Unspend => unspend(name, parent, given, head, staged, table),
-        Call::Flush => flush(name, given, staged, table, deleted),
-        _ => ask(
+        Call::AppendBox => changes::append_box(name, parent, given, head, staged),
+        Call::AppendTx => changes::append_tx(name, parent, given, head, staged),
+        Call::PopBox => changes::pop_box(name, parent, given, head, staged, table, deleted),
+        Call::PopTx => changes::pop_tx(name, parent, given, head, staged, table, deleted),
+        Call::Spend => changes::spend(name, parent, given, head, staged, table),
+        Call::Unspend => changes::unspend(name, parent, given, head, staged, table),
+        Call::Flush => changes::flush(name, given, staged, table, deleted),
+        Call::Tally => asks::ask(
+            name,
+            call,
+            parent,
+            given,
+            head,
+            staged,
+            table,
+            deleted,
+            s,
+            at,
+        ),
+        Call::Lists => asks::ask(
+            name,
+            call,
+            parent,
+            given,
+            head,
+            staged,
+            table,
+            deleted,
+            s,
+            at,
+        ),
+        Call::Locate => asks::ask(
+            name,
+            call,
+            parent,
+            given,
+            head,
+            staged,
+            table,
+            deleted,
+            s,
+            at,
+        ),
+        Call::Page => asks::ask(
+            name,
+            call,
+            parent,
+            given,
+            head,
+            staged,
+            table,
+            deleted,
+            s,
+            at,
+        ),
+        _ => summaries::make(
             name,
             call,
             parent,
@@ -362,8 +150,8 @@ fn make(
     }
 }
 
-// How many numbers of the head count and its spill count, the number, the staged spills, the table, the deleted spills and, for a page,
-// what `page` reads.
+// How many numbers of the head count and its spill count, the number, the staged spills, the table, the deleted spills and, for a page and the calls with a
+// summary, what these read.
 fn with_head(
     name: &[u8],
     call: Call,
@@ -379,12 +167,12 @@ fn with_head(
     let len = vector_fields::size_at(s, at);
     let spills = vector_fields::count_at(s, len.next);
     let number = vector_fields::number_at(s, spills.next);
-    let rows = list_at(s, number.next, &mut staged);
-    let shelf = list_at(s, rows.next, &mut table);
-    let keys = list_at(s, shelf.next, &mut deleted);
-    let staged_counts = rows.counts;
-    let table_counts = shelf.counts;
-    let deleted_counts = keys.counts;
+    let staged_list = list_at(s, number.next, &mut staged);
+    let table_list = list_at(s, staged_list.next, &mut table);
+    let deleted_list = list_at(s, table_list.next, &mut deleted);
+    let staged_counts = staged_list.counts;
+    let table_counts = table_list.counts;
+    let deleted_counts = deleted_list.counts;
     let given = Given {
         edition,
         counts: HeadCounts {
@@ -396,20 +184,20 @@ fn with_head(
         table: table_counts,
         deleted: deleted_counts,
     };
-    let r_len = rows.len;
-    let t_len = shelf.len;
-    let k_len = keys.len;
+    let staged_len = staged_list.len;
+    let table_len = table_list.len;
+    let deleted_len = deleted_list.len;
     make(
         name,
         call,
         parent,
         given,
         head,
-        &mut staged[0..r_len],
-        &mut table[0..t_len],
-        &mut deleted[0..k_len],
+        &mut staged[0..staged_len],
+        &mut table[0..table_len],
+        &mut deleted[0..deleted_len],
         s,
-        keys.next,
+        deleted_list.next,
     );
 }
 

@@ -7,6 +7,7 @@ use index_types::ListCounts;
 use index_types::Paged;
 use index_types::PoppedBox;
 use index_types::PoppedTx;
+use index_types::Summarized;
 use index_types::Tallied;
 use spills::Located;
 
@@ -162,4 +163,20 @@ pub fn located(name: &[u8], place: Located) {
         Located::Missing => vector_line::code_line(name, refusal::ROW_MISSING),
         Located::Refused(code) => vector_line::code_line(name, code),
     }
+}
+
+pub fn summarized(name: &[u8], answer: Summarized) {
+    match answer {
+        Summarized::Done => vector_line::code_line(name, 0),
+        Summarized::Refused(code) => vector_line::code_line(name, code),
+    }
+}
+
+// All numbers of a summary.
+pub fn summary(name: &[u8], numbers: &[u64]) {
+    vector_line::accepted(name);
+    for i in 0..numbers.len() {
+        vector_line::number(numbers[i]);
+    }
+    vector_line::end();
 }

@@ -2,8 +2,9 @@
 //! the sides take turns, in the thread's own running time; a ratio is the index's time by the reference's in the same round, its spread from the
 //! 10th to the 90th of 100 parts.
 //!
-//!     bench FOLDER      also writes two plots there
-//!     bench --editions  only the lines of edition 2 beside edition 1
+//!     bench FOLDER       also writes three plots there
+//!     bench --editions   only the lines of edition 2 beside edition 1
+//!     bench --summaries  only the lines with a summary beside those without
 
 use std::io::Write;
 use std::process::{Command, Stdio};
@@ -16,7 +17,7 @@ use driver::index::{
 };
 use driver::measure::{both, keep, line, plot, shown, thread_time, Curve, Times, ROUNDS};
 use driver::sides::Sides;
-use driver::{editions, loads, tables};
+use driver::{editions, loads, summaries, tables};
 use reference::address::BalanceInfo;
 use reference::segment::Segment;
 use reference::{calls, Digest32, VlqWriter};
@@ -397,6 +398,10 @@ fn main() {
     if folder.as_deref() == Some("--editions") {
         return editions::lines();
     }
+    if folder.as_deref() == Some("--summaries") {
+        summaries::lines();
+        return;
+    }
     digests();
     keys();
     rows();
@@ -409,6 +414,7 @@ fn main() {
     loads::in_batches();
     tables::pages();
     editions::lines();
+    let with_summaries = summaries::lines();
     runner();
     let Some(folder) = folder else { return };
     let (mut ours, mut theirs) = (Vec::new(), Vec::new());
@@ -431,6 +437,11 @@ fn main() {
     fs::write(
         format!("{folder}/cost-of-records.svg"),
         plot("Single calls", "rows in the table", &records),
+    )
+    .expect("a plot");
+    fs::write(
+        format!("{folder}/cost-with-summaries.svg"),
+        plot("Tallies and spends", "spills", &with_summaries),
     )
     .expect("a plot");
 }

@@ -3,10 +3,12 @@
 mod balance;
 mod batch;
 mod codec;
+mod summary;
 
 pub use balance::Balance;
 pub use batch::Batch;
 pub use codec::{blake2b256, convert_row, row_key, write_segment, ReadLists};
+pub use summary::Summary;
 
 use ergo_index::{Edition, First, Second};
 

@@ -1,0 +1,2 @@
+-- The laws that the exports' proofs cite.
+pub mod SummaryLaws

@@ -1,0 +1,31 @@
+-- One call, in the edition that the flag names.
+use mir.Syntax.{w32, w64}
+use Rattle.signed.proofs.SignedLaws.{back}
+use borrow.Author.Needs.{needs}
+use Rattle.ergo_index_summary_flips.proofs.ergo_index_unflip_box_segment_entry_with_summary.Statement.{statement}
+use Rattle.ergo_index_summary_flips.proofs.ergo_index_unflip_box_segment_entry_with_summary.Tie as tie
+
+named-edition-requires : tie.Need-named-edition-requires
+named-edition-requires c κs = search needs
+
+flip-requires : tie.Need-flip-requires
+flip-requires c κs = search needs
+
+same-length : tie.Need-same-length
+same-length c = search needs
+
+same-length-2 : tie.Need-same-length-2
+same-length-2 c = search needs
+
+same-length-3 : tie.Need-same-length-3
+same-length-3 c = search needs
+
+returns : tie.Need-returns
+returns c =
+    let s = c .before .before .before .before .before .before .before .before .before .before .before .before .before .before in
+    rw (c .before .before .before .before .before .before .before .before .before .before .named-edition .ensures, back w32 (s .args .spills) (s .fits .spills), back w64 (s .args .target) (s .fits .target)) at (c .before .before .before .before .before .flip .ensures)
+
+pub ergo-index-unflip-box-segment-entry-with-summary-spec : {M : Type 1} → statement M
+ergo-index-unflip-box-segment-entry-with-summary-spec =
+    tie.close
+    (tie.spec named-edition-requires flip-requires same-length same-length-2 same-length-3 returns)

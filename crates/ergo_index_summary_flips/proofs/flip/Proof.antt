@@ -1,0 +1,36 @@
+-- The counts are put together, the call flips, and what it answers goes to the out.
+use mir.Syntax.{w32, w64}
+use denote.Ref.{now}
+use Rattle.signed.proofs.SignedLaws.{back}
+use Rattle.ergo_index_flips.specs.Flips.{flip-export}
+use Rattle.ergo_index_summary.proofs.SummaryLaws.{told-beside}
+use borrow.Author.Needs.{needs}
+use Rattle.ergo_index_summary_flips.proofs.flip.Statement.{statement}
+use Rattle.ergo_index_summary_flips.proofs.flip.Tie as tie
+
+flip-entry-requires : tie.Need-flip-entry-requires
+flip-entry-requires c κs = search needs
+
+told-requires : tie.Need-told-requires
+told-requires c κs = search needs
+
+same-length : tie.Need-same-length
+same-length c = search needs
+
+same-length-2 : tie.Need-same-length-2
+same-length-2 c = search needs
+
+same-length-3 : tie.Need-same-length-3
+same-length-3 c = search needs
+
+returns : tie.Need-returns
+returns c =
+    let s = c .before .before .before .before .before .before .before .before .before .before .before .before .before .before .before in
+    let a = s .args in
+    let e = rw (back w32 (a .spills) (s .fits .spills), back w64 (a .target) (s .fits .target)) at (c .before .before .before .before .before .before .before .flip-entry .ensures) in
+    told-beside (flip-export (now (a .staged-count))) _ _ _ e _ (c .told .ensures _ _)
+
+pub flip-spec : {M : Type 1} → statement M
+flip-spec =
+    tie.close
+    (tie.spec flip-entry-requires told-requires same-length same-length-2 same-length-3 returns)
