@@ -11,6 +11,7 @@
 # make bench           both sides timed in one run; plots go to docs/
 # make all-checks      the gate, the Rust crate and the short comparison
 # make flat-view     one account of the sample history (PARENT, CALLS_FILE) as a flat list beside the index, and where the two differ
+# make copies        two servers over different forks of one load (HISTORIES, HISTORY_CALLS): whether every answer of the two is the same
 # make fmt    the layout of all Rattle and antt files
 # make times  the seconds of the last gate, crate by crate
 
@@ -24,7 +25,7 @@ RT := $(shell command -v rt 2>/dev/null)
 NO_RT := the Rattle kit is missing: no command 'rt' on PATH (expected in /opt/rattle/bin)
 ARCHIVE := target/staticlib/libergo_index.a
 
-.PHONY: run load test times c-test bindings convert flat-view compare compare-full compare-sample compare-build vectors bench all-checks fmt
+.PHONY: run load test times c-test bindings convert flat-view copies compare compare-full compare-sample compare-build vectors bench all-checks fmt
 
 run:
 ifeq ($(RT),)
@@ -84,6 +85,13 @@ CALLS_FILE := sample/fork.calls
 flat-view: $(ARCHIVE)
 	@cd bindings/rust && ERGO_INDEX_LIB_DIR=$(CURDIR)/target/staticlib cargo build --offline --locked --quiet --release --example flat_view
 	@bindings/rust/target/release/examples/flat_view $(PARENT) < $(CALLS_FILE)
+
+HISTORIES := 24
+HISTORY_CALLS := 3000
+
+copies: $(ARCHIVE)
+	@cd bindings/rust && ERGO_INDEX_LIB_DIR=$(CURDIR)/target/staticlib cargo build --offline --locked --quiet --release --example copies
+	@bindings/rust/target/release/examples/copies $(HISTORIES) $(HISTORY_CALLS)
 
 times:
 	@scripts/times.py
