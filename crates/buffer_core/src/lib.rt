@@ -4,6 +4,7 @@ ghost use mathlib.Core.Path.{_≡_};
 ghost use Prim.Native.Nat.{_≤_};
 ghost use Rattle.buffer_core.specs.Edition.{row-limit-of, record-size};
 ghost use Rattle.buffer_core.specs.Spills.{head-ok};
+ghost use Rattle.buffer_core.specs.Flip.{spends};
 use index_types::HeadCounts;
 use index_types::RowEdition;
 use index_types::SEGMENT_THRESHOLD;
@@ -19,6 +20,16 @@ pub const LONGEST_ROW: usize = 10292;
 pub enum Direction {
     Spend,
     Unspend,
+}
+
+// Whether a direction is that of a spend.
+pub fn is_spend(direction: Direction) -> bool
+    ensures { λ r. ⌜ r ≡ spends direction ⌝ }
+{
+    match direction {
+        Direction::Spend => true,
+        Direction::Unspend => false,
+    }
 }
 
 // ---- the steps of a spend

@@ -1,3 +1,2 @@
 -- The definitions that the contracts of `call_output` cite.
-pub mod EndLines
 pub mod Told

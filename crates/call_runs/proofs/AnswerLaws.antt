@@ -13,7 +13,7 @@ use Rattle.buffer_core.specs.Edition.{edition-1}
 use Rattle.calls.specs.Calls.{call-at, size-of}
 use Rattle.call_steps.specs.Steps.{step-of}
 use Rattle.buffer_core.proofs.RefusedLaws.{both}
-use Rattle.run_checks.specs.Answers.{flag}
+use Rattle.run_answers.specs.Answers.{flag}
 use Rattle.runner.specs.Run.{Run, may-go, turn-of, runs}
 use Rattle.runner.proofs.PieceLaws.{after}
 use Rattle.call_runs.specs.Made.{is-one, said-at}

@@ -15,7 +15,7 @@ use Rattle.calls.specs.declared.Call.{Call}
 use Rattle.calls.specs.declared.Call.the-variants.{End}
 use Rattle.calls.specs.Calls.{of-kind, call-at, size-of, end-of}
 use Rattle.call_steps.specs.State.{State, state-ok}
-use Rattle.run_checks.specs.Answers.{end-at}
+use Rattle.run_answers.specs.Answers.{end-at}
 use Rattle.runner.specs.Run.{Run, run-at, may-go, runs, start, closed, run-of}
 use Rattle.runner.proofs.RunLaws.{runs-stop}
 use Rattle.runner.proofs.PieceLaws.{runs-go, turn-stops, turn-goes, after}

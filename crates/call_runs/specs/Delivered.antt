@@ -10,7 +10,7 @@ use Rattle.buffer_core.specs.Edition.{edition-1}
 use Rattle.calls.specs.declared.Call.{Call}
 use Rattle.calls.specs.declared.Call.the-variants.{Append, Flip, Pop, Flush, Change, Bad, Cut, End}
 use Rattle.calls.specs.Calls.{call-at, size-of}
-use Rattle.call_steps.specs.declared.SpillCounts.{SpillCounts}
+use Rattle.index_types.specs.declared.SpillCounts.{SpillCounts}
 use Rattle.call_steps.specs.State.{State, state, state-ok}
 use Rattle.call_steps.specs.Steps.{lists-with}
 use Rattle.runner_start.specs.Start.{lists-empty, two-ids}

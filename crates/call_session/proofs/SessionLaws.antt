@@ -8,7 +8,7 @@ use lib.IntN.{ℤ, pos, negsuc}
 use lib.ListN.{length, drop, replicate}
 use Rattle.io.specs.Counts.{clamped}
 use Rattle.calls.specs.Calls.{call-at}
-use Rattle.call_steps.specs.declared.SpillCounts.{SpillCounts}
+use Rattle.index_types.specs.declared.SpillCounts.{SpillCounts}
 use Rattle.call_steps.specs.State.{State, state}
 use Rattle.call_steps.specs.Steps.{lists-with}
 use Rattle.runner_start.specs.Start.{lists-empty, two-ids}

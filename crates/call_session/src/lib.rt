@@ -13,12 +13,12 @@ ghost use Rattle.runner_start.specs.Start.{lists-empty};
 ghost use Rattle.runner.specs.Run.{run as runner-at, run-of};
 ghost use Rattle.call_input.specs.Place.{at-start};
 ghost use Rattle.call_input.specs.Waiting.{waiting, Fed};
-ghost use Rattle.call_output.specs.EndLines.{end-lines};
+ghost use Rattle.end_lines.specs.EndLines.{end-lines};
 ghost use Rattle.call_runs.specs.Delivered.{Told};
 ghost use Rattle.call_session.specs.Session.{Makes, Keeps, Ends};
 use call_input::Next;
 use call_input::Place;
-use call_steps::SpillCounts;
+use index_types::SpillCounts;
 use libc::STDERR_FILENO;
 use runner::Progress;
 

@@ -35,7 +35,7 @@ use Rattle.pop_row.specs.Ready.{PopReady}
 use Rattle.pop_core.proofs.KeepLaws.{pop-ready}
 use Rattle.flip_core.specs.Ready.{FlipReady}
 use Rattle.flip_core.proofs.KeepLaws.{flip-facts}
-use Rattle.call_steps.specs.declared.SpillCounts.{SpillCounts}
+use Rattle.index_types.specs.declared.SpillCounts.{SpillCounts}
 use Rattle.call_steps.specs.declared.Stepped.{Stepped}
 use Rattle.call_steps.specs.State.{parent-id, head-at, head-counts, head-of, balance-of, ids-with, numbers-with, lengths-with}
 use Rattle.call_steps.specs.Steps.{accepted, refused, number-popped, stepped, spill-counts, with-staged, lengths-by, spills-by, lists-with, counts-in, CountStep, count-step, after-append, after-pop, head-step, appended-by, append-by, pop-step, popped-by, pop-by, after-flip, flip-step, flipped-by, flip-by, after-flush, flush-step, flushed-by, flush-by, said-by, change-step, changed-by, change-of}

@@ -30,7 +30,7 @@ use Rattle.buffer_core.specs.Flush.{Flushing, flush-of}
 use Rattle.calls.specs.declared.Call.{Call}
 use Rattle.calls.specs.declared.Call.the-variants.{Append, Flip, Pop, Flush, Change, Bad, Cut, End}
 use Rattle.call_steps.specs.declared.Said.{Said}
-use Rattle.call_steps.specs.declared.SpillCounts.{SpillCounts}
+use Rattle.index_types.specs.declared.SpillCounts.{SpillCounts}
 use Rattle.call_steps.specs.declared.Stepped.{Stepped}
 use Rattle.call_steps.specs.State.{State, Within, state, parent-id, length-at, spills-at, head-counts, head-of, with-head, balance-of, ids-with, numbers-with, lengths-with}
 

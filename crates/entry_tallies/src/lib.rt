@@ -1,9 +1,9 @@
-// How many entries of a head or a row are unspent, spent and unknown.
+// How many entries of a head or a row are unspent, spent and unknown, and the sums of these figures.
 ghost use mathlib.Core.Path.{_≡_};
-ghost use Prim.Native.Nat.{_≤_};
+ghost use Prim.Native.Nat.{_+_, _≤_, _<_};
 ghost use lib.ListN.{length, take};
 ghost use Rattle.signed.specs.Sign.{is-negative};
-ghost use Rattle.entries.specs.Tally.{is-above, one-if, figures};
+ghost use Rattle.entries.specs.Tally.{is-above, one-if, figures, plus};
 use index_types::Tally;
 
 // 1 for a number above 0.
@@ -44,5 +44,18 @@ pub fn tally_entries(xs: &[i64], n: usize) -> Tally
         unspent,
         spent,
         unknown: n - unspent - spent,
+    }
+}
+
+// The sums of two tallies' figures.
+pub fn plus(a: Tally, b: Tally) -> Tally
+    requires { ⌜ (a .unspent + b .unspent < 18446744073709551616) × (a .spent + b .spent < 18446744073709551616)
+        × (a .unknown + b .unknown < 18446744073709551616) ⌝ }
+    ensures { λ r. ⌜ r ≡ plus a b ⌝ }
+{
+    Tally {
+        unspent: a.unspent + b.unspent,
+        spent: a.spent + b.spent,
+        unknown: a.unknown + b.unknown,
     }
 }

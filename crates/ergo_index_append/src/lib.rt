@@ -1,35 +1,15 @@
 // Appends to one parent's heads. A head is a borrowed list of 512 numbers beside its length and spill count; each list of spills is borrowed bytes
 // beside a count and a capacity. Counts that a call changes are borrowed too.
-ghost use Prim.Native.Nat.{ℕ};
 ghost use mathlib.Core.Path.{_≡_};
-ghost use mathlib.Core.List.{List};
-ghost use lib.IntN.{ℤ};
 ghost use Rattle.index_types.specs.declared.RowEdition.the-variants.{One};
 ghost use Rattle.segment_id.specs.declared.Kind.the-variants.{Box, Tx};
 ghost use Rattle.ergo_index_lists.specs.Lists.{named-edition};
-ghost use Rattle.ergo_index_append.specs.Append.{append-out, append-by, append-call};
-use index_types::Appended;
+ghost use Rattle.ergo_index_outs.specs.Outs.{append-out};
+ghost use Rattle.ergo_index_append.specs.Append.{append-call};
 use index_types::HeadCounts;
 use index_types::ListCounts;
 use index_types::RowEdition;
 use segment_id::Kind;
-
-// What an append answers goes to the outs, and its code is the result; a refusal sets no out.
-pub fn told(appended: Appended, len: &mut usize, spills: &mut i32, staged_count: &mut usize) -> u8
-    ensures { λ r. ⌜ ((head : List ℤ) (staged : List ℕ) → append-out r (now (len .exit)) (now (spills .exit)) (now («staged_count» .exit)) head staged
-        ≡ append-by appended (now (len .entry)) (now (spills .entry)) (now («staged_count» .entry)) head staged) ⌝ }
-{
-    match appended {
-        Appended::Done(after, staged_after) => {
-            let spills_after = after.spills;
-            *len = after.len;
-            *spills = spills_after;
-            *staged_count = staged_after.count;
-            0
-        }
-        Appended::Refused(code) => code,
-    }
-}
 
 // An append of either kind, in either edition.
 fn append(
@@ -65,7 +45,7 @@ fn append(
         staged_counts,
         staged,
     );
-    told(appended, len, spills, staged_count)
+    ergo_index_outs::append_told(appended, len, spills, staged_count)
 }
 
 // A box number goes to the end of the head of boxes; a full head becomes the next staged row first.

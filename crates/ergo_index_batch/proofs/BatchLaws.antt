@@ -6,14 +6,15 @@ use mathlib.Core.List.{List}
 use lib.IntN.{ℤ}
 use Rattle.buffer_core.specs.Edition.{edition-1}
 use Rattle.buffer_core.specs.Pop.{lists}
-use Rattle.call_steps.specs.declared.SpillCounts.{SpillCounts}
+use Rattle.index_types.specs.declared.SpillCounts.{SpillCounts}
 use Rattle.call_steps.specs.State.{state, state-ok}
 use Rattle.call_steps.specs.Steps.{spill-counts, lists-with}
 use Rattle.runner.specs.declared.Progress.{Progress}
 use Rattle.runner.specs.Run.{run, run-of}
 use Rattle.ergo_index_batch.specs.declared.Outs.{Outs}
 use Rattle.ergo_index_lists.specs.Lists.{list-of}
-use Rattle.ergo_index_batch.specs.Batch.{code-of, kept, outs-of, run-out, run-call}
+use Rattle.batch_answers.specs.Answers.{code-of, kept}
+use Rattle.ergo_index_batch.specs.Batch.{outs-of, run-out, run-call}
 
 module _ (p : Progress) (at made end : ℕ) where
   abbrev outs : (c x y z : ℕ) → Outs

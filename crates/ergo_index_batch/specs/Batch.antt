@@ -1,8 +1,6 @@
 -- What the export of the batch leaves: the code, and every out and borrowed list at exit, from the definition of the run.
 use Prim.Native.Nat.{ℕ}
-use mathlib.Core.Bool.{cond}
 use mathlib.Core.List.{List}
-use lib.Dec.{eqb}
 use lib.IntN.{ℤ}
 use Rattle.buffer_core.specs.Edition.{edition-1}
 use Rattle.buffer_core.specs.Pop.{lists}
@@ -11,14 +9,7 @@ use Rattle.runner.specs.declared.Progress.{Progress}
 use Rattle.runner.specs.Run.{Run, run-of}
 use Rattle.ergo_index_batch.specs.declared.Outs.{Outs}
 use Rattle.ergo_index_lists.specs.Lists.{list-of}
-
--- the result of a run that ended so: 25 where the state was refused, else 0. What stands behind the last call is told by the out `end` alone.
-abbrev pub code-of : ℕ → ℕ
-code-of end = cond (eqb end 25) end 0
-
--- an out after a run that ended so: "a refusal returns its number only and changes nothing"
-abbrev pub kept : (end was after : ℕ) → ℕ
-kept end was after = cond (eqb end 25) was after
+use Rattle.batch_answers.specs.Answers.{code-of, kept}
 
 -- the code and the outs that are numbers, after a run that made this progress; three of them were at, made and end
 abbrev pub outs-of : Progress → (at made end : ℕ) → Outs

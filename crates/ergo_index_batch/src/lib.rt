@@ -3,9 +3,9 @@
 ghost use mathlib.Core.Path.{_≡_};
 ghost use Rattle.call_steps.specs.Steps.{spill-counts};
 ghost use Rattle.ergo_index_lists.specs.Lists.{list-of};
-ghost use Rattle.ergo_index_batch.specs.Batch.{code-of, kept, outs-of, run-out, run-call};
-use call_steps::SpillCounts;
+ghost use Rattle.ergo_index_batch.specs.Batch.{outs-of, run-out, run-call};
 use index_types::ListCounts;
+use index_types::SpillCounts;
 use runner::Progress;
 
 // The code and what goes to the outs that are numbers.
@@ -17,26 +17,6 @@ struct Outs {
     staged: usize,
     table: usize,
     deleted: usize,
-}
-
-// The result: 25 where the state was refused, else 0.
-fn code_of(end: u8) -> u8
-    ensures { λ r. ⌜ r ≡ code-of end ⌝ }
-{
-    if end == refusal::BUFFERS { end } else { 0 }
-}
-
-// An out after a run that ended so.
-fn kept(end: u8, was: usize, after: usize) -> usize
-    ensures { λ r. ⌜ r ≡ kept end was after ⌝ }
-{
-    if end == refusal::BUFFERS { was } else { after }
-}
-
-fn kept_end(end: u8, was: u8) -> u8
-    ensures { λ r. ⌜ r ≡ kept end was end ⌝ }
-{
-    if end == refusal::BUFFERS { was } else { end }
 }
 
 // The counts of the three lists, each beside its capacity.
@@ -79,10 +59,10 @@ fn outs_of(p: Progress, at: usize, made: usize, end: u8) -> Outs
     let deleted = after.deleted;
     let ended = p.end;
     Outs {
-        code: code_of(ended),
-        at: kept(ended, at, p.at),
-        made: kept(ended, made, p.made),
-        end: kept_end(ended, end),
+        code: batch_answers::code_of(ended),
+        at: batch_answers::kept(ended, at, p.at),
+        made: batch_answers::kept(ended, made, p.made),
+        end: batch_answers::kept_end(ended, end),
         staged: staged.count,
         table: table.count,
         deleted: deleted.count,

@@ -1,31 +1,14 @@
 // Spends and unspends of one box, and the tally of one parent's boxes. Heads and lists of spills are borrowed as for appends and pops.
-ghost use Prim.Native.Nat.{ℕ};
 ghost use mathlib.Core.Path.{_≡_};
-ghost use mathlib.Core.List.{List};
-ghost use lib.IntN.{ℤ};
 ghost use Rattle.buffer_core.specs.declared.Direction.the-variants.{Spend, Unspend};
 ghost use Rattle.index_types.specs.declared.RowEdition.the-variants.{One};
 ghost use Rattle.ergo_index_lists.specs.Lists.{named-edition};
-ghost use Rattle.ergo_index_flips.specs.Flips.{flip-out, flip-by, flip-call, tally-out, tally-export, tally-call};
+ghost use Rattle.ergo_index_outs.specs.Outs.{flip-out, tally-out};
+ghost use Rattle.ergo_index_flips.specs.Flips.{flip-call, tally-call};
 use buffer_core::Direction;
-use index_types::Flipped;
 use index_types::HeadCounts;
 use index_types::ListCounts;
 use index_types::RowEdition;
-use index_types::Tallied;
-
-// What a spend or an unspend answers goes to the out, and its code is the result; a refusal sets no out.
-pub fn told(flipped: Flipped, staged_count: &mut usize) -> u8
-    ensures { λ r. ⌜ ((head : List ℤ) (staged : List ℕ) → flip-out r (now («staged_count» .exit)) head staged ≡ flip-by flipped (now («staged_count» .entry)) head staged) ⌝ }
-{
-    match flipped {
-        Flipped::Done(staged_after) => {
-            *staged_count = staged_after.count;
-            0
-        }
-        Flipped::Refused(code) => code,
-    }
-}
 
 // A spend or an unspend, in either edition.
 fn flip(
@@ -67,7 +50,7 @@ fn flip(
         table_counts,
         table,
     );
-    told(flipped, staged_count)
+    ergo_index_outs::flip_told(flipped, staged_count)
 }
 
 // Marks one box as spent.
@@ -138,26 +121,6 @@ pub extern "C" fn ergo_index_unflip_box_segment_entry(
         table_capacity,
         table,
     )
-}
-
-// What a tally answers goes to the outs, and its code is the result; a refusal sets no out.
-pub fn told_tally(
-    tallied: Tallied,
-    unspent: &mut usize,
-    spent: &mut usize,
-    unknown: &mut usize,
-) -> u8
-    ensures { λ r. ⌜ tally-out r (now (unspent .exit)) (now (spent .exit)) (now (unknown .exit)) ≡ tally-export (now (unspent .entry)) (now (spent .entry)) (now (unknown .entry)) tallied ⌝ }
-{
-    match tallied {
-        Tallied::Counts(tally) => {
-            *unspent = tally.unspent;
-            *spent = tally.spent;
-            *unknown = tally.unknown;
-            0
-        }
-        Tallied::Refused(code) => code,
-    }
 }
 
 // How many entries of the boxes are unspent (above 0), spent (below 0) and unknown (equal to 0), over all rows and the head.
@@ -312,5 +275,5 @@ pub extern "C" fn ergo_index_tally_in_edition<'a>(
         table_counts,
         table,
     );
-    told_tally(tallied, unspent, spent, unknown)
+    ergo_index_outs::tally_told(tallied, unspent, spent, unknown)
 }

@@ -1,34 +1,10 @@
 // The flush. Lists of spills are borrowed as for appends and pops.
-ghost use Prim.Native.Nat.{ℕ};
 ghost use mathlib.Core.Path.{_≡_};
-ghost use mathlib.Core.List.{List};
 ghost use Rattle.index_types.specs.declared.RowEdition.the-variants.{One};
 ghost use Rattle.ergo_index_lists.specs.Lists.{named-edition};
-ghost use Rattle.ergo_index_flush.specs.Flush.{flush-out, flush-by, flush-call};
-use index_types::Flushed;
+ghost use Rattle.ergo_index_outs.specs.Outs.{flush-out};
+ghost use Rattle.ergo_index_flush.specs.Flush.{flush-call};
 use index_types::ListCounts;
-
-// What the flush answers goes to the outs, and its code is the result; a refusal sets no out.
-fn told(
-    flushed: Flushed,
-    staged_count: &mut usize,
-    table_count: &mut usize,
-    deleted_count: &mut usize,
-) -> u8
-    ensures { λ r. ⌜ ((staged table deleted : List ℕ)
-        → flush-out r (now («staged_count» .exit)) (now («table_count» .exit)) (now («deleted_count» .exit)) staged table deleted
-        ≡ flush-by flushed (now («staged_count» .entry)) (now («table_count» .entry)) (now («deleted_count» .entry)) staged table deleted) ⌝ }
-{
-    match flushed {
-        Flushed::Done(table_after, staged_after, deleted_after) => {
-            *staged_count = staged_after.count;
-            *table_count = table_after.count;
-            *deleted_count = deleted_after.count;
-            0
-        }
-        Flushed::Refused(code) => code,
-    }
-}
 
 // Writes the staged rows whose key is not deleted to the table, then removes the deleted keys from it; staged and deleted spills end empty.
 #[no_mangle]
@@ -98,5 +74,5 @@ pub extern "C" fn ergo_index_flush_staged_spills_in_edition(
         deleted_counts,
         deleted,
     );
-    told(flushed, staged_count, table_count, deleted_count)
+    ergo_index_outs::flush_told(flushed, staged_count, table_count, deleted_count)
 }

@@ -6,10 +6,10 @@ use lib.ListN.{length}
 use Rattle.index_types.specs.declared.RowEdition.{RowEdition}
 use Rattle.records.specs.Find.{row-at}
 use Rattle.buffer_core.specs.Edition.{record-size, row-limit-of}
-use Rattle.spills.specs.declared.Located.{Located}
-use Rattle.spills.specs.declared.Located.the-variants as located
-use Rattle.spills.specs.Inspection.{locate-row, located-code, located-row, inspect-code, inspect-row}
-use Rattle.spills.proofs.LocateLaws.{staged-within, table-within, code-located, inspect-located}
+use Rattle.spill_places.specs.declared.Located.{Located}
+use Rattle.spill_places.specs.declared.Located.the-variants as located
+use Rattle.spill_places.specs.Inspection.{locate-row, located-code, located-row, inspect-code, inspect-row}
+use Rattle.spill_places.proofs.LocateLaws.{staged-within, table-within, code-located, inspect-located}
 use Rattle.ergo_index_lists.specs.Lists.{list-of}
 use Rattle.ergo_index_inspection.specs.Inspection.{locate-out, locate-call, inspect-out, inspect-call}
 

@@ -7,9 +7,9 @@ use lib.Seq.{drop-drop}
 use Rattle.index_types.specs.declared.ListCounts.{ListCounts}
 use Rattle.records.specs.Records.{stored-length, stored-row}
 use Rattle.records.specs.Find.{row-at}
-use Rattle.spills.specs.declared.Located.the-variants.{Staged, Table}
-use Rattle.spills.specs.Inspection.{locate-row, inspect-row}
-use Rattle.spills.proofs.LocateLaws.{inspect-located}
+use Rattle.spill_places.specs.declared.Located.the-variants.{Staged, Table}
+use Rattle.spill_places.specs.Inspection.{locate-row, inspect-row}
+use Rattle.spill_places.proofs.LocateLaws.{inspect-located}
 
 -- ---- a part of a front part lies at the same place in the whole
 front : (n : ℕ) (p r : List ℕ) → take (length (take n p)) (p ++ r) ≡ take n p

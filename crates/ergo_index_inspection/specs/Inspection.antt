@@ -4,9 +4,9 @@
 use Prim.Native.Nat.{ℕ, _+_, _*_}
 use mathlib.Core.List.{List}
 use lib.ListN.{length}
-use Rattle.spills.specs.declared.Located.{Located}
-use Rattle.spills.specs.declared.Located.the-variants as located
-use Rattle.spills.specs.Inspection.{locate-row, inspect-code, inspect-row}
+use Rattle.spill_places.specs.declared.Located.{Located}
+use Rattle.spill_places.specs.declared.Located.the-variants as located
+use Rattle.spill_places.specs.Inspection.{locate-row, inspect-code, inspect-row}
 use Rattle.index_types.specs.declared.RowEdition.{RowEdition}
 use Rattle.buffer_core.specs.Edition.{record-size, row-limit-of}
 use Rattle.ergo_index_lists.specs.Lists.{list-of}

@@ -1,45 +1,15 @@
 // Pops from one parent's heads. A head is a borrowed list of 512 numbers beside its length and spill count; each list of spills is borrowed bytes
 // beside a count and a capacity. Counts that a call changes are borrowed too.
-ghost use Prim.Native.Nat.{ℕ};
 ghost use mathlib.Core.Path.{_≡_};
-ghost use mathlib.Core.List.{List};
-ghost use lib.IntN.{ℤ};
 ghost use Rattle.index_types.specs.declared.RowEdition.the-variants.{One};
 ghost use Rattle.segment_id.specs.declared.Kind.the-variants.{Box, Tx};
 ghost use Rattle.ergo_index_lists.specs.Lists.{named-edition};
-ghost use Rattle.ergo_index_pop.specs.Pop.{pop-out, pop-by, pop-call};
+ghost use Rattle.ergo_index_outs.specs.Outs.{pop-out};
+ghost use Rattle.ergo_index_pop.specs.Pop.{pop-call};
 use index_types::HeadCounts;
 use index_types::ListCounts;
-use index_types::Popped;
 use index_types::RowEdition;
 use segment_id::Kind;
-
-// What a pop answers goes to the outs, and its code is the result; a refusal sets no out.
-pub fn told(
-    popped: Popped,
-    number: &mut i64,
-    len: &mut usize,
-    spills: &mut i32,
-    staged_count: &mut usize,
-    deleted_count: &mut usize,
-) -> u8
-    ensures { λ r. ⌜ ((head : List ℤ) (staged deleted : List ℕ)
-        → pop-out r (now (number .exit)) (now (len .exit)) (now (spills .exit)) (now («staged_count» .exit)) (now («deleted_count» .exit)) head staged deleted
-        ≡ pop-by popped (now (number .entry)) (now (len .entry)) (now (spills .entry)) (now («staged_count» .entry)) (now («deleted_count» .entry)) head staged deleted) ⌝ }
-{
-    match popped {
-        Popped::Number(last, after, staged_after, deleted_after) => {
-            let spills_after = after.spills;
-            *number = last;
-            *len = after.len;
-            *spills = spills_after;
-            *staged_count = staged_after.count;
-            *deleted_count = deleted_after.count;
-            0
-        }
-        Popped::Refused(code) => code,
-    }
-}
 
 // A pop of either kind, in either edition.
 fn pop(
@@ -93,7 +63,7 @@ fn pop(
         deleted_counts,
         deleted,
     );
-    told(popped, number, len, spills, staged_count, deleted_count)
+    ergo_index_outs::pop_told(popped, number, len, spills, staged_count, deleted_count)
 }
 
 // The last box number of the head; on an empty head the newest row becomes the head first.

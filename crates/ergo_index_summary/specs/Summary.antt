@@ -12,7 +12,7 @@ use Rattle.summary_core.specs.Lines.{WithSummary, with-summary}
 use Rattle.summary_core.specs.Making.{summary-of}
 use Rattle.summary_core.specs.Tally.{tally-lines-of}
 use Rattle.ergo_index_lists.specs.Lists.{list-of}
-use Rattle.ergo_index_flips.specs.Flips.{TallyOut, tally-export}
+use Rattle.ergo_index_outs.specs.Outs.{TallyOut, tally-export}
 
 -- the result of a call in the outs of its export, and the summary as the call leaves it
 abbrev pub exported : {A B : Type 0} → (A → B) → WithSummary A → WithSummary B

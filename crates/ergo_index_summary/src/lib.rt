@@ -3,7 +3,7 @@
 ghost use mathlib.Core.Path.{_≡_};
 ghost use Rattle.summary_core.specs.Lines.{with-summary};
 ghost use Rattle.ergo_index_lists.specs.Lists.{named-edition};
-ghost use Rattle.ergo_index_flips.specs.Flips.{tally-out};
+ghost use Rattle.ergo_index_outs.specs.Outs.{tally-out};
 ghost use Rattle.ergo_index_summary.specs.Summary.{summary-call, tally-lines-call};
 use index_types::HeadCounts;
 use index_types::ListCounts;
@@ -73,5 +73,5 @@ pub extern "C" fn ergo_index_tally_with_summary(
 {
     let counts = HeadCounts { len, spills };
     let tallied = summary::tally_with_summary(counts, head, lines, summary);
-    ergo_index_flips::told_tally(tallied, unspent, spent, unknown)
+    ergo_index_outs::tally_told(tallied, unspent, spent, unknown)
 }

@@ -10,7 +10,8 @@ use Rattle.buffer_core.specs.Append.{counts-of}
 use Rattle.summary_core.specs.Lines.{WithSummary}
 use Rattle.summary_core.specs.Flip.{flip-lines-of}
 use Rattle.ergo_index_lists.specs.Lists.{list-of}
-use Rattle.ergo_index_flips.specs.Flips.{FlipOut, flip-export}
+use Rattle.ergo_index_outs.specs.Outs.{FlipOut}
+use Rattle.ergo_index_flips.specs.Flips.{flip-export}
 use Rattle.ergo_index_summary.specs.Summary.{exported}
 
 abbrev pub flip-lines-call : RowEdition → Direction → (parent : List ℕ) (len : ℕ) (spills : ℤ) → List ℤ → (target : ℤ) (s s-capacity : ℕ) → List ℕ → (t t-capacity : ℕ) → List ℕ

@@ -4,7 +4,7 @@ ghost use mathlib.Core.Path.{_≡_};
 ghost use Rattle.buffer_core.specs.declared.Direction.the-variants.{Spend, Unspend};
 ghost use Rattle.summary_core.specs.Lines.{with-summary};
 ghost use Rattle.ergo_index_lists.specs.Lists.{named-edition};
-ghost use Rattle.ergo_index_flips.specs.Flips.{flip-out};
+ghost use Rattle.ergo_index_outs.specs.Outs.{flip-out};
 ghost use Rattle.ergo_index_summary_flips.specs.Flips.{flip-lines-call};
 use buffer_core::Direction;
 use index_types::HeadCounts;
@@ -41,7 +41,7 @@ fn flip(
         count: table_count,
         capacity: table_capacity,
     };
-    let flipped = summary::flip_entry(
+    let flipped = summary_calls::flip_entry(
         edition,
         direction,
         parent,
@@ -55,7 +55,7 @@ fn flip(
         lines,
         summary,
     );
-    ergo_index_flips::told(flipped, staged_count)
+    ergo_index_outs::flip_told(flipped, staged_count)
 }
 
 // Marks one box as spent.

@@ -8,8 +8,10 @@ use Rattle.index_types.specs.declared.Popped.{Popped}
 use Rattle.buffer_core.specs.Append.{Appending, appending}
 use Rattle.buffer_core.specs.Pop.{Popping, popping}
 use Rattle.summary_core.specs.Lines.{WithSummary, with-summary}
-use Rattle.ergo_index_append.specs.Append.{append-out, append-by, append-export}
-use Rattle.ergo_index_pop.specs.Pop.{pop-out, pop-by, pop-export}
+use Rattle.ergo_index_outs.specs.Outs.{append-out, append-by}
+use Rattle.ergo_index_append.specs.Append.{append-export}
+use Rattle.ergo_index_outs.specs.Outs.{pop-out, pop-by}
+use Rattle.ergo_index_pop.specs.Pop.{pop-export}
 use Rattle.ergo_index_summary.specs.Summary.{exported}
 use Rattle.ergo_index_summary.proofs.SummaryLaws.{told-beside}
 

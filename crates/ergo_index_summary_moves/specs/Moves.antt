@@ -10,8 +10,10 @@ use Rattle.buffer_core.specs.Pop.{lists}
 use Rattle.summary_core.specs.Lines.{WithSummary}
 use Rattle.summary_core.specs.Moves.{append-lines-of, pop-lines-of}
 use Rattle.ergo_index_lists.specs.Lists.{list-of}
-use Rattle.ergo_index_append.specs.Append.{AppendOut, append-export}
-use Rattle.ergo_index_pop.specs.Pop.{PopOut, pop-export}
+use Rattle.ergo_index_outs.specs.Outs.{AppendOut}
+use Rattle.ergo_index_append.specs.Append.{append-export}
+use Rattle.ergo_index_outs.specs.Outs.{PopOut}
+use Rattle.ergo_index_pop.specs.Pop.{pop-export}
 use Rattle.ergo_index_summary.specs.Summary.{exported}
 
 -- ---- append

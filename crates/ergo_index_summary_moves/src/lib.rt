@@ -3,8 +3,8 @@
 ghost use mathlib.Core.Path.{_≡_};
 ghost use Rattle.summary_core.specs.Lines.{with-summary};
 ghost use Rattle.ergo_index_lists.specs.Lists.{named-edition};
-ghost use Rattle.ergo_index_append.specs.Append.{append-out};
-ghost use Rattle.ergo_index_pop.specs.Pop.{pop-out};
+ghost use Rattle.ergo_index_outs.specs.Outs.{append-out};
+ghost use Rattle.ergo_index_outs.specs.Outs.{pop-out};
 ghost use Rattle.ergo_index_summary_moves.specs.Moves.{append-lines-call, pop-lines-call};
 use index_types::BoxNumber;
 use index_types::HeadCounts;
@@ -47,7 +47,7 @@ pub extern "C" fn ergo_index_append_box_entry_with_summary(
         lines,
         summary,
     );
-    ergo_index_append::told(appended, len, spills, staged_count)
+    ergo_index_outs::append_told(appended, len, spills, staged_count)
 }
 
 // The last box number of the head; on an empty head the newest row becomes the head first, and its line is cleared.
@@ -92,7 +92,7 @@ pub extern "C" fn ergo_index_pop_box_entry_with_summary(
         count: *deleted_count,
         capacity: deleted_capacity,
     };
-    let popped = summary::pop_entry(
+    let popped = summary_calls::pop_entry(
         ergo_index_lists::named_edition(second_edition),
         parent,
         counts,
@@ -106,5 +106,5 @@ pub extern "C" fn ergo_index_pop_box_entry_with_summary(
         lines,
         summary,
     );
-    ergo_index_pop::told(popped, number, len, spills, staged_count, deleted_count)
+    ergo_index_outs::pop_told(popped, number, len, spills, staged_count, deleted_count)
 }

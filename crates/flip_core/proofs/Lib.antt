@@ -2,5 +2,3 @@
 pub mod TakeLaws
 pub mod EffectLaws
 pub mod KeepLaws
-pub mod CodeLaws
-pub mod UnseenLaws

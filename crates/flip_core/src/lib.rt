@@ -6,12 +6,13 @@ ghost use lib.ListN.{length, take};
 ghost use Rattle.entries.specs.Order.{order-ok};
 ghost use Rattle.buffer_core.specs.Edition.{edition-of};
 ghost use Rattle.buffer_core.specs.Spills.{sources};
-ghost use Rattle.buffer_core.specs.Flip.{flipping, spends, done-by, in-rows, in-order, flip-core};
+ghost use Rattle.buffer_core.specs.Flip.{flipping, done-by, in-rows, in-order, flip-core};
 ghost use Rattle.flip_stage.specs.Steps.{RowsReady, Stages};
 ghost use Rattle.flip_core.specs.Ready.{FlipReady};
 use buffer_core::Direction;
 use buffer_core::Low;
 use buffer_core::Walk;
+pub use buffer_core::is_spend;
 use entries::Position;
 use index_types::Flipped;
 use index_types::HeadCounts;
@@ -229,16 +230,6 @@ fn flip_in_order(
     }
 }
 
-// Whether a direction is that of a spend.
-pub fn is_spend(direction: Direction) -> bool
-    ensures { λ r. ⌜ r ≡ spends direction ⌝ }
-{
-    match direction {
-        Direction::Spend => true,
-        Direction::Unspend => false,
-    }
-}
-
 // A spend or an unspend: 9, 10, 11, then the head and the rows.
 pub fn flip(
     edition: RowEdition,
@@ -274,7 +265,7 @@ pub fn flip(
         edition,
         parent,
         size,
-        is_spend(direction),
+        buffer_core::is_spend(direction),
         len,
         signed::usize_from_i32(spills),
         staged_counts,

@@ -20,7 +20,7 @@ use index_types::SEGMENT_THRESHOLD;
 use spill_rows::Read;
 
 // What a row shows that has no entry to take.
-pub fn look_past(first: u64, target: u64, seen: bool) -> Look
+fn look_past(first: u64, target: u64, seen: bool) -> Look
     ensures { λ r. ⌜ r ≡ look-past (ltb first target) seen ⌝ }
 {
     if first < target {

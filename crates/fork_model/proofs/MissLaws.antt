@@ -1,6 +1,6 @@
 -- What a flip answers in a sorted history that holds no copy of the wanted sign: 14 if the number is there, else 15. The halving and the walk pass no copy by.
 use Rattle.ledger.proofs.TestLaws.{ite-yes, ite-no}
-use mathlib.Core.Path.{_≡_, refl, sym, _∙_, ap, subst}
+use mathlib.Core.Path.{_≡_, refl, sym, _∙_, ap}
 use mathlib.Core.Logic.{⊎-elim}
 use mathlib.Core.Bool.{Bool, true, false}
 use mathlib.Core.List.{List, [], _∷_, _++_, List·Memᴰ, List·Memᴰ·head, List·Memᴰ·tail, List·Memᴰ·append-cases, Memᴰ·append-left, Memᴰ·append-right}

@@ -148,3 +148,10 @@ pub enum Loaded {
     },
     Refused(u8),
 }
+
+// The counts of the three lists of spills.
+pub struct SpillCounts {
+    pub staged: ListCounts,
+    pub table: ListCounts,
+    pub deleted: ListCounts,
+}

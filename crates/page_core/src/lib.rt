@@ -171,7 +171,7 @@ fn page_hinted<'a>(
         ≡ page-over (rows-up (row-checked (edition-of edition) (sources (now (parent .entry)) (now (staged .entry)) «staged_count» (now (table .entry)) «table_count»)) 0 spills)
         (take len (now (head .entry))) offset wanted (now (out .entry)) ⌝ }
 {
-    let read = tally_core::check_rows(
+    let read = row_tallies::check_rows(
         edition,
         parent,
         spills,

@@ -18,7 +18,7 @@ use Rattle.calls.specs.Calls.{signed-of, number-at, with-number, with-token, wi
 use Rattle.calls.proofs.CallLaws.{call-sound}
 use Rattle.call_steps.specs.Steps.{step-of}
 use Rattle.buffer_core.proofs.RefusedLaws.{both}
-use Rattle.run_checks.proofs.CheckLaws.{and-off}
+use Rattle.run_answers.proofs.AnswerLaws.{and-off}
 use Rattle.runner.proofs.RunLaws.{runs-stop}
 use Rattle.runner.specs.Run.{Run, run-at, may-go, ended, answered, called, turn-of, runs}
 

@@ -19,7 +19,7 @@ use Rattle.calls.proofs.CallLaws.{call-sound}
 use Rattle.call_steps.specs.State.{State, length-at, counts-ok, lengths-ok, blocks-ok, state-ok, Ready}
 use Rattle.call_steps.specs.Steps.{Stepping, step-of, StepReady}
 use Rattle.call_steps.proofs.KeepLaws.{step-kept, step-ready}
-use Rattle.run_checks.specs.Answers.{with-code, with-number, end-at}
+use Rattle.run_answers.specs.Answers.{with-code, with-number, end-at}
 use Rattle.run_checks.proofs.CheckLaws.{more}
 use Rattle.runner.specs.Run.{Run, run-at, may-go, ended, answered, called, turn-of, runs, start, closed, run-of, TurnReady}
 

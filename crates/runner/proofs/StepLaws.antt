@@ -10,7 +10,7 @@ use Rattle.buffer_core.specs.Edition.{edition-1}
 use Rattle.calls.specs.declared.Call.{Call}
 use Rattle.calls.specs.declared.Call.the-variants.{Append, Flip, Pop, Flush, Change, Bad, Cut, End}
 use Rattle.call_steps.specs.declared.Said.{Said}
-use Rattle.call_steps.specs.declared.SpillCounts.{SpillCounts}
+use Rattle.index_types.specs.declared.SpillCounts.{SpillCounts}
 use Rattle.call_steps.specs.declared.Stepped.{Stepped}
 use Rattle.call_steps.specs.State.{State, state}
 use Rattle.call_steps.specs.Steps.{refused, stepped, left-by, lists-with, count-step, HeadStep, head-step, append-by, of-append, FlipStep, flip-step, flip-by, of-flip, PopStep, pop-step, pop-by, of-pop, FlushStep, flush-step, flush-by, of-flush, ChangeStep, change-step, change-of, of-change, step-of}

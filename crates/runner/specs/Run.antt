@@ -10,7 +10,7 @@ use Rattle.calls.specs.declared.Call.{Call}
 use Rattle.calls.specs.Calls.{call-at, size-of, end-of}
 use Rattle.call_steps.specs.State.{State, state, state-ok, Ready}
 use Rattle.call_steps.specs.Steps.{Stepping, lists-with, step-of}
-use Rattle.run_checks.specs.Answers.{with-code, with-number, has-room, end-at}
+use Rattle.run_answers.specs.Answers.{with-code, with-number, has-room, end-at}
 use Rattle.runner.specs.declared.Progress.{Progress}
 
 -- where a run stands: the state, the next byte, the calls made, how reading ended, and the answers so far, two bytes a call and a number a call

@@ -6,9 +6,9 @@ ghost use Rattle.buffer_core.specs.Edition.{edition-1};
 ghost use Rattle.call_steps.specs.State.{Ready, state};
 ghost use Rattle.call_steps.specs.Steps.{left-by, lists-with, step-of, StepReady};
 ghost use Rattle.runner.specs.Run.{run, start, TurnReady, turn-of, runs, run-of};
-use call_steps::SpillCounts;
 use call_steps::Stepped;
 use calls::Call;
+use index_types::SpillCounts;
 
 mod noted;
 
@@ -44,7 +44,7 @@ fn step(
         (lists-with counts (now (staged .entry)) (now (table .entry)) (now (deleted .entry)))) ⌝ }
 {
     match call {
-        Call::Append(kind, p, n) => call_steps::append_step(
+        Call::Append(kind, p, n) => segment_steps::append_step(
             kind,
             p,
             n,
@@ -55,7 +55,7 @@ fn step(
             staged,
             counts,
         ),
-        Call::Flip(direction, p, n) => call_steps::flip_step(
+        Call::Flip(direction, p, n) => segment_steps::flip_step(
             direction,
             p,
             n,
@@ -68,7 +68,7 @@ fn step(
             hints,
             counts,
         ),
-        Call::Pop(kind, p) => call_steps::pop_step(
+        Call::Pop(kind, p) => segment_steps::pop_step(
             kind,
             p,
             ids,
@@ -82,7 +82,7 @@ fn step(
         ),
         Call::Flush => noted::flush_noted(table, staged, deleted, hints, counts),
         Call::Change(adding, p, nanos, token, amount) => {
-            let said = call_steps::change_step(
+            let said = balance_steps::change_step(
                 adding,
                 p,
                 nanos,
@@ -94,9 +94,9 @@ fn step(
             );
             Stepped { said, counts }
         }
-        Call::Bad => run_checks::no_call(counts),
-        Call::Cut => run_checks::no_call(counts),
-        Call::End => run_checks::no_call(counts),
+        Call::Bad => run_answers::no_call(counts),
+        Call::Cut => run_answers::no_call(counts),
+        Call::End => run_answers::no_call(counts),
     }
 }
 
@@ -152,7 +152,7 @@ fn turn(
     );
     let said = s.said;
     let after = s.counts;
-    run_checks::put_answer(said, made, answers, popped);
+    run_answers::put_answer(said, made, answers, popped);
     Progress {
         counts: after,
         at: next,
@@ -191,7 +191,7 @@ fn run_ready(
     while 0 < left {
         let made = p.made;
         let end = p.end;
-        if run_checks::may_go(answers, popped, made, end) {
+        if run_answers::may_go(answers, popped, made, end) {
             p = turn(
                 input,
                 parents,
@@ -262,7 +262,7 @@ pub fn run_calls(
         let counts_after = p.counts;
         let at = p.at;
         let made = p.made;
-        let end = run_checks::end_at(input, at, p.end);
+        let end = run_answers::end_at(input, at, p.end);
         return Progress {
             counts: counts_after,
             at,

@@ -9,8 +9,8 @@ ghost use Rattle.call_steps.specs.State.{Ready, state};
 ghost use Rattle.call_steps.specs.Steps.{lists-with, flush-step, flush-by};
 ghost use Rattle.runner.specs.Run.{run, start, runs};
 use super::Progress;
-use call_steps::SpillCounts;
 use call_steps::Stepped;
+use index_types::SpillCounts;
 
 fn note_table(counts: SpillCounts, table: &[u8], hints: &mut [u16]) {
     let held = counts.table;
@@ -33,7 +33,7 @@ pub fn flush_noted(
     ensures { λ r. ⌜ flush-step r (now (table .exit)) (now (staged .exit)) (now (deleted .exit))
         ≡ flush-by edition-1 (lists-with counts (now (staged .entry)) (now (table .entry)) (now (deleted .entry))) ⌝ }
 {
-    let s = call_steps::flush_step(table, staged, deleted, counts);
+    let s = segment_steps::flush_step(table, staged, deleted, counts);
     let after = s.counts;
     note_table(after, table, hints);
     s

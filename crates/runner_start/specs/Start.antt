@@ -5,7 +5,7 @@ use lib.ListN.{replicate}
 use Rattle.call_steps.specs.State.{parent-ids}
 use Rattle.stores.specs.Stores.{write}
 use Rattle.index_types.specs.declared.ListCounts.{ListCounts}
-use Rattle.call_steps.specs.declared.SpillCounts.{SpillCounts}
+use Rattle.index_types.specs.declared.SpillCounts.{SpillCounts}
 
 -- no record in a list of so many places
 abbrev pub none-of : ℕ → ListCounts

@@ -3,8 +3,8 @@ ghost use mathlib.Core.Path.{_≡_};
 ghost use lib.ListN.{length};
 ghost use Rattle.runner_start.specs.Start.{lists-empty, two-ids};
 use call_steps::PARENT_IDS;
-use call_steps::SpillCounts;
 use index_types::ListCounts;
+use index_types::SpillCounts;
 
 // The segments table of 2, the staged spills of 1 and the deleted spills of 2, all empty.
 pub fn empty_lists() -> SpillCounts

@@ -1,64 +1,11 @@
 // Inspection of spill rows among the staged spills and in the segments table.
 ghost use mathlib.Core.Path.{_≡_};
 ghost use Rattle.buffer_core.specs.Edition.{record-size, row-limit-of};
-ghost use Rattle.spills.specs.Inspection.{spills-ok, locate-row, located-code, located-row, Within, inspect-code, inspect-row};
+ghost use Rattle.spill_places.specs.Inspection.{locate-row, inspect-code, inspect-row};
 use index_types::ListCounts;
 use index_types::RowEdition;
-use records::Place;
-
-// Where the row under a key stands, as the index of its record, or the refusal code.
-pub enum Located {
-    Staged(usize),
-    Table(usize),
-    Missing,
-    Refused(u8),
-}
-
-// Whether both lists pass refusal 25.
-fn spills_ok(
-    edition: RowEdition,
-    staged_counts: ListCounts,
-    staged: &[u8],
-    table_counts: ListCounts,
-    table: &[u8],
-) -> bool
-    ensures { λ r. ⌜ r ≡ spills-ok (record-size edition) (row-limit-of edition) «staged_counts» (now (staged .entry)) «table_counts» (now (table .entry)) ⌝ }
-{
-    if buffer_checks::spills_ok(edition, staged, staged_counts) {
-        return buffer_checks::spills_ok(edition, table, table_counts);
-    }
-    false
-}
-
-// The index of the record with the key, among the staged spills or else in the table; 25 is tested first.
-pub fn locate_spill(
-    edition: RowEdition,
-    key: &[u8; 32],
-    staged_counts: ListCounts,
-    staged: &[u8],
-    table_counts: ListCounts,
-    table: &[u8],
-) -> Located
-    ensures { λ r. ⌜ r ≡ locate-row (record-size edition) (row-limit-of edition) «staged_counts» (now (staged .entry)) «table_counts» (now (table .entry)) (now (key .entry)) ⌝ }
-{
-    if spills_ok(edition, staged_counts, staged, table_counts, table) {
-        let size = buffer_core::record_size(edition);
-        let place = records::locate(
-            staged,
-            staged_counts.count,
-            table,
-            table_counts.count,
-            size,
-            key,
-        );
-        return match place {
-            Place::Staged(i) => Located::Staged(i),
-            Place::Table(i) => Located::Table(i),
-            Place::Missing => Located::Missing,
-        };
-    }
-    Located::Refused(refusal::BUFFERS)
-}
+pub use spill_places::Located;
+pub use spill_places::locate_spill;
 
 // What inspection answers: code 0 beside the row, as a part of the slice that holds it; or the refusal code beside an empty part.
 pub struct Inspected<'a> {
@@ -77,38 +24,7 @@ fn locate_alike<'a>(
 ) -> Located
     ensures { λ r. ⌜ r ≡ locate-row (record-size edition) (row-limit-of edition) «staged_counts» (now (staged .entry)) «table_counts» (now (table .entry)) (now (key .entry)) ⌝ }
 {
-    locate_spill(edition, key, staged_counts, staged, table_counts, table)
-}
-
-// The code of what was located.
-fn located_code(located: Located) -> u8
-    ensures { λ r. ⌜ r ≡ located-code located ⌝ }
-{
-    match located {
-        Located::Staged(_) => 0,
-        Located::Table(_) => 0,
-        Located::Missing => refusal::ROW_MISSING,
-        Located::Refused(code) => code,
-    }
-}
-
-// The row at what was located, as a part of the slice that holds it; empty where there is none.
-fn located_part<'a>(
-    edition: RowEdition,
-    staged: &'a [u8],
-    table: &'a [u8],
-    located: Located,
-) -> &'a [u8]
-    requires { ⌜ Within (record-size edition) (now staged) (now table) located ⌝ }
-    ensures { λ r. ⌜ now r ≡ located-row (record-size edition) (now (staged .entry)) (now (table .entry)) located ⌝ }
-{
-    let size = buffer_core::record_size(edition);
-    match located {
-        Located::Staged(i) => records::row_part(staged, i * size, size),
-        Located::Table(i) => records::row_part(table, i * size, size),
-        Located::Missing => &table[0..0],
-        Located::Refused(_) => &table[0..0],
-    }
+    spill_places::locate_spill(edition, key, staged_counts, staged, table_counts, table)
 }
 
 // The row under the key; 12 where the key is missing, 25 where `locate_spill` refuses.
@@ -124,7 +40,7 @@ pub fn inspect_spill<'a>(
         × (now (r .row) ≡ inspect-row (record-size edition) (row-limit-of edition) «staged_counts» (now (staged .entry)) «table_counts» (now (table .entry)) (now (key .entry))) ⌝ }
 {
     let located = locate_alike(edition, key, staged_counts, staged, table_counts, table);
-    let row = located_part(edition, staged, table, located);
-    let code = located_code(located);
+    let row = spill_places::located_part(edition, staged, table, located);
+    let code = spill_places::located_code(located);
     Inspected { code, row }
 }

@@ -103,56 +103,6 @@ pub fn append_box_entry_with_summary(
     Appended::Refused(refusal::BUFFERS)
 }
 
-// A pop of a box number, as a plain number.
-pub fn pop_entry(
-    edition: RowEdition,
-    parent: &[u8; 32],
-    counts: HeadCounts,
-    head: &mut [i64],
-    staged_counts: ListCounts,
-    staged: &mut [u8],
-    table_counts: ListCounts,
-    table: &[u8],
-    deleted_counts: ListCounts,
-    deleted: &mut [u8],
-    lines: usize,
-    summary: &mut [u64],
-) -> Popped
-    ensures { λ r. ⌜ with-summary (popping r (now (head .exit)) (now (staged .exit)) (now (deleted .exit))) (now (summary .exit))
-        ≡ pop-lines-of (edition-of edition) (now (parent .entry)) counts
-        (lists «staged_counts» (now (staged .entry)) «table_counts» (now (table .entry)) «deleted_counts» (now (deleted .entry))) (now (head .entry)) lines (now (summary .entry)) ⌝ }
-{
-    if summary_checks::pop_ok(
-        edition,
-        counts,
-        head,
-        staged_counts,
-        staged,
-        table_counts,
-        table,
-        deleted_counts,
-        deleted,
-        lines,
-        summary,
-    ) {
-        return summary_pop::pop(
-            edition,
-            parent,
-            counts,
-            head,
-            staged_counts,
-            staged,
-            table_counts,
-            table,
-            deleted_counts,
-            deleted,
-            lines,
-            summary,
-        );
-    }
-    Popped::Refused(refusal::BUFFERS)
-}
-
 // The last box number of the head; on an empty head the newest row becomes the head first, and its line is cleared.
 pub fn pop_box_entry_with_summary(
     edition: RowEdition,
@@ -172,7 +122,7 @@ pub fn pop_box_entry_with_summary(
         ≡ pop-lines-of (edition-of edition) (now (parent .entry)) counts
         (lists «staged_counts» (now (staged .entry)) «table_counts» (now (table .entry)) «deleted_counts» (now (deleted .entry))) (now (head .entry)) lines (now (summary .entry)) ⌝ }
 {
-    let popped = pop_entry(
+    let popped = summary_calls::pop_entry(
         edition,
         parent,
         counts,
@@ -196,53 +146,6 @@ pub fn pop_box_entry_with_summary(
 
 // ---- spend, unspend and tally
 
-// A spend or an unspend, as the direction says.
-pub fn flip_entry(
-    edition: RowEdition,
-    direction: Direction,
-    parent: &[u8; 32],
-    counts: HeadCounts,
-    head: &mut [i64],
-    target: i64,
-    staged_counts: ListCounts,
-    staged: &mut [u8],
-    table_counts: ListCounts,
-    table: &[u8],
-    lines: usize,
-    summary: &mut [u64],
-) -> Flipped
-    ensures { λ r. ⌜ with-summary (flipping r (now (head .exit)) (now (staged .exit))) (now (summary .exit))
-        ≡ flip-lines-of (edition-of edition) direction (now (parent .entry)) counts target «staged_counts» (now (staged .entry)) «table_counts» (now (table .entry)) (now (head .entry)) lines (now (summary .entry)) ⌝ }
-{
-    if summary_checks::flip_ok(
-        edition,
-        counts,
-        staged_counts,
-        staged,
-        table_counts,
-        table,
-        head,
-        lines,
-        summary,
-    ) {
-        return summary_flip::flip(
-            edition,
-            direction,
-            parent,
-            counts,
-            target,
-            staged_counts,
-            staged,
-            table_counts,
-            table,
-            head,
-            lines,
-            summary,
-        );
-    }
-    Flipped::Refused(refusal::BUFFERS)
-}
-
 // Marks one box as spent: the head's first entry of the number that is not negative is negated; without one, that of the first row that the walk over the summary
 // finds it in, and the row's line is made anew.
 pub fn flip_box_segment_entry_with_summary(
@@ -261,7 +164,7 @@ pub fn flip_box_segment_entry_with_summary(
     ensures { λ r. ⌜ with-summary (flipping r (now (head .exit)) (now (staged .exit))) (now (summary .exit))
         ≡ flip-lines-of (edition-of edition) Spend (now (parent .entry)) counts (target .0) «staged_counts» (now (staged .entry)) «table_counts» (now (table .entry)) (now (head .entry)) lines (now (summary .entry)) ⌝ }
 {
-    flip_entry(
+    summary_calls::flip_entry(
         edition,
         Direction::Spend,
         parent,
@@ -294,7 +197,7 @@ pub fn unflip_box_segment_entry_with_summary(
     ensures { λ r. ⌜ with-summary (flipping r (now (head .exit)) (now (staged .exit))) (now (summary .exit))
         ≡ flip-lines-of (edition-of edition) Unspend (now (parent .entry)) counts (target .0) «staged_counts» (now (staged .entry)) «table_counts» (now (table .entry)) (now (head .entry)) lines (now (summary .entry)) ⌝ }
 {
-    flip_entry(
+    summary_calls::flip_entry(
         edition,
         Direction::Unspend,
         parent,

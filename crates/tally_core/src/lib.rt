@@ -1,154 +1,26 @@
 // Tally, once refusal 25 has passed: how many entries of a parent's boxes are unspent, and how many spent.
 ghost use mathlib.Core.Path.{_≡_};
 ghost use mathlib.Core.Bool.{true};
-ghost use Prim.Native.Nat.{_+_, _*_, _≤_, _<_};
+ghost use Prim.Native.Nat.{_*_, _≤_, _<_};
 ghost use lib.ListN.{length, take};
 ghost use Rattle.index_types.specs.Limits.{segment-threshold};
 ghost use Rattle.records.specs.Records.{keys};
 ghost use Rattle.records.specs.Find.{distinct};
 ghost use Rattle.buffer_core.specs.Edition.{edition-of, record-size};
 ghost use Rattle.buffer_core.specs.Spills.{sources};
-ghost use Rattle.buffer_core.specs.Rows.{rows-up};
 ghost use Rattle.buffer_core.specs.Flip.{row-checked};
 ghost use Rattle.buffer_core.specs.Tally.{tally-core};
 ghost use Rattle.flip_core.specs.Ready.{FlipReady};
-ghost use Rattle.entries.specs.Tally.{plus};
-ghost use Rattle.spill_rows.specs.Steps.{read-of};
-ghost use Rattle.tally_core.specs.Steps.{counted, tally-rows};
+ghost use Rattle.row_tallies.specs.Steps.{tally-rows};
+pub use entry_tallies::plus;
 use index_types::HeadCounts;
 use index_types::ListCounts;
 use index_types::RowEdition;
-use index_types::SEGMENT_THRESHOLD;
 use index_types::Tallied;
 use index_types::Tally;
-use spill_rows::Read;
+pub use row_tallies::check_rows;
 
-// The figures of the row of a spill number, or the row's refusal code.
-fn count_row<'a>(
-    edition: RowEdition,
-    parent: &[u8; 32],
-    number: usize,
-    staged: &'a [u8],
-    staged_count: usize,
-    table: &'a [u8],
-    table_count: usize,
-    hints: &[u16],
-) -> Tallied
-    requires { ⌜ («staged_count» * record-size edition ≤ length (now staged)) × («table_count» * record-size edition ≤ length (now table)) × (number < 2147483648)
-        × (distinct (keys (record-size edition) «table_count» (now table)) ≡ true) ⌝ }
-    ensures { λ r. ⌜ r ≡ counted (row-checked (edition-of edition) (sources (now (parent .entry)) (now (staged .entry)) «staged_count» (now (table .entry)) «table_count») number) ⌝ }
-{
-    let mut row = [0i64; SEGMENT_THRESHOLD];
-    let read = spill_rows::read_checked(
-        edition,
-        parent,
-        number,
-        staged,
-        staged_count,
-        table,
-        table_count,
-        hints,
-        &mut row,
-    );
-    match read {
-        Read::Good => Tallied::Counts(entry_tallies::tally_entries(&row, SEGMENT_THRESHOLD)),
-        Read::Faulty(code) => Tallied::Refused(code),
-    }
-}
-
-// The sums of two tallies' figures.
-pub fn plus(a: Tally, b: Tally) -> Tally
-    requires { ⌜ (a .unspent + b .unspent < 18446744073709551616) × (a .spent + b .spent < 18446744073709551616)
-        × (a .unknown + b .unknown < 18446744073709551616) ⌝ }
-    ensures { λ r. ⌜ r ≡ plus a b ⌝ }
-{
-    Tally {
-        unspent: a.unspent + b.unspent,
-        spent: a.spent + b.spent,
-        unknown: a.unknown + b.unknown,
-    }
-}
-
-// Counts the entries of all rows from spill 0 up, on top of those counted so far.
-pub fn count_rows<'a>(
-    edition: RowEdition,
-    parent: &[u8; 32],
-    spills: usize,
-    so_far: Tally,
-    staged: &'a [u8],
-    staged_count: usize,
-    table: &'a [u8],
-    table_count: usize,
-    hints: &[u16],
-) -> Tallied
-    requires { ⌜ («staged_count» * record-size edition ≤ length (now staged)) × («table_count» * record-size edition ≤ length (now table)) × (spills < 2147483648)
-        × («so_far» .unspent ≤ segment-threshold) × («so_far» .spent ≤ segment-threshold) × («so_far» .unknown ≤ segment-threshold) × (distinct (keys (record-size edition) «table_count» (now table)) ≡ true) ⌝ }
-    ensures { λ r. ⌜ r ≡ tally-rows (row-checked (edition-of edition) (sources (now (parent .entry)) (now (staged .entry)) «staged_count» (now (table .entry)) «table_count»)) 0 spills «so_far» ⌝ }
-{
-    let mut t = so_far;
-    let mut n = 0;
-    while n < spills {
-        let row = count_row(
-            edition,
-            parent,
-            n,
-            staged,
-            staged_count,
-            table,
-            table_count,
-            hints,
-        );
-        match row {
-            Tallied::Counts(more) => {
-                t = plus(t, more);
-            }
-            Tallied::Refused(code) => {
-                return Tallied::Refused(code);
-            }
-        }
-        n += 1;
-    }
-    Tallied::Counts(t)
-}
-
-// Checks every row from spill 0 up, and counts nothing.
-pub fn check_rows<'a>(
-    edition: RowEdition,
-    parent: &[u8; 32],
-    rows: usize,
-    staged: &'a [u8],
-    staged_count: usize,
-    table: &'a [u8],
-    table_count: usize,
-    hints: &[u16],
-) -> Read
-    requires { ⌜ («staged_count» * record-size edition ≤ length (now staged)) × («table_count» * record-size edition ≤ length (now table)) × (rows < 2147483648)
-        × (distinct (keys (record-size edition) «table_count» (now table)) ≡ true) ⌝ }
-    ensures { λ r. ⌜ r ≡ read-of (rows-up (row-checked (edition-of edition) (sources (now (parent .entry)) (now (staged .entry)) «staged_count» (now (table .entry)) «table_count»)) 0 rows) ⌝ }
-{
-    let none = Tally {
-        unspent: 0,
-        spent: 0,
-        unknown: 0,
-    };
-    let tallied = count_rows(
-        edition,
-        parent,
-        rows,
-        none,
-        staged,
-        staged_count,
-        table,
-        table_count,
-        hints,
-    );
-    match tallied {
-        Tallied::Counts(_) => Read::Good,
-        Tallied::Refused(code) => Read::Faulty(code),
-    }
-}
-
-// count_rows for a table of few records.
+// `row_tallies::count_rows` for a table of few records.
 fn count_few<'a>(
     edition: RowEdition,
     parent: &[u8; 32],
@@ -164,7 +36,7 @@ fn count_few<'a>(
     ensures { λ r. ⌜ r ≡ tally-rows (row-checked (edition-of edition) (sources (now (parent .entry)) (now (staged .entry)) «staged_count» (now (table .entry)) «table_count»)) 0 spills «so_far» ⌝ }
 {
     let none = [0u16; 1];
-    count_rows(
+    row_tallies::count_rows(
         edition,
         parent,
         spills,
@@ -177,7 +49,7 @@ fn count_few<'a>(
     )
 }
 
-// count_rows for a table of many records: where they stand is noted first.
+// `row_tallies::count_rows` for a table of many records: where they stand is noted first.
 fn count_many<'a>(
     edition: RowEdition,
     parent: &[u8; 32],
@@ -195,7 +67,7 @@ fn count_many<'a>(
     let mut hints = [0u16; 16384];
     let size = buffer_core::record_size(edition);
     record_hints::note_places(table, size, table_count, &mut hints);
-    count_rows(
+    row_tallies::count_rows(
         edition,
         parent,
         spills,

@@ -2,8 +2,8 @@
 ghost use mathlib.Core.Path.{_≡_};
 ghost use Prim.Native.Nat.{_≤_};
 ghost use lib.ListN.{length};
-use address_core::AddressRead;
-use address_core::IndexedAddress;
+use address::AddressRead;
+use address::IndexedAddress;
 use index_types::Int;
 use index_types::Loaded;
 use index_types::Long;

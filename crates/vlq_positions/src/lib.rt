@@ -1,4 +1,4 @@
-// Positions of a reader of coded numbers, on a slice and numbers: where it starts and stands, and where it stands after what it looked for.
+// Positions of a reader of coded numbers, on a slice and numbers: where it stands after what it looked for.
 // Internal: the reader itself is the struct of `vlq_reader`.
 ghost use mathlib.Core.Path.{_≡_};
 ghost use Rattle.vlq_positions.specs.Positions.{after-long, after-int, span-at, after-span};
@@ -9,27 +9,6 @@ use index_types::Long;
 pub enum Span {
     Within(usize, usize),
     Refused(u8),
-}
-
-// The position that a reader starts at.
-pub fn start() -> usize
-    ensures { λ r. ⌜ r ≡ 0 ⌝ }
-{
-    0
-}
-
-// The position that a reader tells, of the one that it holds.
-pub fn position(at: usize) -> usize
-    ensures { λ r. ⌜ r ≡ at ⌝ }
-{
-    at
-}
-
-// The answer on the first number of a slice, of what a reader at its start found.
-pub fn first(found: Long) -> Long
-    ensures { λ r. ⌜ r ≡ found ⌝ }
-{
-    found
 }
 
 // The position after a 64-bit number that was looked for at a position; a refusal leaves it.

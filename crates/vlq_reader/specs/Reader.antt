@@ -8,6 +8,10 @@ use Rattle.vlq_reader.specs.declared.VlqReader.{VlqReader}
 abbrev pub started : RefT (List ℕ) → VlqReader
 started src = record { src = src; at = 0 }
 
+-- the position of the next byte to read
+abbrev pub position-of : VlqReader → ℕ
+position-of r = r .at
+
 -- the same bytes at another position
 abbrev pub moved-to : VlqReader → ℕ → VlqReader
 moved-to r at = record { src = r .src; at = at }

@@ -3,7 +3,7 @@
 ghost use mathlib.Core.Path.{_≡_};
 ghost use Rattle.vlq_core.specs.Reading.{read-at, long-of, int-of};
 ghost use Rattle.vlq_positions.specs.Positions.{after-long, after-int, span-at, after-span};
-ghost use Rattle.vlq_reader.specs.Reader.{started, moved-to};
+ghost use Rattle.vlq_reader.specs.Reader.{started, position-of, moved-to};
 use index_types::Int;
 use index_types::Long;
 
@@ -20,16 +20,14 @@ pub struct VlqReader<'a> {
 pub fn new<'a>(src: &'a [u8]) -> VlqReader<'a>
     ensures { λ r. ⌜ r ≡ started (src .entry) ⌝ }
 {
-    let at = vlq_positions::start();
-    VlqReader { src, at }
+    VlqReader { src, at: 0 }
 }
 
 // The position of the next byte to read.
 pub fn position<'a>(held: VlqReader<'a>) -> usize
-    ensures { λ r. ⌜ r ≡ held .entry .at ⌝ }
+    ensures { λ r. ⌜ r ≡ position-of (held .entry) ⌝ }
 {
-    let at = held.at;
-    vlq_positions::position(at)
+    held.at
 }
 
 // Reads a signed 64-bit number; a refusal leaves the reader where it was.
@@ -76,6 +74,5 @@ pub fn first_i64(src: &[u8]) -> Long
     ensures { λ r. ⌜ r ≡ long-of (read-at 64 (now (src .entry)) 0) ⌝ }
 {
     let mut reader = new(src);
-    let found = read_i64(&mut reader);
-    vlq_positions::first(found)
+    read_i64(&mut reader)
 }

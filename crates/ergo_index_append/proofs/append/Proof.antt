@@ -11,8 +11,8 @@ use Rattle.ergo_index_append.proofs.append.Tie as tie
 append-entry-requires : tie.Need-append-entry-requires
 append-entry-requires c κs = search needs
 
-told-requires : tie.Need-told-requires
-told-requires c κs = search needs
+append-told-requires : tie.Need-append-told-requires
+append-told-requires c κs = search needs
 
 same-length : tie.Need-same-length
 same-length c = search needs
@@ -25,8 +25,8 @@ returns c =
     let s = c .before .before .before .before .before .before .before .before .before .before .before .before .before .before in
     let a = s .args in
     let e = rw (back w32 (now (a .spills)) (search needs), back w64 (a .number) (s .fits .number)) at (c .before .before .before .before .before .before .before .append-entry .ensures) in
-    c .told .ensures _ _ ∙ append-told _ _ _ _ e (now (a .len)) (now (a .spills)) (now (a .staged-count))
+    c .append-told .ensures _ _ ∙ append-told _ _ _ _ e (now (a .len)) (now (a .spills)) (now (a .staged-count))
 
 pub append-spec : {M : Type 1} → statement M
 append-spec =
-    tie.close (tie.spec append-entry-requires told-requires same-length same-length-2 returns)
+    tie.close (tie.spec append-entry-requires append-told-requires same-length same-length-2 returns)

@@ -12,8 +12,8 @@ named-edition-requires c κs = search needs
 flush-staged-spills-requires : tie.Need-flush-staged-spills-requires
 flush-staged-spills-requires c κs = search needs
 
-told-requires : tie.Need-told-requires
-told-requires c κs = search needs
+flush-told-requires : tie.Need-flush-told-requires
+flush-told-requires c κs = search needs
 
 same-length : tie.Need-same-length
 same-length c = search needs
@@ -28,7 +28,7 @@ returns : tie.Need-returns
 returns c =
     let a = c .before .before .before .before .before .before .before .before .before .before .before .before .before .before .before .before .before .before .before .before .before .args in
     let e = rw (c .before .before .before .before .before .before .before .before .before .before .before .before .before .before .named-edition .ensures) at (c .before .before .before .before .before .before .before .before .before .before .flush-staged-spills .ensures) in
-    c .told .ensures _ _ _ ∙ flush-told _ _ _ _ _ e (now (a .staged-count)) (now (a .table-count)) (now (a .deleted-count))
+    c .flush-told .ensures _ _ _ ∙ flush-told _ _ _ _ _ e (now (a .staged-count)) (now (a .table-count)) (now (a .deleted-count))
 
 pub ergo-index-flush-staged-spills-in-edition-spec : {M : Type 1} → statement M
 ergo-index-flush-staged-spills-in-edition-spec =
@@ -36,7 +36,7 @@ ergo-index-flush-staged-spills-in-edition-spec =
     (tie.spec
     named-edition-requires
     flush-staged-spills-requires
-    told-requires
+    flush-told-requires
     same-length
     same-length-2
     same-length-3

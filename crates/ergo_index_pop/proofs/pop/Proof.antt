@@ -11,8 +11,8 @@ use Rattle.ergo_index_pop.proofs.pop.Tie as tie
 pop-entry-requires : tie.Need-pop-entry-requires
 pop-entry-requires c κs = search needs
 
-told-requires : tie.Need-told-requires
-told-requires c κs = search needs
+pop-told-requires : tie.Need-pop-told-requires
+pop-told-requires c κs = search needs
 
 same-length : tie.Need-same-length
 same-length c = search needs
@@ -27,14 +27,14 @@ returns : tie.Need-returns
 returns c =
     let a = c .before .before .before .before .before .before .before .before .before .before .before .before .before .before .before .before .before .before .before .before .before .before .args in
     let e = rw (back w32 (now (a .spills)) (search (needs, c .before .before .before .before .before .before .before .before .before .before .before .before .before .before .before .before .before .t23 .given))) at (c .before .before .before .before .before .before .before .before .before .before .before .pop-entry .ensures) in
-    c .told .ensures _ _ _ ∙ pop-told _ _ _ _ _ e (now (a .number)) (now (a .len)) (now (a .spills)) (now (a .staged-count)) (now (a .deleted-count))
+    c .pop-told .ensures _ _ _ ∙ pop-told _ _ _ _ _ e (now (a .number)) (now (a .len)) (now (a .spills)) (now (a .staged-count)) (now (a .deleted-count))
 
 pub pop-spec : {M : Type 1} → statement M
 pop-spec =
     tie.close
     (tie.spec
     pop-entry-requires
-    told-requires
+    pop-told-requires
     same-length
     same-length-2
     same-length-3

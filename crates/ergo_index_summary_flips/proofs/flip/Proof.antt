@@ -11,8 +11,8 @@ use Rattle.ergo_index_summary_flips.proofs.flip.Tie as tie
 flip-entry-requires : tie.Need-flip-entry-requires
 flip-entry-requires c κs = search needs
 
-told-requires : tie.Need-told-requires
-told-requires c κs = search needs
+flip-told-requires : tie.Need-flip-told-requires
+flip-told-requires c κs = search needs
 
 same-length : tie.Need-same-length
 same-length c = search needs
@@ -28,9 +28,9 @@ returns c =
     let s = c .before .before .before .before .before .before .before .before .before .before .before .before .before .before .before in
     let a = s .args in
     let e = rw (back w32 (a .spills) (s .fits .spills), back w64 (a .target) (s .fits .target)) at (c .before .before .before .before .before .before .before .flip-entry .ensures) in
-    told-beside (flip-export (now (a .staged-count))) _ _ _ e _ (c .told .ensures _ _)
+    told-beside (flip-export (now (a .staged-count))) _ _ _ e _ (c .flip-told .ensures _ _)
 
 pub flip-spec : {M : Type 1} → statement M
 flip-spec =
     tie.close
-    (tie.spec flip-entry-requires told-requires same-length same-length-2 same-length-3 returns)
+    (tie.spec flip-entry-requires flip-told-requires same-length same-length-2 same-length-3 returns)

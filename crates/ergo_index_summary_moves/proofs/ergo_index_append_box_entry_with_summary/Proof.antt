@@ -13,8 +13,8 @@ named-edition-requires c κs = search needs
 append-box-entry-with-summary-requires : tie.Need-append-box-entry-with-summary-requires
 append-box-entry-with-summary-requires c κs = search needs
 
-told-requires : tie.Need-told-requires
-told-requires c κs = search needs
+append-told-requires : tie.Need-append-told-requires
+append-told-requires c κs = search needs
 
 same-length : tie.Need-same-length
 same-length c = search needs
@@ -30,7 +30,7 @@ returns c =
     let s = c .before .before .before .before .before .before .before .before .before .before .before .before .before .before .before .before .before .before .before in
     let a = s .args in
     let e = rw (c .before .before .before .before .before .before .before .before .before .before .before .before .before .named-edition .ensures, back w32 (now (a .spills)) (search needs), back w64 (a .number) (s .fits .number)) at (c .before .before .before .before .before .before .before .before .before .append-box-entry-with-summary .ensures) in
-    append-beside (now (a .len)) (now (a .spills)) (now (a .staged-count)) _ _ _ _ _ e _ _ _ _ (c .told .ensures)
+    append-beside (now (a .len)) (now (a .spills)) (now (a .staged-count)) _ _ _ _ _ e _ _ _ _ (c .append-told .ensures)
 
 pub ergo-index-append-box-entry-with-summary-spec : {M : Type 1} → statement M
 ergo-index-append-box-entry-with-summary-spec =
@@ -38,7 +38,7 @@ ergo-index-append-box-entry-with-summary-spec =
     (tie.spec
     named-edition-requires
     append-box-entry-with-summary-requires
-    told-requires
+    append-told-requires
     same-length
     same-length-2
     same-length-3

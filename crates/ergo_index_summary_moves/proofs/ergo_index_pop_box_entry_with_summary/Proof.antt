@@ -13,8 +13,8 @@ named-edition-requires c κs = search needs
 pop-entry-requires : tie.Need-pop-entry-requires
 pop-entry-requires c κs = search needs
 
-told-requires : tie.Need-told-requires
-told-requires c κs = search needs
+pop-told-requires : tie.Need-pop-told-requires
+pop-told-requires c κs = search needs
 
 same-length : tie.Need-same-length
 same-length c = search needs
@@ -32,7 +32,7 @@ returns : tie.Need-returns
 returns c =
     let a = c .before .before .before .before .before .before .before .before .before .before .before .before .before .before .before .before .before .before .before .before .before .before .before .before .before .before .before .args in
     let e = rw (c .before .before .before .before .before .before .before .before .before .before .before .before .before .before .before .before .before .before .named-edition .ensures, back w32 (now (a .spills)) (search (needs, c .before .before .before .before .before .before .before .before .before .before .before .before .before .before .before .before .before .before .before .before .before .t24 .given))) at (c .before .before .before .before .before .before .before .before .before .before .before .before .before .pop-entry .ensures) in
-    pop-beside (now (a .number)) (now (a .len)) (now (a .spills)) (now (a .staged-count)) (now (a .deleted-count)) _ _ _ _ _ _ e _ _ _ _ _ _ (c .told .ensures)
+    pop-beside (now (a .number)) (now (a .len)) (now (a .spills)) (now (a .staged-count)) (now (a .deleted-count)) _ _ _ _ _ _ e _ _ _ _ _ _ (c .pop-told .ensures)
 
 pub ergo-index-pop-box-entry-with-summary-spec : {M : Type 1} → statement M
 ergo-index-pop-box-entry-with-summary-spec =
@@ -40,7 +40,7 @@ ergo-index-pop-box-entry-with-summary-spec =
     (tie.spec
     named-edition-requires
     pop-entry-requires
-    told-requires
+    pop-told-requires
     same-length
     same-length-2
     same-length-3

@@ -1,4 +1,4 @@
-use Rattle.run_checks.proofs.CheckLaws.{and-on, and-off}
+use Rattle.run_answers.proofs.AnswerLaws.{and-on, and-off}
 use mathlib.Core.Path.{_∙_}
 use borrow.Author.Needs.{needs}
 use borrow.Author.Tests.{le-leb, lt-leb}

@@ -3,7 +3,8 @@ use borrow.Author.Tests.{not-true, not-false}
 use Prim.Native.Nat.{ℕ, _-_, _≤_}
 use native.Mathlib.Omega.{arith}
 use mathlib.Core.Path.{refl, sym, ap}
-use Rattle.run_checks.proofs.CheckLaws.{and-on, and-off, lengths-step}
+use Rattle.run_answers.proofs.AnswerLaws.{and-on, and-off}
+use Rattle.run_checks.proofs.CheckLaws.{lengths-step}
 use mathlib.Core.Path.{_≡_, _∙_}
 use Rattle.run_checks.proofs.lengths_ok.Statement.{statement}
 use Rattle.run_checks.proofs.lengths_ok.Tie as tie

@@ -1,4 +1,5 @@
-use Rattle.run_checks.proofs.CheckLaws.{and-on, and-off, lengths-there}
+use Rattle.run_answers.proofs.AnswerLaws.{and-on, and-off}
+use Rattle.run_checks.proofs.CheckLaws.{lengths-there}
 use Rattle.call_steps.specs.State.{blocks-ok, lengths-ok, state-ok}
 use denote.Ref.{now}
 use mathlib.Core.Path.{sym, _∙_}

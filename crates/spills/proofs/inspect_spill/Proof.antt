@@ -50,26 +50,26 @@ use Rattle.index_types.proofs.RowEdition.Laws as R′
 use Rattle.index_types.specs.declared.ListCounts.{ListCounts}
 use Rattle.index_types.proofs.ListCounts as N
 use Rattle.index_types.proofs.ListCounts.Laws as N′
-use Rattle.spills.specs.declared.Located.{Located}
+use Rattle.spill_places.specs.declared.Located.{Located}
 use Rattle.spills.specs.declared.Inspected.{Inspected}
-use Rattle.spills.specs.Inspection.{locate-row, located-code, located-row, Within}
-use Rattle.spills.proofs.LocateLaws.{any-within, code-located, inspect-located}
-use Rattle.spills.proofs.Located as S
-use Rattle.spills.proofs.Located.Laws as S′
+use Rattle.spill_places.specs.Inspection.{locate-row, located-code, located-row, Within}
+use Rattle.spill_places.proofs.LocateLaws.{any-within, code-located, inspect-located}
+use Rattle.spill_places.proofs.Located as S
+use Rattle.spill_places.proofs.Located.Laws as S′
 use Rattle.spills.proofs.Inspected as T
 use Rattle.spills.proofs.Inspected.Laws as T′
 use Rattle.spills.proofs.locate_alike as alike
 use Rattle.spills.proofs.locate_alike.Symbol as alike-def
 use Rattle.spills.proofs.locate_alike.Symbol.{name as #spills·locate-alike}
 use Rattle.spills.proofs.locate_alike.Met as alike-thm
-use Rattle.spills.proofs.located_part as part
-use Rattle.spills.proofs.located_part.Symbol as part-def
-use Rattle.spills.proofs.located_part.Symbol.{name as #spills·located-part}
-use Rattle.spills.proofs.located_part.Met as part-thm
-use Rattle.spills.proofs.located_code as coded
-use Rattle.spills.proofs.located_code.Symbol as coded-def
-use Rattle.spills.proofs.located_code.Symbol.{name as #spills·located-code}
-use Rattle.spills.proofs.located_code.Met as coded-thm
+use Rattle.spill_places.proofs.located_part as part
+use Rattle.spill_places.proofs.located_part.Symbol as part-def
+use Rattle.spill_places.proofs.located_part.Symbol.{name as #spill-places·located-part}
+use Rattle.spill_places.proofs.located_part.Met as part-thm
+use Rattle.spill_places.proofs.located_code as coded
+use Rattle.spill_places.proofs.located_code.Symbol as coded-def
+use Rattle.spill_places.proofs.located_code.Symbol.{name as #spill-places·located-code}
+use Rattle.spill_places.proofs.located_code.Met as coded-thm
 use Rattle.spills.proofs.inspect_spill.Key.{name as #spills·inspect-spill}
 use Rattle.spills.proofs.inspect_spill as inspect
 use Rattle.spills.proofs.inspect_spill.Statement as stated
@@ -215,7 +215,7 @@ module _ {M : Type 1} (𝓤 : URA M) (H : Heap 𝓤) (A : Atoms 𝓤) (W : Given
       -- [what the part owns]: with the code's facts it is what the struct owns
       nothing ! $ move ! (1 ∷ 0 ∷ []) $ fjoin ! $ owned ! u8 (Is u8) (uint-makes 𝓤 H A W w8) n _ (refl, fits) $ fjoin ! $ by ! (own-shut 𝓤 H A W (T.the-type α) (T′.the-laws α) (n, (p, tt)))
 
-  module _ (C : Calls 𝓤 H) (Λ : Loops 𝓤 H) (fm : FmC 𝓤 H (W .laws) C) (known-alike : Triple 𝓤 (C #spills·locate-alike) (Alike 𝓤 H A mem run)) (known-part : Triple 𝓤 (C #spills·located-part) (Part 𝓤 H A mem run)) (known-coded : Triple 𝓤 (C #spills·located-code) (Coded 𝓤 H A mem run)) where
+  module _ (C : Calls 𝓤 H) (Λ : Loops 𝓤 H) (fm : FmC 𝓤 H (W .laws) C) (known-alike : Triple 𝓤 (C #spills·locate-alike) (Alike 𝓤 H A mem run)) (known-part : Triple 𝓤 (C #spill-places·located-part) (Part 𝓤 H A mem run)) (known-coded : Triple 𝓤 (C #spill-places·located-code) (Coded 𝓤 H A mem run)) where
     walk : Is R.the-row ed (ve ∷ []) → Is N.the-row sc (N′.lowered sc ∷ []) → Is Sl s (v s ∷ []) → Is N.the-row tc (N′.lowered tc ∷ []) → Is Sl t (v t ∷ [])
         → ent 𝓤 (onEntry 𝓤 H A inspect.signature κs (q′, (q, tt)) a at) (WpFn 𝓤 H C Λ code.function (ve ∷ vk ∷ N′.lowered sc ∷ v s ∷ N′.lowered tc ∷ v t ∷ []) Post)
     walk is-ed is-sc is-s is-tc is-t =
@@ -257,7 +257,7 @@ module _ {M : Type 1} (𝓤 : URA M) (H : Heap 𝓤) (A : Atoms 𝓤) (W : Given
 
 module _ {M : Type 1} (𝓤 : URA M) (H : Heap 𝓤) (A : Atoms 𝓤) (W : Given 𝓤 H A) (mem : Memory → SProp 𝓤) (run : Routine → Fun 𝓤) where
   inspect-walks : (C : Calls 𝓤 H) (Λ : Loops 𝓤 H) → FmC 𝓤 H (W .laws) C
-      → Triple 𝓤 (C #spills·locate-alike) (Alike 𝓤 H A mem run) → Triple 𝓤 (C #spills·located-part) (Part 𝓤 H A mem run) → Triple 𝓤 (C #spills·located-code) (Coded 𝓤 H A mem run)
+      → Triple 𝓤 (C #spills·locate-alike) (Alike 𝓤 H A mem run) → Triple 𝓤 (C #spill-places·located-part) (Part 𝓤 H A mem run) → Triple 𝓤 (C #spill-places·located-code) (Coded 𝓤 H A mem run)
       → Walks 𝓤 H A inspect.ended stayed (WpFn 𝓤 H C Λ code.function) (inspect.clauses 𝓤 H A mem run)
   inspect-walks C Λ fm known-alike known-part known-coded = walked 𝓤 H A inspect.ended stayed (inspect.clauses 𝓤 H A mem run) (WpFn 𝓤 H C Λ code.function)
       (λ κs. (EL.vals R.the-type R′.the-laws, (ptr-vals, (LL.vals N.the-type N′.the-laws, (slice-vals, (LL.vals N.the-type N′.the-laws, (slice-vals, tt)))))))
@@ -265,7 +265,7 @@ module _ {M : Type 1} (𝓤 : URA M) (H : Heap 𝓤) (A : Atoms 𝓤) (W : Given
       (λ κs qs bounds a g are. via 𝓤 _ (fst∗ 𝓤 _ (emp 𝓤)) (walk 𝓤 H A W mem run (κs .1 .0) (κs .0) (qs .1 .0) (qs .0) (a .0) (a .1 .0) (a .1 .1 .0) (a .1 .1 .1 .0) (a .1 .1 .1 .1 .0) (a .1 .1 .1 .1 .1 .0) C Λ fm known-alike known-part known-coded (are .0) (are .1 .1 .0) (are .1 .1 .1 .0) (are .1 .1 .1 .1 .0) (are .1 .1 .1 .1 .1 .0)))
 
 inspect-meets : {M : Type 1} (𝓤 : URA M) (H : Heap 𝓤) (A : Atoms 𝓤) (W : Given 𝓤 H A) (mem : Memory → SProp 𝓤) (run : Routine → Fun 𝓤) (𝓣 : Tables 𝓤 H)
-    → Triple 𝓤 (𝓣 .C #spills·locate-alike) (Alike 𝓤 H A mem run) → Triple 𝓤 (𝓣 .C #spills·located-part) (Part 𝓤 H A mem run) → Triple 𝓤 (𝓣 .C #spills·located-code) (Coded 𝓤 H A mem run)
+    → Triple 𝓤 (𝓣 .C #spills·locate-alike) (Alike 𝓤 H A mem run) → Triple 𝓤 (𝓣 .C #spill-places·located-part) (Part 𝓤 H A mem run) → Triple 𝓤 (𝓣 .C #spill-places·located-code) (Coded 𝓤 H A mem run)
     → Meets 𝓤 H A inspect.signature (WpFn 𝓤 H (𝓣 .C) (𝓣 .Λ) code.function) (inspect.spec 𝓤 H A mem run)
 inspect-meets 𝓤 H A W mem run 𝓣 known-alike known-part known-coded = walk-meets 𝓤 H A inspect.ended stayed W
     (goes-dropped 𝓤 H A W 2 edition-slot yes (λ κs x f. refl), (goes-dropped 𝓤 H A W 2 key-slot yes (λ κs x f. refl), (goes-dropped 𝓤 H A W 2 counts-slot yes (λ κs x f. refl), (goes-dropped 𝓤 H A W 2 slice-slot yes (λ κs x f. refl), (goes-dropped 𝓤 H A W 2 counts-slot yes (λ κs x f. refl), (goes-dropped 𝓤 H A W 2 slice-slot yes (λ κs x f. refl), tt))))))
@@ -279,5 +279,5 @@ inspect-spill-spec 𝓤 H 𝓜 𝓖 𝓡 =
     (tables 𝓤 H 𝓜 𝓡 code.env .C) (tables 𝓤 H 𝓜 𝓡 code.env .Λ) #spills·inspect-spill code.function (code.unfolded 𝓤 H 𝓜 𝓡)
     (inspect-meets 𝓤 H (𝓖 .A) (givenOf 𝓤 H 𝓜 𝓖) (𝓜 .mem) (𝓡 .run) (tablesOf 𝓤 H 𝓜 (tables 𝓤 H 𝓜 𝓡 code.env))
     (cited 𝓤 H (Alike 𝓤 H (𝓖 .A) (𝓜 .mem) (𝓡 .run)) 𝓜 𝓡 code.env #spills·locate-alike alike-def.routine code.calls-spills·locate-alike (alike-thm.met 𝓤 H 𝓜 𝓖 𝓡))
-    (cited 𝓤 H (Part 𝓤 H (𝓖 .A) (𝓜 .mem) (𝓡 .run)) 𝓜 𝓡 code.env #spills·located-part part-def.routine code.calls-spills·located-part (part-thm.met 𝓤 H 𝓜 𝓖 𝓡))
-    (cited 𝓤 H (Coded 𝓤 H (𝓖 .A) (𝓜 .mem) (𝓡 .run)) 𝓜 𝓡 code.env #spills·located-code coded-def.routine code.calls-spills·located-code (coded-thm.met 𝓤 H 𝓜 𝓖 𝓡)))
+    (cited 𝓤 H (Part 𝓤 H (𝓖 .A) (𝓜 .mem) (𝓡 .run)) 𝓜 𝓡 code.env #spill-places·located-part part-def.routine code.calls-spill-places·located-part (part-thm.met 𝓤 H 𝓜 𝓖 𝓡))
+    (cited 𝓤 H (Coded 𝓤 H (𝓖 .A) (𝓜 .mem) (𝓡 .run)) 𝓜 𝓡 code.env #spill-places·located-code coded-def.routine code.calls-spill-places·located-code (coded-thm.met 𝓤 H 𝓜 𝓖 𝓡)))

@@ -3,7 +3,7 @@ use mathlib.Core.Path.{sym, _∙_}
 use denote.Ref.{now}
 use mir.Syntax.{w64}
 use Rattle.signed.proofs.SignedLaws.{back}
-use Rattle.summary.proofs.CallLaws.{append-25, append-goes, append-asks}
+use Rattle.summary_calls.proofs.CallLaws.{append-25, append-goes, append-asks}
 use borrow.Author.Needs.{needs}
 use Rattle.summary.proofs.append_box_entry_with_summary.Statement.{statement}
 use Rattle.summary.proofs.append_box_entry_with_summary.Tie as tie

@@ -1,7 +1,7 @@
 -- The popped number, as the number of a box.
 use mir.Syntax.{w64}
 use Rattle.signed.proofs.SignedLaws.{back}
-use Rattle.summary.proofs.CallLaws.{same-number}
+use Rattle.summary_calls.proofs.CallLaws.{same-number}
 use borrow.Author.Needs.{needs}
 use Rattle.summary.proofs.pop_box_entry_with_summary.Statement.{statement}
 use Rattle.summary.proofs.pop_box_entry_with_summary.Tie as tie

@@ -1,7 +1,7 @@
 -- Refusal 25 is tested, and what passed is what the core asks.
 use mathlib.Core.Path.{sym, _∙_}
 use denote.Ref.{now}
-use Rattle.summary.proofs.CallLaws.{flip-asks, made-25, made-goes}
+use Rattle.summary_calls.proofs.CallLaws.{flip-asks, made-25, made-goes}
 use borrow.Author.Needs.{needs}
 use Rattle.summary.proofs.summarize_boxes.Statement.{statement}
 use Rattle.summary.proofs.summarize_boxes.Tie as tie

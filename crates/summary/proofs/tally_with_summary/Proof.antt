@@ -1,7 +1,7 @@
 -- Refusal 25 is tested, and what passed is what the core asks.
 use mathlib.Core.Path.{sym, _∙_}
 use denote.Ref.{now}
-use Rattle.summary.proofs.CallLaws.{tally-25, tally-goes, tally-asks}
+use Rattle.summary_calls.proofs.CallLaws.{tally-25, tally-goes, tally-asks}
 use borrow.Author.Needs.{needs}
 use Rattle.summary.proofs.tally_with_summary.Statement.{statement}
 use Rattle.summary.proofs.tally_with_summary.Tie as tie

@@ -1,6 +1,6 @@
--- A walk of the MIR: a reader is made, copied into a local, and borrowed by `&mut` for the call; then it comes back, what it owns is dropped, and the answer goes through `first`.
+-- A walk of the MIR: a reader is made, copied into a local, and borrowed by `&mut` for the call; then it comes back, and what it owns is dropped.
 -- The lifetime of the borrow lies within the slice's: it is made of a new one and the slice's, whose token is halved for it.
--- All that is known of `new`, `read_i64` and `first` is that each meets its contract.
+-- All that is known of `new` and of `read_i64` is that each meets its contract.
 use mathlib.Core.Path.{_≡_, refl, ap, _∙_}
 use Prim.Native.Nat.{ℕ}
 use mathlib.Core.List.{[], List, _∷_}
@@ -49,10 +49,6 @@ use Rattle.index_types.specs.declared.Long.{Long}
 use Rattle.index_types.proofs.Long as S
 use Rattle.index_types.proofs.Long.Laws as S′
 use Rattle.vlq_positions.specs.Positions.{after-long}
-use Rattle.vlq_positions.proofs.first as first
-use Rattle.vlq_positions.proofs.first.Symbol as first-def
-use Rattle.vlq_positions.proofs.first.Symbol.{name as #vlq-positions·first}
-use Rattle.vlq_positions.proofs.first.Met as first-thm
 use Rattle.vlq_reader.specs.Reader.{started, moved-to}
 use Rattle.vlq_reader.specs.declared.VlqReader.{VlqReader}
 use Rattle.vlq_reader.proofs.VlqReader as T
@@ -81,9 +77,6 @@ module _ {M : Type 1} (𝓤 : URA M) (H : Heap 𝓤) (A : Atoms 𝓤) (at-mem : 
 
   abbrev Read : Contract 𝓤
   Read = tripleOf 𝓤 H A read-i64.signature (read-i64.spec 𝓤 H A at-mem run)
-
-  abbrev First : Contract 𝓤
-  First = tripleOf 𝓤 H A first.signature (first.spec 𝓤 H A at-mem run)
 
 module _ {M : Type 1} (𝓤 : URA M) (H : Heap 𝓤) (A : Atoms 𝓤) (W : Given 𝓤 H A) (κ : Lft) (y : VlqReader) (l : ℕ) where
   -- a local that holds a reader, as what is borrowed, and back
@@ -146,16 +139,6 @@ module _ {M : Type 1} (𝓤 : URA M) (H : Heap 𝓤) (A : Atoms 𝓤) (W : Given
   abbrev Said : VlqReader → Long → VlqReader → Type 0
   Said r t z = (t ≡ long-of (read-at 64 (now (r .src)) (r .at))) × (z ≡ moved-to r (after-long t (r .at)))
 
-  -- the call of `first`
-  abbrev to-first : Long → Val → First 𝓤 H A at-mem run .Ghost
-  to-first t u = ((tt, tt, tt, (t, tt), (u ∷ [], tt)), tt)
-
-  goes-first : (t : Long) (u : Val) → ent 𝓤 (sem 𝓤 H A (S.the-row .own t (u ∷ []))) (First 𝓤 H A at-mem run .pre (to-first t u))
-  goes-first t u = qed W (‵ (S.the-row .own t (u ∷ [])) ∷ []) ∵ nothing ! $ move ! (1 ∷ 0 ∷ []) $ fjoin ! $ nothing ! $ join ! $ frame ! $ done !
-
-  first-said : (t r : Long) → ent 𝓤 (ensured 𝓤 H A first.ended (first.clauses 𝓤 H A at-mem run) tt (t, tt) tt r) (fact 𝓤 (r ≡ t))
-  first-said t r = exE 𝓤 _ (λ ws. snd∗ 𝓤 (sem 𝓤 H A (lasts first.ended tt (t, tt) ws)) (fact 𝓤 (r ≡ t)))
-
   exits : (t : Long) (u : Val) → t ≡ long-of (read-at 64 (now s) 0) → ent 𝓤 (⋆ 𝓤 H A (‵ (flft κ passed) ∷ ‵ (S.the-row .own t (u ∷ [])) ∷ (‵ (flft κ kept) ⊛ ‵ ftrue) ∷ ‵ Own ∷ [])) (Post u)
   exits t u e =
       qed W (‵ (flft κ passed) ∷ ‵ (S.the-row .own t (u ∷ [])) ∷ (‵ (flft κ kept) ⊛ ‵ ftrue) ∷ ‵ Own ∷ []) ∵
@@ -166,31 +149,31 @@ module _ {M : Type 1} (𝓤 : URA M) (H : Heap 𝓤) (A : Atoms 𝓤) (W : Given
   spelt-out : (r : VlqReader) (u : Val) → Is (B κ) r (u ∷ []) → u ≡ T′.lowered r
   spelt-out r u is = ap only (LL.tells (T.the-type (α κ)) (T′.the-laws (α κ)) r (u ∷ []) is)
 
-  module _ (C : Calls 𝓤 H) (Λ : Loops 𝓤 H) (fm : FmC 𝓤 H (W .laws) C) (known-new : Triple 𝓤 (C #vlq-reader·new) (New 𝓤 H A at-mem run)) (known-read : Triple 𝓤 (C #vlq-reader·read-i64) (Read 𝓤 H A at-mem run)) (known-first : Triple 𝓤 (C #vlq-positions·first) (First 𝓤 H A at-mem run)) where
+  module _ (C : Calls 𝓤 H) (Λ : Loops 𝓤 H) (fm : FmC 𝓤 H (W .laws) C) (known-new : Triple 𝓤 (C #vlq-reader·new) (New 𝓤 H A at-mem run)) (known-read : Triple 𝓤 (C #vlq-reader·read-i64) (Read 𝓤 H A at-mem run)) where
     walk : Is (ShrSlice (named 0) κ u8) s (v ∷ []) → ent 𝓤 (onEntry 𝓤 H A first-i64.signature (κ, tt) (q, tt) (s, tt) (v ∷ [], tt)) (WpFn 𝓤 H C Λ code.function (v ∷ []) Post)
     walk p =
         qed W (raw (onEntry 𝓤 H A first-i64.signature (κ, tt) (q, tt) (s, tt) (v ∷ [], tt)) ∷ []) ∵ enter ! C Λ code.function (v ∷ []) _ $
-        alloc1 ! (λ l₀. alloc1 ! (λ l₁. alloc1 ! (λ l₂. alloc1 ! (λ l₃. alloc1 ! (λ l₄. alloc1 ! (λ l₅. alloc0 ! $ params1 ! $ pass1 ! (init ! 8 refl (shr-slice-lawful 𝓤 H A W (named 0) κ u8 .typed s (v ∷ []) p .0)) $ pass0 ! $
+        alloc1 ! (λ l₀. alloc1 ! (λ l₁. alloc1 ! (λ l₂. alloc1 ! (λ l₃. alloc1 ! (λ l₄. alloc0 ! $ params1 ! $ pass1 ! (init ! 6 refl (shr-slice-lawful 𝓤 H A W (named 0) κ u8 .typed s (v ∷ []) p .0)) $ pass0 ! $
         -- a reader is made
-        move ! (12 ∷ []) $ use1 W (raw (New 𝓤 H A at-mem run .pre to-new) ⊛ ‵ Own) goes-new $ split ! $
-        calls-at ! fm (New 𝓤 H A at-mem run) known-new to-new (and-then ! (load ! (from ! (stop !)) (look ! 10 refl)) (no-more !)) (λ u.
+        move ! (10 ∷ []) $ use1 W (raw (New 𝓤 H A at-mem run .pre to-new) ⊛ ‵ Own) goes-new $ split ! $
+        calls-at ! fm (New 𝓤 H A at-mem run) known-new to-new (and-then ! (load ! (from ! (stop !)) (look ! 8 refl)) (no-more !)) (λ u.
         use1 W (later (some (λ (r : VlqReader). ((‵ (flft κ q) ⊛ ‵ ftrue) ⊛ ‵ (B κ .own r (u ∷ []))) ⊛ raw (ensured 𝓤 H A new.ended (new.clauses 𝓤 H A at-mem run) (κ, tt) (s, tt) tt r)))) (id⊢ 𝓤 _) $ await ! tt $ pick ! (λ r.
         split ! $ move ! (1 ∷ []) $ use1 W (raw (fact 𝓤 (r ≡ started s))) (new-said r) $ heard ! (r ≡ started s) (λ e. split ! $ move ! (1 ∷ []) $
         peeks ! (B κ) (Is (B κ)) (shows 𝓤 H A (B κ)) r (u ∷ []) (λ is.
         rewrite ! 0 (λ (w : Val). ‵ (B κ .own r (w ∷ []))) (spelt-out r u is) refl $
         peeks ! (B κ) (Is (B κ)) (shows 𝓤 H A (B κ)) r (T′.lowered r ∷ []) (λ is-r.
-        -- [what the reader owns; the token; what s owns; _5; …; _4; …; _3; …; _2; …; _1; …; room for _0; …]
+        -- [what the reader owns; the token; what s owns; _4; …; _3; …; _2; …; _1; …; room for _0; …]
         land ! (from ! (stop !)) (init ! 5 refl (LL.lawful (T.the-type (αᵉ κ)) (T′.the-laws (αᵉ κ)) 𝓤 H A W .typed r _ is .0)) $
-        rewrite ! 5 (λ (w : Val). ‵ (fat fullShare (T′.mir erased) l₄ 0 w)) (spelt-out r u is) refl $
-        assigns ! (of-opd ! (load ! (from ! (stop !)) (look ! 5 refl))) (from ! (stop !)) (init ! 9 refl (typed 𝓤 H A W κ r is-r)) $
+        rewrite ! 5 (λ (w : Val). ‵ (fat fullShare (T′.mir erased) l₃ 0 w)) (spelt-out r u is) refl $
+        assigns ! (of-opd ! (load ! (from ! (stop !)) (look ! 5 refl))) (from ! (stop !)) (init ! 7 refl (typed 𝓤 H A W κ r is-r)) $
         assigns ! (addr ! (from ! (stop !))) (from ! (stop !)) (init ! 3 refl (tt, tt)) $
         -- the local is borrowed
-        move ! (9 ∷ 0 ∷ []) $ use2 W (‵ (partAt (B κ) fullShare r l₂ 0)) (lies-in 𝓤 H A W κ r l₂) $
+        move ! (7 ∷ 0 ∷ []) $ use2 W (‵ (partAt (B κ) fullShare r l₂ 0)) (lies-in 𝓤 H A W κ r l₂) $
         lft-new ! tt (λ ν. move ! (2 ∷ []) $ split ! $ use1 W (‵ (flft κ kept) ⊛ ‵ (flft κ passed)) (W .lfts .lft-split κ q) $ split ! $
         move ! (3 ∷ 1 ∷ []) $ use2 W (‵ (flft (ν ∷ κ) passed) ⊛ raw (Rest 𝓤 H A W ν passed)) (within-token 𝓤 H A W ν κ passed) $ split ! $
-        -- [the borrow's token; the way back; 'a's token; nothing; the local; what s owns; _5; …; _4; …; _3; …; … of _2; _1; …; room for _0; …]
+        -- [the borrow's token; the way back; 'a's token; nothing; the local; what s owns; _4; …; _3; …; … of _2; _1; …; room for _0; …]
         move ! (4 ∷ []) $ use1 W (later (some (λ (δ : GName). ‵ (MutRef (named 0) (ν ∷ κ) (B κ) .own (x r l₂ δ) (vptr l₂ 0 ∷ [])) ⊛ ‵ (flent (ν ∷ κ) (Body (mem (B κ)) l₂ 0 δ))))) (lends-ref 𝓤 H A W (B κ) (named 0) (ν ∷ κ) r l₂ 0) $ await ! tt $ pick ! (λ δ. split ! $
-        -- [the reference; the lender's part; the borrow's token; the way back; 'a's token; nothing; what s owns; _5; …; _4; …; _3; …; … of _2; _1; …; room for _0; …]
+        -- [the reference; the lender's part; the borrow's token; the way back; 'a's token; nothing; what s owns; _4; …; _3; …; … of _2; _1; …; room for _0; …]
         move ! (2 ∷ 4 ∷ 0 ∷ []) $ use3 W (raw (Read 𝓤 H A at-mem run .pre (to-read r l₂ ν δ))) (goes-read r l₂ ν δ) $
         calls-at ! fm (Read 𝓤 H A at-mem run) known-read (to-read r l₂ ν δ) (and-then ! (load ! (from ! (stop !)) (look ! 5 refl)) (no-more !)) (λ u′.
         use1 W (later (some (λ (t : Long). ((‵ (flft (ν ∷ κ) passed) ⊛ ‵ (flft κ kept) ⊛ ‵ ftrue) ⊛ ‵ (S.the-row .own t (u′ ∷ []))) ⊛ raw (ensured 𝓤 H A read-i64.ended (read-i64.clauses 𝓤 H A at-mem run) (ν ∷ κ, (κ, tt)) (x r l₂ δ, tt) tt t)))) (id⊢ 𝓤 _) $ await ! tt $ pick ! (λ t.
@@ -198,36 +181,28 @@ module _ {M : Type 1} (𝓤 : URA M) (H : Heap 𝓤) (A : Atoms 𝓤) (W : Given
         split ! $ move ! (1 ∷ []) $ use1 W (some (λ (zs : VlqReader × Unit {0}). ‵ (lasts read-i64.ended (ν ∷ κ, (κ, tt)) (x r l₂ δ, tt) zs) ⊛ raw (fact 𝓤 (Said r t (zs .0))))) (id⊢ 𝓤 _) $ pick ! (λ zs.
         split ! $ move ! (1 ∷ []) $ heard ! (Said r t (zs .0)) (λ e′. fsplit ! $ move ! (1 ∷ []) $ drop ! $ move ! (1 ∷ []) $ split ! $ split ! $
         move ! (2 ∷ []) $ peeks ! S.the-row (Is S.the-row) (shows 𝓤 H A S.the-row) t (u′ ∷ []) (λ is′.
-        -- [the answer; the borrow's token; 'a's token; the last value; the lender's part; the way back; nothing; what s owns; _5; …; _4; …; _3; …; … of _2; _1; …; room for _0; …]
-        land ! (from ! (stop !)) (init ! 12 refl (EL.lawful S.the-type S′.the-laws 𝓤 H A W tt .typed t _ is′ .0)) $
+        -- [the answer; the borrow's token; 'a's token; the last value; the lender's part; the way back; nothing; what s owns; _4; …; _3; …; … of _2; _1; …; room for _0; …]
+        land ! (from ! (stop !)) (init ! 15 refl (EL.lawful S.the-type S′.the-laws 𝓤 H A W tt .typed t _ is′ .0)) $
         -- the lifetime is ended, and the local comes back
         move ! (1 ∷ 5 ∷ []) $ use2 W (later (‵ (fdead (ν ∷ κ)) ⊛ ‵ (flft κ passed))) (within-end 𝓤 H A W ν κ passed) $ await ! tt $ split ! $
         move ! (0 ∷ 5 ∷ 4 ∷ []) $ use3 W (later (‵ (partAt (B κ) fullShare (zs .0) l₂ 0))) (ref-back 𝓤 H A W (B κ) (ν ∷ κ) δ (zs .0) l₂ 0) $ await ! tt $
         use1 W (‵ (fat fullShare (T′.mir erased) l₂ 0 (T′.lowered (zs .0))) ⊛ ‵ (B κ .own (zs .0) (T′.lowered (zs .0) ∷ []))) (lies-out 𝓤 H A W κ (zs .0) l₂) $ split ! $
-        -- [_2; what the reader owns; 'a's token; the answer; 'a's token; nothing; what s owns; _5; …; _4; …; _3; …; … of _2; _1; …; room for _0; …]
-        move ! (3 ∷ []) $ use1 W (raw (First 𝓤 H A at-mem run .pre (to-first t u′))) (goes-first t u′) $
-        -- [what `first` asks; _2; what the reader owns; 'a's token; 'a's token; nothing; what s owns; _5; …; _4; …; _3; …; … of _2; _1; …; room for _0; …]
-        calls-at ! fm (First 𝓤 H A at-mem run) known-first (to-first t u′) (and-then ! (load ! (from ! (stop !)) (look ! 11 refl)) (no-more !)) (λ w.
-        use1 W (later (some (λ (z : Long). (‵ ftrue ⊛ ‵ (S.the-row .own z (w ∷ []))) ⊛ raw (ensured 𝓤 H A first.ended (first.clauses 𝓤 H A at-mem run) tt (t, tt) tt z)))) (id⊢ 𝓤 _) $ await ! tt $ pick ! (λ z.
-        split ! $ move ! (1 ∷ []) $ use1 W (raw (fact 𝓤 (z ≡ t))) (first-said t z) $ heard ! (z ≡ t) (λ e″. split ! $ drop ! $
-        peeks ! S.the-row (Is S.the-row) (shows 𝓤 H A S.the-row) z (w ∷ []) (λ is″.
-        -- [the answer; _2; what the reader owns; 'a's token; 'a's token; nothing; what s owns; _5; …; _4; …; _3; …; … of _2; _1; …; room for _0; …]
-        land ! (from ! (stop !)) (init ! 16 refl (EL.lawful S.the-type S′.the-laws 𝓤 H A W tt .typed z _ is″ .0)) $
-        returns ! (look ! 16 refl) $ forget ! 1 refl $ forget ! 7 refl $ forget ! 9 refl $ forget ! 11 refl $ forget ! 14 refl $ forget ! 16 refl $
-        move ! (16 ∷ 17 ∷ []) $ free1 ! $ move ! (14 ∷ 15 ∷ []) $ free1 ! $ move ! (1 ∷ 13 ∷ []) $ free1 ! $ move ! (10 ∷ 11 ∷ []) $ free1 ! $ move ! (8 ∷ 9 ∷ []) $ free1 ! $ move ! (6 ∷ 7 ∷ []) $ free1 ! $ free0 ! $
-        keep ! (2 ∷ 0 ∷ 3 ∷ 5 ∷ []) $ by ! (exits z w (e″ ∙ e′ .0 ∙ ap (λ (y : VlqReader). long-of (read-at 64 (now (y .src)) (y .at))) e))))))))))))))))))))))))
+        -- [_2; what the reader owns; 'a's token; the answer; 'a's token; nothing; what s owns; _4; …; _3; …; … of _2; _1; …; _0; …]
+        returns ! (look ! 14 refl) $ forget ! 0 refl $ forget ! 7 refl $ forget ! 9 refl $ forget ! 12 refl $ forget ! 14 refl $
+        move ! (14 ∷ 15 ∷ []) $ free1 ! $ move ! (12 ∷ 13 ∷ []) $ free1 ! $ move ! (0 ∷ 11 ∷ []) $ free1 ! $ move ! (8 ∷ 9 ∷ []) $ free1 ! $ move ! (6 ∷ 7 ∷ []) $ free1 ! $ free0 ! $
+        keep ! (1 ∷ 2 ∷ 3 ∷ 5 ∷ []) $ by ! (exits t u′ (e′ .0 ∙ ap (λ (y : VlqReader). long-of (read-at 64 (now (y .src)) (y .at))) e)))))))))))))))))))
 
 module _ {M : Type 1} (𝓤 : URA M) (H : Heap 𝓤) (A : Atoms 𝓤) (W : Given 𝓤 H A) (at-mem : Memory → SProp 𝓤) (run : Routine → Fun 𝓤) where
-  first-i64-walks : (C : Calls 𝓤 H) (Λ : Loops 𝓤 H) → FmC 𝓤 H (W .laws) C → Triple 𝓤 (C #vlq-reader·new) (New 𝓤 H A at-mem run) → Triple 𝓤 (C #vlq-reader·read-i64) (Read 𝓤 H A at-mem run) → Triple 𝓤 (C #vlq-positions·first) (First 𝓤 H A at-mem run)
+  first-i64-walks : (C : Calls 𝓤 H) (Λ : Loops 𝓤 H) → FmC 𝓤 H (W .laws) C → Triple 𝓤 (C #vlq-reader·new) (New 𝓤 H A at-mem run) → Triple 𝓤 (C #vlq-reader·read-i64) (Read 𝓤 H A at-mem run)
       → Walks 𝓤 H A first-i64.ended stayed (WpFn 𝓤 H C Λ code.function) (first-i64.clauses 𝓤 H A at-mem run)
-  first-i64-walks C Λ fm known-new known-read known-first = walked 𝓤 H A first-i64.ended stayed (first-i64.clauses 𝓤 H A at-mem run) (WpFn 𝓤 H C Λ code.function) (λ κs. (slice-vals, tt)) (λ κs. (shr-slice-tells (named 0) (κs .0) u8, tt))
-      (λ κs qs bounds a g are. via 𝓤 _ (fst∗ 𝓤 _ (emp 𝓤)) (walk 𝓤 H A W at-mem run (κs .0) (qs .0) (a .0) C Λ fm known-new known-read known-first (are .0)))
+  first-i64-walks C Λ fm known-new known-read = walked 𝓤 H A first-i64.ended stayed (first-i64.clauses 𝓤 H A at-mem run) (WpFn 𝓤 H C Λ code.function) (λ κs. (slice-vals, tt)) (λ κs. (shr-slice-tells (named 0) (κs .0) u8, tt))
+      (λ κs qs bounds a g are. via 𝓤 _ (fst∗ 𝓤 _ (emp 𝓤)) (walk 𝓤 H A W at-mem run (κs .0) (qs .0) (a .0) C Λ fm known-new known-read (are .0)))
 
-  first-i64-meets : (𝓣 : Tables 𝓤 H) → Triple 𝓤 (𝓣 .C #vlq-reader·new) (New 𝓤 H A at-mem run) → Triple 𝓤 (𝓣 .C #vlq-reader·read-i64) (Read 𝓤 H A at-mem run) → Triple 𝓤 (𝓣 .C #vlq-positions·first) (First 𝓤 H A at-mem run)
+  first-i64-meets : (𝓣 : Tables 𝓤 H) → Triple 𝓤 (𝓣 .C #vlq-reader·new) (New 𝓤 H A at-mem run) → Triple 𝓤 (𝓣 .C #vlq-reader·read-i64) (Read 𝓤 H A at-mem run)
       → Meets 𝓤 H A first-i64.signature (WpFn 𝓤 H (𝓣 .C) (𝓣 .Λ) code.function) (first-i64.spec 𝓤 H A at-mem run)
-  first-i64-meets 𝓣 known-new known-read known-first =
+  first-i64-meets 𝓣 known-new known-read =
       walk-meets 𝓤 H A first-i64.ended stayed W (goes-none-slice 𝓤 H A W 1 (0 ∷ []) tt (plain (λ _. u8)) yes, tt) (first-i64.clauses 𝓤 H A at-mem run) (WpFn 𝓤 H (𝓣 .C) (𝓣 .Λ) code.function) (WpFn-mono 𝓤 H (W .laws) 𝓣 code.function)
-      (first-i64-walks (𝓣 .C) (𝓣 .Λ) (fmOf 𝓤 H (W .laws) 𝓣) known-new known-read known-first)
+      (first-i64-walks (𝓣 .C) (𝓣 .Λ) (fmOf 𝓤 H (W .laws) 𝓣) known-new known-read)
 
 pub first-i64-spec : {M : Type 1} → stated.statement M
 unfolding code.routine tablesOf
@@ -236,5 +211,4 @@ first-i64-spec 𝓤 H 𝓜 𝓖 𝓡 =
     (tables 𝓤 H 𝓜 𝓡 code.env .C) (tables 𝓤 H 𝓜 𝓡 code.env .Λ) #vlq-reader·first-i64 code.function (code.unfolded 𝓤 H 𝓜 𝓡)
     (first-i64-meets 𝓤 H (𝓖 .A) (givenOf 𝓤 H 𝓜 𝓖) (𝓜 .mem) (𝓡 .run) (tablesOf 𝓤 H 𝓜 (tables 𝓤 H 𝓜 𝓡 code.env))
     (cited 𝓤 H (New 𝓤 H (𝓖 .A) (𝓜 .mem) (𝓡 .run)) 𝓜 𝓡 code.env #vlq-reader·new new-def.routine code.calls-vlq-reader·new (new-thm.met 𝓤 H 𝓜 𝓖 𝓡))
-    (cited 𝓤 H (Read 𝓤 H (𝓖 .A) (𝓜 .mem) (𝓡 .run)) 𝓜 𝓡 code.env #vlq-reader·read-i64 read-def.routine code.calls-vlq-reader·read-i64 (read-thm.met 𝓤 H 𝓜 𝓖 𝓡))
-    (cited 𝓤 H (First 𝓤 H (𝓖 .A) (𝓜 .mem) (𝓡 .run)) 𝓜 𝓡 code.env #vlq-positions·first first-def.routine code.calls-vlq-positions·first (first-thm.met 𝓤 H 𝓜 𝓖 𝓡)))
+    (cited 𝓤 H (Read 𝓤 H (𝓖 .A) (𝓜 .mem) (𝓡 .run)) 𝓜 𝓡 code.env #vlq-reader·read-i64 read-def.routine code.calls-vlq-reader·read-i64 (read-thm.met 𝓤 H 𝓜 𝓖 𝓡)))

@@ -1,0 +1,2 @@
+-- The definitions that the contracts of `batch_answers` cite.
+pub mod Answers

@@ -1,0 +1,2 @@
+-- Laws and proofs of `end_lines`.
+pub mod EndRoom

@@ -1,0 +1,2 @@
+-- The definitions that the contracts of `end_lines` cite.
+pub mod EndLines

@@ -1,0 +1,20 @@
+-- The record of the definition.
+use mathlib.Core.Path.{refl}
+use borrow.Author.Needs.{needs}
+use Rattle.entry_tallies.proofs.plus.Statement.{statement}
+use Rattle.entry_tallies.proofs.plus.Tie as tie
+
+add-t3 : tie.Need-add-t3
+add-t3 c = search needs
+
+add-t4 : tie.Need-add-t4
+add-t4 c = search needs
+
+add-t5 : tie.Need-add-t5
+add-t5 c = search needs
+
+returns : tie.Need-returns
+returns c = refl
+
+pub plus-spec : {M : Type 1} → statement M
+plus-spec = tie.close (tie.spec add-t3 add-t4 add-t5 returns)

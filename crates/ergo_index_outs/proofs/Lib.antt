@@ -1,0 +1,2 @@
+-- The laws of `ergo_index_outs`.
+pub mod OutLaws

@@ -1,0 +1,3 @@
+-- The refusals of a spend and an unspend.
+pub mod CodeLaws
+pub mod UnseenLaws

@@ -1,0 +1,2 @@
+-- Laws of the answers of a run.
+pub mod AnswerLaws

@@ -1,0 +1,2 @@
+-- The laws of `spill_places`.
+pub mod LocateLaws

@@ -1,0 +1,2 @@
+-- The definitions that the contracts of `spill_places` cite.
+pub mod Inspection

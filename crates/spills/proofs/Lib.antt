@@ -1,2 +1,0 @@
--- The laws of `spills`.
-pub mod LocateLaws

@@ -1,2 +1,0 @@
--- The definitions that the contracts of `spills` cite.
-pub mod Inspection

@@ -1,0 +1,2 @@
+-- The laws of `summary_calls`, for its functions and for `summary`.
+pub mod CallLaws
