@@ -28,7 +28,7 @@ use Rattle.address_core.specs.declared.Flagged.{Flagged}
 use Rattle.address_core.specs.declared.Flagged.the-variants.{Held, Refused}
 use Rattle.address_core.specs.Reading.{Tokens, tokens, no-tokens, tokens-at, tokens-from, count-at, Balanced, balanced, no-balance, with-nanos, balance-at, flagged-at}
 use Rattle.address_core.specs.Loading.{loading, balance-of, refused-with, load-segment, load-balance, load-address, read-address}
-use Rattle.address_core.specs.Steps.{TokensInto, BalanceInto}
+use Rattle.address_core.specs.Internal.{TokensInto, BalanceInto}
 use Rattle.address_core.proofs.TokenLaws.{Counted, counted}
 use Rattle.address_core.proofs.CountLaws.{count-most}
 

@@ -19,7 +19,7 @@ use Rattle.vlq_core.proofs.ReadLaws.{long-number, long-refused}
 use Rattle.segment_core.specs.declared.Part.{Part}
 use Rattle.segment_core.specs.declared.Part.the-variants.{Listed, Refused}
 use Rattle.address_core.specs.Reading.{Token, token, no-token, token-at, Tokens, tokens, no-tokens, cons-token, token-then, tokens-at}
-use Rattle.address_core.specs.Steps.{TokenInto, TokensInto}
+use Rattle.address_core.specs.Internal.{TokenInto, TokensInto}
 
 -- ---- a token, put at a place; one law for each way out
 

@@ -3,4 +3,4 @@ pub mod Bytes
 pub mod Writing
 pub mod Reading
 pub mod Loading
-pub mod Steps
+pub mod Internal

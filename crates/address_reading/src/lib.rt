@@ -6,7 +6,7 @@ ghost use lib.ListN.{length, take};
 ghost use Rattle.index_types.specs.Limits.{segment-threshold, token-limit, token-id-bytes};
 ghost use Rattle.address_core.specs.Reading.{token-at, tokens-at, count-at, balance-at, flagged-at};
 ghost use Rattle.address_core.specs.Loading.{loading, refused-with, load-address};
-ghost use Rattle.address_core.specs.Steps.{TokenInto, TokensInto, BalanceInto};
+ghost use Rattle.address_core.specs.Internal.{TokenInto, TokensInto, BalanceInto};
 use address_core::AddressRead;
 use address_core::Flagged;
 use address_core::IndexedAddress;

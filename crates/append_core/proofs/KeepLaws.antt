@@ -27,7 +27,7 @@ use Rattle.buffer_core.proofs.HeadLaws.{HeadOk, head-facts, head-test}
 use Rattle.buffer_core.proofs.SizeLaws.{sizes, limit-most}
 use Rattle.buffer_core.proofs.BackLaws.{within}
 use Rattle.append_stage.proofs.RowLaws.{head-row-most}
-use Rattle.append_core.specs.Ready.{AppendReady}
+use Rattle.append_core.specs.Internal.{AppendReady}
 
 -- ---- the test as facts, and back
 

@@ -2,7 +2,7 @@
 ghost use mathlib.Core.Path.{_≡_};
 ghost use Rattle.buffer_core.specs.Edition.{edition-of};
 ghost use Rattle.buffer_core.specs.Append.{appending, append-core};
-ghost use Rattle.append_core.specs.Ready.{AppendReady};
+ghost use Rattle.append_core.specs.Internal.{AppendReady};
 use index_types::Appended;
 use index_types::HeadCounts;
 use index_types::ListCounts;

@@ -5,7 +5,7 @@ ghost use lib.ListN.{length, set};
 ghost use Rattle.index_types.specs.Limits.{segment-threshold};
 ghost use Rattle.buffer_core.specs.Edition.{edition-of};
 ghost use Rattle.buffer_core.specs.Append.{appending, one-number, spill-of};
-ghost use Rattle.append_spill.specs.Ready.{SpillReady};
+ghost use Rattle.append_spill.specs.Internal.{SpillReady};
 use index_types::Appended;
 use index_types::HeadCounts;
 use index_types::ListCounts;

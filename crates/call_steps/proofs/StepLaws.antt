@@ -29,11 +29,11 @@ use Rattle.buffer_core.specs.Append.{Appending, appending, append-ok, append-co
 use Rattle.buffer_core.specs.Pop.{Popping, popping, Lists, lists-ok, pop-ok, pop-core, pop-of}
 use Rattle.buffer_core.specs.Flip.{Flipping, flipping, flip-ok, flip-core, flip-of}
 use Rattle.buffer_core.specs.Flush.{Flushing, flushing, flush-core, flush-of}
-use Rattle.append_core.specs.Ready.{AppendReady}
+use Rattle.append_core.specs.Internal.{AppendReady}
 use Rattle.append_core.proofs.KeepLaws.{append-ready}
-use Rattle.pop_row.specs.Ready.{PopReady}
+use Rattle.pop_row.specs.Internal.{PopReady}
 use Rattle.pop_core.proofs.KeepLaws.{pop-ready}
-use Rattle.flip_core.specs.Ready.{FlipReady}
+use Rattle.flip_core.specs.Internal.{FlipReady}
 use Rattle.flip_core.proofs.KeepLaws.{flip-facts}
 use Rattle.index_types.specs.declared.SpillCounts.{SpillCounts}
 use Rattle.call_steps.specs.declared.Stepped.{Stepped}

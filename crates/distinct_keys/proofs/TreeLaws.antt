@@ -16,8 +16,8 @@ use Rattle.distinct_keys.specs.declared.Spot.{Spot}
 use Rattle.distinct_keys.specs.declared.Spot.the-variants.{Free, Taken}
 use Rattle.records.specs.Records.{records, keys}
 use Rattle.records.specs.Find.{find-key, is-found, distinct}
-use Rattle.distinct_keys.specs.Trees.{nth-key, half-at, word-at, root-of, turns-of, behind, Meets, AllFree, Grown, Extends, Open, Spotted, NoneAgain}
-use Rattle.distinct_keys.specs.Trees.Meets.{here, later}
+use Rattle.distinct_keys.specs.Internal.{nth-key, half-at, word-at, root-of, turns-of, behind, Meets, AllFree, Grown, Extends, Open, Spotted, NoneAgain}
+use Rattle.distinct_keys.specs.Internal.Meets.{here, later}
 use Rattle.records.proofs.TurnLaws.{length-keys}
 use Rattle.records.proofs.KeyLaws.{clash, differ, Search, hit, miss, look, find-at, find-none, distinct-of, of-distinct}
 use Rattle.records.proofs.RecordLaws.{key-at}

@@ -7,7 +7,7 @@ ghost use Rattle.stores.specs.Equal.{same-bytes};
 ghost use Rattle.records.specs.Records.{keys};
 ghost use Rattle.records.specs.Find.{find-key, is-found, distinct};
 ghost use Rattle.records.specs.Checks.{records-ok, keys-ok};
-ghost use Rattle.distinct_keys.specs.Trees.{half-at, word-at, root-of, turns-of, AllFree, Grown, Spotted, NoneAgain};
+ghost use Rattle.distinct_keys.specs.Internal.{half-at, word-at, root-of, turns-of, AllFree, Grown, Spotted, NoneAgain};
 use index_types::ListCounts;
 use records::Found;
 

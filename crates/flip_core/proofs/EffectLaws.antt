@@ -26,7 +26,7 @@ use Rattle.index_types.specs.declared.RowEdition.{RowEdition}
 use Rattle.buffer_core.specs.Edition.{edition-of}
 use Rattle.buffer_core.specs.Spills.{Sources, sources}
 use Rattle.buffer_core.specs.Flip.{search-in, walk-from, Flipping, flipping, done-by, spends, lead-at, look-at, stage-at, after-walk, in-rows, in-order, flip-effect, flip-core}
-use Rattle.flip_stage.specs.Steps.{Stages}
+use Rattle.flip_stage.specs.Internal.{Stages}
 
 -- ---- the rows
 

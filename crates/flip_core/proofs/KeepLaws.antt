@@ -48,9 +48,9 @@ use Rattle.spill_rows.proofs.CheckedLaws.{nope}
 use Rattle.buffer_core.proofs.SizeLaws.{sizes, limit-most, row-most}
 use Rattle.buffer_core.proofs.UnderLaws.{Fine, row-fine}
 use Rattle.flip_walk.proofs.WalkLaws.{walk-hits}
-use Rattle.flip_stage.specs.Steps.{Takes, flipped-under}
+use Rattle.flip_stage.specs.Internal.{Takes, flipped-under}
 use Rattle.flip_stage.proofs.RewriteLaws.{flipped-row, body-of, header-short}
-use Rattle.flip_core.specs.Ready.{FlipReady}
+use Rattle.flip_core.specs.Internal.{FlipReady}
 use Rattle.flip_core.proofs.TakeLaws.{row-takes}
 
 -- ---- a row written anew is within the limit

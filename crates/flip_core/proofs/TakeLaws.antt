@@ -16,7 +16,7 @@ use Rattle.buffer_core.specs.declared.Look.the-variants.{Take, Stop}
 use Rattle.buffer_core.specs.Edition.{RowRead, good, bad}
 use Rattle.buffer_core.specs.Flip.{check-row, first-of, last-in, look-past, look-by, look-in, look-of}
 use Rattle.spill_rows.proofs.CheckedLaws.{nope}
-use Rattle.flip_stage.specs.Steps.{Takes}
+use Rattle.flip_stage.specs.Internal.{Takes}
 
 pub position-takes : (zs : List ℤ) (t : ℕ) (d : Bool) (i : ℕ) → t < 9223372036854775808 → position d t zs 0 false ≡ At i → Takes (good zs) i
 position-takes zs t d i small e =

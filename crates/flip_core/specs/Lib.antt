@@ -1,2 +1,2 @@
 -- The definitions that the contracts of `flip_core` cite beside those of `buffer_core` and `flip_stage`.
-pub mod Ready
+pub mod Internal

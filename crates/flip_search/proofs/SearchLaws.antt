@@ -17,7 +17,7 @@ use Rattle.buffer_core.specs.Edition.{RowRead}
 use Rattle.buffer_core.specs.Flip.{lead-of, half, middle, search-by, search-in}
 use Rattle.spill_rows.specs.declared.Read.{Read}
 use Rattle.spill_rows.specs.declared.Read.the-variants.{Good, Faulty}
-use Rattle.spill_rows.specs.Steps.{CheckedInto}
+use Rattle.spill_rows.specs.Internal.{CheckedInto}
 use Rattle.spill_rows.proofs.CheckedLaws.{nope, faulty}
 
 -- ---- the first of a row; x is the checked row

@@ -31,11 +31,11 @@ use Rattle.index_types.specs.declared.RowEdition.the-variants.{One, Two}
 use Rattle.buffer_core.specs.Edition.{good, bad, numbers-of, row-limit-of, number-at, header-limit, header, body-at, says, named, body-then, row-under, redo-under}
 use Rattle.buffer_core.specs.Flip.{row-flipped}
 use Rattle.buffer_core.proofs.UnderLaws.{row-within, named-true, Few, body-few}
-use Rattle.row_header.specs.Steps.{BodyStart}
+use Rattle.row_header.specs.Internal.{BodyStart}
 use Rattle.row_header.proofs.HeaderLaws.{row-put}
 use Rattle.row_edition.proofs.ReadingLaws.{padded-length}
 use Rattle.spill_rows.proofs.CheckedLaws.{nope}
-use Rattle.flip_stage.specs.Steps.{Takes, flipped-under, Written}
+use Rattle.flip_stage.specs.Internal.{Takes, flipped-under, Written}
 
 -- ---- the segment that a row holds
 

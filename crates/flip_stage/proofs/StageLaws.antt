@@ -24,7 +24,7 @@ use Rattle.buffer_core.specs.Spills.{sources, place-at, spill-read}
 use Rattle.buffer_core.specs.Flip.{row-flipped, stage-at}
 use Rattle.buffer_core.proofs.SizeLaws.{slot-in}
 use Rattle.spill_rows.proofs.CheckedLaws.{nope}
-use Rattle.flip_stage.specs.Steps.{Takes, flipped-under, Stages}
+use Rattle.flip_stage.specs.Internal.{Takes, flipped-under, Stages}
 
 -- key is what a local holds of the row's key, p what was located
 

@@ -8,7 +8,7 @@ ghost use Rattle.segment_id.specs.Key.{row-key};
 ghost use Rattle.buffer_core.specs.Edition.{numbers-of, record-size, row-limit-of, row-under, edition-of};
 ghost use Rattle.buffer_core.specs.Spills.{sources, spill-read};
 ghost use Rattle.buffer_core.specs.Flip.{stage-at};
-ghost use Rattle.flip_stage.specs.Steps.{RowsReady, Takes, flipped-under, Written, Stages};
+ghost use Rattle.flip_stage.specs.Internal.{RowsReady, Takes, flipped-under, Written, Stages};
 use index_types::Flipped;
 use index_types::ListCounts;
 use index_types::Loaded;

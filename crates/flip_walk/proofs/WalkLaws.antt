@@ -20,7 +20,7 @@ use Rattle.buffer_core.specs.Edition.{RowRead}
 use Rattle.buffer_core.specs.Flip.{first-of, last-in, look-past, look-by, look-in, look-of, walk-by, walk-from}
 use Rattle.spill_rows.specs.declared.Read.{Read}
 use Rattle.spill_rows.specs.declared.Read.the-variants.{Good, Faulty}
-use Rattle.spill_rows.specs.Steps.{CheckedInto}
+use Rattle.spill_rows.specs.Internal.{CheckedInto}
 use Rattle.spill_rows.proofs.CheckedLaws.{nope, faulty}
 
 -- ---- what a row shows; x is the checked row

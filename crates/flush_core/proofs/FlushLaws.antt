@@ -27,7 +27,7 @@ use Rattle.buffer_core.specs.Pop.{Lists, count-without}
 use Rattle.buffer_core.specs.Flush.{new-count, new-keys, Listed, listed, put-staged, put-undeleted, remove-key, remove-keys, deleted-keys, table-after, Flushing, flushing, flushed, flush-core}
 use Rattle.entries.specs.Tally.{one-if}
 use Rattle.buffer_core.proofs.SizeLaws.{sizes, slot-in}
-use Rattle.flush_core.specs.Steps.{is-new, put-unless-deleted, FlushReady}
+use Rattle.flush_core.specs.Internal.{is-new, put-unless-deleted, FlushReady}
 
 -- ---- the keys that are still new
 

@@ -24,7 +24,7 @@ use Rattle.buffer_core.specs.Flush.{new-count, new-keys, Listed, listed, put-st
 use Rattle.entries.specs.Tally.{one-if}
 use Rattle.buffer_core.proofs.SizeLaws.{sizes, limit-most}
 use Rattle.buffer_core.proofs.ListLaws.{ListsFit, lists-fit, fit-lists, without-ok}
-use Rattle.flush_core.specs.Steps.{is-new, put-unless-deleted, FlushReady}
+use Rattle.flush_core.specs.Internal.{is-new, put-unless-deleted, FlushReady}
 use Rattle.flush_core.proofs.FlushLaws.{put-room}
 
 module _ (v : RowEdition) where

@@ -1,2 +1,2 @@
 -- What the steps of a flush ask and give.
-pub mod Steps
+pub mod Internal

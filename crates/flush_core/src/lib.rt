@@ -9,7 +9,7 @@ ghost use Rattle.buffer_core.specs.Edition.{edition-of, record-size};
 ghost use Rattle.buffer_core.specs.Pop.{lists};
 ghost use Rattle.buffer_core.specs.Flush.{new-count, listed, put-undeleted, remove-key, remove-keys, flushing, flushed, flush-core};
 ghost use Rattle.entries.specs.Tally.{one-if};
-ghost use Rattle.flush_core.specs.Steps.{is-new, put-unless-deleted, FlushReady, RoomReady};
+ghost use Rattle.flush_core.specs.Internal.{is-new, put-unless-deleted, FlushReady, RoomReady};
 use index_types::Flushed;
 use index_types::ListCounts;
 use index_types::RowEdition;

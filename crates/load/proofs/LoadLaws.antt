@@ -25,7 +25,7 @@ use Rattle.load_core.proofs.DrawLaws.{drawn-is, grows}
 use Rattle.load.specs.declared.Generated.the-variants.{Written, Refused}
 use Rattle.load.specs.Bytes.{append-byte, flip-byte, numbered, call-bytes, all-bytes, load-bytes}
 use Rattle.load.specs.Generated.{generated, written-from, generated-from, most-counted, go-on-of}
-use Rattle.load.specs.Steps.{Countable}
+use Rattle.load.specs.Internal.{Countable}
 
 -- ---- one call
 

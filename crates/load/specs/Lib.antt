@@ -1,4 +1,4 @@
 -- The definitions that the contracts of `load` cite.
 pub mod Bytes
 pub mod Generated
-pub mod Steps
+pub mod Internal

@@ -6,7 +6,7 @@ ghost use lib.ListN.{length};
 ghost use Rattle.stores.specs.Stores.{Put};
 ghost use Rattle.load.specs.Bytes.{append-byte, flip-byte, numbered, call-bytes, load-bytes};
 ghost use Rattle.load.specs.Generated.{generated, written-from, generated-from, generate-load-of, go-on-of};
-ghost use Rattle.load.specs.Steps.{Countable};
+ghost use Rattle.load.specs.Internal.{Countable};
 use buffer_core::Direction;
 use calls::Call;
 pub use load_core::Source;

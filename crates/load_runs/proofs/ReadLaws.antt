@@ -22,7 +22,7 @@ use Rattle.load_core.specs.Draw.{draws, calls-from}
 use Rattle.load_core.proofs.DrawLaws.{drawn-is}
 use Rattle.load.specs.Bytes.{numbered, call-bytes, all-bytes, load-bytes}
 use Rattle.load.specs.Generated.{most-counted}
-use Rattle.load.specs.Steps.{Countable}
+use Rattle.load.specs.Internal.{Countable}
 use Rattle.load.proofs.LoadLaws.{length-numbered, drawn-size, countable-turn}
 use Rattle.load.proofs.PieceLaws.{accepted}
 use Rattle.load_runs.specs.Reads.{Reads, ReadBack}

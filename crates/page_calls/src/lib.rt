@@ -6,7 +6,7 @@ ghost use Rattle.entries.specs.Unspent.{page-places};
 ghost use Rattle.buffer_core.specs.Edition.{edition-of};
 ghost use Rattle.buffer_core.specs.Spills.{sources};
 ghost use Rattle.buffer_core.specs.Page.{paging, page-core, page-of};
-ghost use Rattle.flip_core.specs.Ready.{FlipReady};
+ghost use Rattle.flip_core.specs.Internal.{FlipReady};
 use index_types::HeadCounts;
 use index_types::ListCounts;
 use index_types::Paged;

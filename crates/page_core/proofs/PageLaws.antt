@@ -15,12 +15,12 @@ use Rattle.buffer_core.specs.Rows.{then-rows, rows-up}
 use Rattle.buffer_core.specs.Page.{Paging, paging, put-page, page-over}
 use Rattle.spill_rows.specs.declared.Read.{Read}
 use Rattle.spill_rows.specs.declared.Read.the-variants.{Good, Faulty}
-use Rattle.spill_rows.specs.Steps.{CheckedInto, read-of}
+use Rattle.spill_rows.specs.Internal.{CheckedInto, read-of}
 use Rattle.spill_rows.proofs.CheckedLaws.{nope, faulty}
 use Rattle.page_entries.specs.declared.Filling.{Filling}
-use Rattle.page_entries.specs.Steps.{Ready, Filled}
+use Rattle.page_entries.specs.Internal.{Ready, Filled}
 use Rattle.page_entries.proofs.FillLaws.{filled-none, filled-full, filled-then, count-is, page-is}
-use Rattle.page_core.specs.Steps.{numbers-in, rows-flat}
+use Rattle.page_core.specs.Internal.{numbers-in, rows-flat}
 
 -- ---- one row
 

@@ -16,7 +16,7 @@ use Rattle.entries.specs.Tally.{is-above}
 use Rattle.entries.specs.Unspent.{unspent-newest-first, stretch, page-places}
 use Rattle.entries.proofs.UnspentLaws.{newest-append, newest-none, newest-one}
 use Rattle.page_entries.specs.declared.Filling.{Filling}
-use Rattle.page_entries.specs.Steps.{page-with, Ready, Filled}
+use Rattle.page_entries.specs.Internal.{page-with, Ready, Filled}
 
 -- ---- above 0
 

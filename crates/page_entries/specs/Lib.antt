@@ -1,2 +1,2 @@
 -- What a page is while it is filled. The page itself is defined in `buffer_core`, Page.
-pub mod Steps
+pub mod Internal

@@ -5,7 +5,7 @@ ghost use Prim.Native.Nat.{_≤_};
 ghost use lib.ListN.{length, take};
 ghost use Rattle.entries.specs.Tally.{is-above};
 ghost use Rattle.entries.specs.Unspent.{unspent-newest-first};
-ghost use Rattle.page_entries.specs.Steps.{Ready, Filled};
+ghost use Rattle.page_entries.specs.Internal.{Ready, Filled};
 
 // How many of the numbers to come are passed over, and how many stand in the page.
 pub struct Filling {

@@ -27,7 +27,7 @@ use Rattle.buffer_core.proofs.HeadLaws.{HeadOk, head-facts, head-test}
 use Rattle.buffer_core.proofs.ListLaws.{ListsFit, lists-fit, fit-lists, without-ok}
 use Rattle.row_edition.proofs.ReadingLaws.{padded-length}
 use Rattle.spill_rows.proofs.SpillLaws.{spill-few}
-use Rattle.pop_row.specs.Ready.{PopReady}
+use Rattle.pop_row.specs.Internal.{PopReady}
 
 -- ---- the test as facts, and back
 

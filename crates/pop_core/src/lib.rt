@@ -4,7 +4,7 @@ ghost use Prim.Native.Nat.{_≤_};
 ghost use Rattle.index_types.specs.Limits.{segment-threshold};
 ghost use Rattle.buffer_core.specs.Edition.{edition-of};
 ghost use Rattle.buffer_core.specs.Pop.{popping, lists, pop-core};
-ghost use Rattle.pop_row.specs.Ready.{PopReady};
+ghost use Rattle.pop_row.specs.Internal.{PopReady};
 use index_types::HeadCounts;
 use index_types::ListCounts;
 use index_types::Popped;

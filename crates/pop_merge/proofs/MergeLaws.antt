@@ -15,7 +15,7 @@ use Rattle.index_types.specs.declared.RowEdition.{RowEdition}
 use Rattle.buffer_core.specs.Edition.{record-size}
 use Rattle.buffer_core.specs.Append.{counts-of}
 use Rattle.buffer_core.specs.Pop.{popping, count-without, bytes-without, last-of, without-last, merged}
-use Rattle.pop_merge.specs.Merging.{Merges}
+use Rattle.pop_merge.specs.Internal.{Merges}
 
 -- ---- a key's record leaves a list
 

@@ -1,2 +1,2 @@
 -- The definitions that the contract of `merge` cites beside those of `buffer_core`.
-pub mod Merging
+pub mod Internal

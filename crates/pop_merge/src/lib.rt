@@ -5,7 +5,7 @@ ghost use lib.ListN.{length};
 ghost use Rattle.records.specs.Records.{keys};
 ghost use Rattle.records.specs.Find.{find-key};
 ghost use Rattle.buffer_core.specs.Pop.{popping, count-without, bytes-without, last-of, without-last};
-ghost use Rattle.pop_merge.specs.Merging.{MergeReady, Merges};
+ghost use Rattle.pop_merge.specs.Internal.{MergeReady, Merges};
 use index_types::HeadCounts;
 use index_types::ListCounts;
 use index_types::Popped;

@@ -20,11 +20,11 @@ use Rattle.buffer_core.specs.Spills.{sources, spill-read}
 use Rattle.buffer_core.specs.Pop.{Popping, popping, lists, merge-of, unspill-of}
 use Rattle.row_edition.specs.declared.SpillRead.{SpillRead}
 use Rattle.row_edition.specs.declared.SpillRead.the-variants as read
-use Rattle.row_edition.specs.Steps.{SpillInto}
+use Rattle.row_edition.specs.Internal.{SpillInto}
 use Rattle.row_edition.proofs.ReadingLaws.{padded-length}
 use Rattle.spill_rows.proofs.SpillLaws.{spill-few}
-use Rattle.pop_merge.specs.Merging.{MergeReady, Merges}
-use Rattle.pop_row.specs.Ready.{PopReady}
+use Rattle.pop_merge.specs.Internal.{MergeReady, Merges}
+use Rattle.pop_row.specs.Internal.{PopReady}
 
 -- ---- the ways out of an unspill
 

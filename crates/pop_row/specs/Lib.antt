@@ -1,2 +1,2 @@
 -- The definition that the contracts of `pop_row` and `pop_core` cite beside those of `buffer_core`.
-pub mod Ready
+pub mod Internal

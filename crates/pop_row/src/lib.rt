@@ -3,7 +3,7 @@ ghost use mathlib.Core.Path.{_≡_};
 ghost use Prim.Native.Nat.{_<_};
 ghost use Rattle.buffer_core.specs.Edition.{edition-of};
 ghost use Rattle.buffer_core.specs.Pop.{popping, lists, unspill-of};
-ghost use Rattle.pop_row.specs.Ready.{PopReady};
+ghost use Rattle.pop_row.specs.Internal.{PopReady};
 use index_types::ListCounts;
 use index_types::Popped;
 use index_types::RowEdition;

@@ -27,7 +27,7 @@ use Rattle.segment_core.specs.Loading.{Loading, loading, load}
 use Rattle.segment_core.specs.Reading.{Seg, seg, no-seg, segment-at, ended}
 use Rattle.buffer_core.specs.Edition.{row-limit-of, number-at, body-at, named}
 use Rattle.row_converters.specs.Convert.{is-kind, front, tells, put-row, start-then, convert}
-use Rattle.row_converters.specs.Steps.{body-answer}
+use Rattle.row_converters.specs.Internal.{body-answer}
 
 -- ---- the ways out, in their order
 

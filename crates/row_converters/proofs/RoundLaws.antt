@@ -41,7 +41,7 @@ use Rattle.segment_id.specs.declared.Kind.the-variants.{Box, Tx}
 use Rattle.buffer_core.specs.Edition.{row-limit-of, number-at, kind-byte, header, body-at, numbers-of, named, row-under}
 use Rattle.buffer_core.proofs.BackLaws.{back}
 use Rattle.row_converters.specs.Convert.{is-kind, front, tells, put-row, start-then, convert}
-use Rattle.row_converters.specs.Steps.{body-answer}
+use Rattle.row_converters.specs.Internal.{body-answer}
 use Rattle.row_converters.proofs.ConvertLaws.{of-these, front-length}
 
 module _ (p : List ℕ) (long : length p ≡ 32) (k : ℕ) (n : ℤ) (fit : SFits w32 n) where

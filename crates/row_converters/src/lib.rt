@@ -13,7 +13,7 @@ ghost use Rattle.segment_core.specs.Row.{row-limit};
 ghost use Rattle.segment_core.specs.Reading.{segment-at, ended};
 ghost use Rattle.buffer_core.specs.Edition.{row-limit-of, number-at};
 ghost use Rattle.row_converters.specs.Convert.{is-kind, front, tells, convert};
-ghost use Rattle.row_converters.specs.Steps.{body-answer};
+ghost use Rattle.row_converters.specs.Internal.{body-answer};
 use index_types::Loaded;
 use index_types::SEGMENT_THRESHOLD;
 use index_types::Wrote;

@@ -18,7 +18,7 @@ use Rattle.segment_core.specs.Reading.{Seg, seg, no-seg, segment-at, ended}
 use Rattle.segment_core.specs.Loading.{Loading, loading, load, padded}
 use Rattle.row_edition.specs.declared.SpillRead.{SpillRead}
 use Rattle.row_edition.specs.declared.SpillRead.the-variants.{Numbers, Refused}
-use Rattle.row_edition.specs.Steps.{SpillInto}
+use Rattle.row_edition.specs.Internal.{SpillInto}
 use Rattle.index_types.specs.declared.RowEdition.the-variants.{Two}
 use Rattle.buffer_core.specs.Edition.{numbers-of, row-limit-of, number-at, says, named, body-then, row-under}
 use Rattle.buffer_core.proofs.UnderLaws.{Few, body-few, named-true, row-within}

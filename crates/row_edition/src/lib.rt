@@ -7,7 +7,7 @@ ghost use lib.ListN.{length};
 ghost use Rattle.index_types.specs.Limits.{segment-threshold};
 ghost use Rattle.segment_core.specs.Reading.{segment-at, ended};
 ghost use Rattle.buffer_core.specs.Edition.{numbers-of, row-limit-of, row-under};
-ghost use Rattle.row_edition.specs.Steps.{SpillInto};
+ghost use Rattle.row_edition.specs.Internal.{SpillInto};
 use index_types::Loaded;
 use index_types::RowEdition;
 use index_types::SEGMENT_THRESHOLD;

@@ -1,2 +1,2 @@
 -- The definition that a contract of `row_header` cites beside those of `buffer_core`.
-pub mod Steps
+pub mod Internal

@@ -5,7 +5,7 @@ ghost use lib.IntN.{pos};
 ghost use lib.ListN.{length, set};
 ghost use Rattle.stores.specs.Stores.{Put};
 ghost use Rattle.buffer_core.specs.Edition.{number-at, header-limit, kind-byte, header, body-at, says};
-ghost use Rattle.row_header.specs.Steps.{BodyStart};
+ghost use Rattle.row_header.specs.Internal.{BodyStart};
 use index_types::RowEdition;
 use segment_id::Kind;
 use vlq_core::Got;

@@ -22,9 +22,9 @@ use Rattle.buffer_core.specs.Flip.{check-row, row-checked}
 use Rattle.buffer_core.specs.Tally.{tally-over}
 use Rattle.spill_rows.specs.declared.Read.{Read}
 use Rattle.spill_rows.specs.declared.Read.the-variants as read
-use Rattle.spill_rows.specs.Steps.{CheckedInto, read-of}
+use Rattle.spill_rows.specs.Internal.{CheckedInto, read-of}
 use Rattle.spill_rows.proofs.CheckedLaws.{nope}
-use Rattle.row_tallies.specs.Steps.{counted, tally-row, tally-rows}
+use Rattle.row_tallies.specs.Internal.{counted, tally-row, tally-rows}
 
 -- ---- a row
 

@@ -1,2 +1,2 @@
 -- What the steps of a tally answer. The tally itself is defined in `buffer_core`, Tally.
-pub mod Steps
+pub mod Internal

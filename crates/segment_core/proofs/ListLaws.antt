@@ -23,7 +23,7 @@ use Rattle.segment_core.specs.declared.Part.{Part}
 use Rattle.segment_core.specs.declared.Part.the-variants.{Listed, Refused}
 use Rattle.segment_core.specs.Reading.{length-of, length-at, Nums, nums, bad, cons-nums, numbers-at, numbers-from, list-at}
 use Rattle.segment_core.specs.Loading.{padded}
-use Rattle.segment_core.specs.Steps.{ReadInto}
+use Rattle.segment_core.specs.Internal.{ReadInto}
 
 -- ---- a length: z was read, x is what a local holds of it, k its absolute value
 

@@ -2,4 +2,4 @@
 pub mod Row
 pub mod Reading
 pub mod Loading
-pub mod Steps
+pub mod Internal

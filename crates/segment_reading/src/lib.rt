@@ -4,7 +4,7 @@ ghost use mathlib.Core.Path.{_≡_};
 ghost use Prim.Native.Nat.{_≤_};
 ghost use Rattle.index_types.specs.Limits.{segment-threshold};
 ghost use Rattle.segment_core.specs.Reading.{length-at, numbers-at, list-at, counts-at};
-ghost use Rattle.segment_core.specs.Steps.{ReadInto};
+ghost use Rattle.segment_core.specs.Internal.{ReadInto};
 use index_types::Int;
 use index_types::Long;
 use index_types::SEGMENT_THRESHOLD;

@@ -17,8 +17,8 @@ use Rattle.row_edition.specs.declared.SpillRead.{SpillRead}
 use Rattle.row_edition.specs.declared.SpillRead.the-variants.{Numbers, Refused}
 use Rattle.spill_rows.specs.declared.Read.{Read}
 use Rattle.spill_rows.specs.declared.Read.the-variants.{Good, Faulty}
-use Rattle.row_edition.specs.Steps.{SpillInto}
-use Rattle.spill_rows.specs.Steps.{read-of, CheckedInto}
+use Rattle.row_edition.specs.Internal.{SpillInto}
+use Rattle.spill_rows.specs.Internal.{read-of, CheckedInto}
 
 pub nope : {X : Type 0} → _≡_ {A = ℕ} 0 1 → X
 nope e = let f : ⊥ = omega arith in absurd f

@@ -19,7 +19,7 @@ use Rattle.buffer_core.specs.Edition.{good, numbers-of, edition-of, record-size
 use Rattle.buffer_core.specs.Spills.{sources, place-at, read-placed, spill-read}
 use Rattle.row_edition.specs.declared.SpillRead.{SpillRead}
 use Rattle.row_edition.specs.declared.SpillRead.the-variants.{Refused}
-use Rattle.row_edition.specs.Steps.{SpillInto}
+use Rattle.row_edition.specs.Internal.{SpillInto}
 use Rattle.buffer_core.proofs.UnderLaws.{decode-few}
 
 -- ---- the row under a key

@@ -1,2 +1,2 @@
 -- The definitions that the contracts of `spill_rows` cite beside those of `buffer_core`.
-pub mod Steps
+pub mod Internal

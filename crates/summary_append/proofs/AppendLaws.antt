@@ -20,7 +20,7 @@ use Rattle.buffer_core.specs.Append.{Appending, appending, counts-of, spilled, 
 use Rattle.spill_rows.proofs.CheckedLaws.{nope}
 use Rattle.summary_core.specs.Lines.{line-of, put-line, WithSummary, with-summary}
 use Rattle.summary_core.specs.Moves.{too-few-lines, no-free-line, summary-appended, after-append, append-lines}
-use Rattle.summary_moves.specs.Steps.{is-done}
+use Rattle.summary_moves.specs.Internal.{is-done}
 use Rattle.summary_moves.proofs.MoveLaws.{missing}
 
 -- ---- the tests of 36

@@ -8,7 +8,7 @@ ghost use Rattle.index_types.specs.Limits.{segment-threshold, summary-line};
 ghost use Rattle.segment_id.specs.declared.Kind.the-variants.{Box};
 ghost use Rattle.buffer_core.specs.Edition.{edition-of};
 ghost use Rattle.buffer_core.specs.Append.{appending, append-core};
-ghost use Rattle.append_core.specs.Ready.{AppendReady};
+ghost use Rattle.append_core.specs.Internal.{AppendReady};
 ghost use Rattle.summary_core.specs.Lines.{with-summary};
 ghost use Rattle.summary_core.specs.Moves.{no-free-line, after-append, append-lines};
 use index_types::Appended;

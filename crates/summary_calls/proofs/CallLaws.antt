@@ -23,11 +23,11 @@ use Rattle.buffer_core.specs.Spills.{sources, head-ok}
 use Rattle.buffer_core.specs.Append.{Appending, appending, append-ok}
 use Rattle.buffer_core.specs.Pop.{Popping, popping, Lists, pop-ok}
 use Rattle.buffer_core.specs.Flip.{Flipping, flipping, flip-ok}
-use Rattle.append_core.specs.Ready.{AppendReady}
+use Rattle.append_core.specs.Internal.{AppendReady}
 use Rattle.append_core.proofs.KeepLaws.{append-ready}
-use Rattle.pop_row.specs.Ready.{PopReady}
+use Rattle.pop_row.specs.Internal.{PopReady}
 use Rattle.pop_core.proofs.KeepLaws.{pop-ready}
-use Rattle.flip_core.specs.Ready.{FlipReady}
+use Rattle.flip_core.specs.Internal.{FlipReady}
 use Rattle.flip_core.proofs.KeepLaws.{flip-facts}
 use Rattle.buffer_core.proofs.HeadLaws.{head-facts}
 use Rattle.summary_core.specs.Lines.{lines-ok, WithSummary, with-summary}

@@ -25,7 +25,7 @@ use Rattle.buffer_core.specs.Spills.{Sources, sources}
 use Rattle.buffer_core.specs.Flip.{search-in, walk-from, Flipping, flipping, spends}
 use Rattle.summary_core.specs.Lines.{WithSummary, with-summary}
 use Rattle.summary_core.specs.Flip.{line-lead, line-look, walk-lines, after-lines, in-lines, head-or-lines, done-lines, flip-lines, flip-lines-core}
-use Rattle.summary_take.specs.Steps.{StagesLines}
+use Rattle.summary_take.specs.Internal.{StagesLines}
 
 module _ (v : RowEdition) (w : Sources) (c : ListCounts) (staged S : List ℕ) (t : ℕ) (d : Bool) (spills : ℕ) where
   -- ---- the lines

@@ -1,2 +1,2 @@
 -- The definition that the contracts of `summary_lines` cite beside those of `summary_core`.
-pub mod Steps
+pub mod Internal

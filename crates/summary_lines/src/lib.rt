@@ -5,7 +5,7 @@ ghost use lib.ListN.{length, take, replicate};
 ghost use Rattle.index_types.specs.Limits.{segment-threshold, summary-line};
 ghost use Rattle.stores.specs.Stores.{write};
 ghost use Rattle.summary_core.specs.Lines.{line-of, no-line, at-line, put-line};
-ghost use Rattle.summary_lines.specs.Steps.{line-numbers};
+ghost use Rattle.summary_lines.specs.Internal.{line-numbers};
 use index_types::SEGMENT_THRESHOLD;
 use index_types::SUMMARY_LINE;
 

@@ -18,7 +18,7 @@ use Rattle.buffer_core.specs.Pop.{Popping, popping, Lists, last-of, without-las
 use Rattle.spill_rows.proofs.CheckedLaws.{nope}
 use Rattle.summary_core.specs.Lines.{no-line, put-line, WithSummary, with-summary}
 use Rattle.summary_core.specs.Moves.{too-few-lines, summary-popped, after-pop, pop-lines}
-use Rattle.summary_moves.specs.Steps.{is-number}
+use Rattle.summary_moves.specs.Internal.{is-number}
 
 -- ---- a pop from an empty head
 

@@ -7,7 +7,7 @@ ghost use Rattle.index_types.specs.Limits.{segment-threshold, summary-line};
 ghost use Rattle.segment_id.specs.declared.Kind.the-variants.{Box};
 ghost use Rattle.buffer_core.specs.Edition.{edition-of};
 ghost use Rattle.buffer_core.specs.Pop.{popping, lists, pop-core};
-ghost use Rattle.pop_row.specs.Ready.{PopReady};
+ghost use Rattle.pop_row.specs.Internal.{PopReady};
 ghost use Rattle.summary_core.specs.Lines.{with-summary};
 ghost use Rattle.summary_core.specs.Moves.{too-few-lines, after-pop, pop-lines};
 use index_types::HeadCounts;

@@ -23,12 +23,12 @@ use Rattle.buffer_core.specs.Rows.{then-rows, rows-up}
 use Rattle.buffer_core.specs.Flip.{check-row, row-checked}
 use Rattle.spill_rows.specs.declared.Read.{Read}
 use Rattle.spill_rows.specs.declared.Read.the-variants.{Good, Faulty}
-use Rattle.spill_rows.specs.Steps.{CheckedInto, read-of}
+use Rattle.spill_rows.specs.Internal.{CheckedInto, read-of}
 use Rattle.spill_rows.proofs.CheckedLaws.{nope, faulty}
 use Rattle.summary_core.specs.Lines.{line-of, put-line, WithSummary, with-summary}
 use Rattle.summary_core.proofs.LineLaws.{length-line}
 use Rattle.summary_core.specs.Making.{lines-of, put-lines, summary-core}
-use Rattle.summary_rows.specs.Steps.{row-line, row-lines}
+use Rattle.summary_rows.specs.Internal.{row-line, row-lines}
 
 -- ---- one row
 

@@ -1,2 +1,2 @@
 -- What the steps of making a summary leave. Making it is defined in `summary_core`, Making.
-pub mod Steps
+pub mod Internal

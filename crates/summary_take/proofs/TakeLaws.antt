@@ -23,10 +23,10 @@ use Rattle.buffer_core.specs.Edition.{RowRead, good, bad, edition-of}
 use Rattle.buffer_core.specs.Spills.{Sources, place-at, spill-read}
 use Rattle.buffer_core.specs.Flip.{check-row, Effect, refuse, flip-head, stage, Flipping, flipping, done-by, row-checked, stage-from, stage-at}
 use Rattle.spill_rows.proofs.CheckedLaws.{nope}
-use Rattle.flip_stage.specs.Steps.{Takes, Stages}
+use Rattle.flip_stage.specs.Internal.{Takes, Stages}
 use Rattle.summary_core.specs.Lines.{line-of, put-line, with-summary}
 use Rattle.summary_core.specs.Flip.{summary-staged, after-lines}
-use Rattle.summary_take.specs.Steps.{is-done, StagesLines}
+use Rattle.summary_take.specs.Internal.{is-done, StagesLines}
 
 -- a row that passed is the row that was read
 unchecked : (y : RowRead) (zs : List ℤ) → check-row y ≡ good zs → y ≡ good zs

@@ -15,7 +15,7 @@ use Rattle.entries.specs.Order.{order-ok}
 use Rattle.entries.specs.Tally.{figures, plus}
 use Rattle.summary_core.specs.Lines.{at-line}
 use Rattle.summary_core.specs.Tally.{figures-at, add-lines, tally-lines}
-use Rattle.summary_tally.specs.Steps.{counts-at}
+use Rattle.summary_tally.specs.Internal.{counts-at}
 
 -- ---- a line; a, s and z are what locals hold of its counts
 

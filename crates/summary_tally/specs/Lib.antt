@@ -1,2 +1,2 @@
 -- What a step of the tally with a summary answers. The tally itself is defined in `summary_core`, Tally.
-pub mod Steps
+pub mod Internal

@@ -4,7 +4,7 @@ ghost use Prim.Native.Nat.{_+_, _*_, _≤_, _<_};
 ghost use lib.ListN.{length, take};
 ghost use Rattle.index_types.specs.Limits.{segment-threshold, summary-line};
 ghost use Rattle.summary_core.specs.Tally.{add-lines, tally-lines};
-ghost use Rattle.summary_tally.specs.Steps.{counts-at};
+ghost use Rattle.summary_tally.specs.Internal.{counts-at};
 use index_types::HeadCounts;
 use index_types::SEGMENT_THRESHOLD;
 use index_types::Tallied;

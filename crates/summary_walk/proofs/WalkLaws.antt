@@ -24,15 +24,15 @@ use Rattle.buffer_core.specs.Edition.{RowRead, good, bad, edition-of}
 use Rattle.buffer_core.specs.Spills.{Sources}
 use Rattle.buffer_core.specs.Flip.{look-past, look-by, walk-by, walk-from, row-checked}
 use Rattle.spill_rows.proofs.CheckedLaws.{nope}
-use Rattle.flip_stage.specs.Steps.{Takes}
+use Rattle.flip_stage.specs.Internal.{Takes}
 use Rattle.flip_walk.proofs.WalkLaws.{walk-step, walk-stop, walk-end}
 use Rattle.flip_core.proofs.TakeLaws.{position-takes}
 use Rattle.summary_core.specs.Lines.{at-line}
 use Rattle.summary_core.specs.Flip.{look-in-row, line-look, after-lines}
-use Rattle.summary_take.specs.Steps.{StagesLines}
+use Rattle.summary_take.specs.Internal.{StagesLines}
 use Rattle.summary_walk.specs.declared.Tried.{Tried}
 use Rattle.summary_walk.specs.declared.Tried.the-variants.{Ended, Stop, Next}
-use Rattle.summary_walk.specs.Steps.{past, Tries}
+use Rattle.summary_walk.specs.Internal.{past, Tries}
 
 pub past-stop : (first t : ℕ) (seen : Bool) → first < t → Stop seen ≡ past (ltb first t) seen
 past-stop first t seen h = rw (lt-ltb first t h)

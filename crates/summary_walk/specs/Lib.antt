@@ -1,2 +1,2 @@
 -- What the steps of the walk over a summary answer and leave. The walk itself is defined in `summary_core`, Flip.
-pub mod Steps
+pub mod Internal

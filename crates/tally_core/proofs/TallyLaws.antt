@@ -14,7 +14,7 @@ use Rattle.buffer_core.specs.Edition.{Edition}
 use Rattle.buffer_core.specs.Spills.{Sources}
 use Rattle.buffer_core.specs.Flip.{row-checked}
 use Rattle.buffer_core.specs.Tally.{tally-core}
-use Rattle.row_tallies.specs.Steps.{tally-rows}
+use Rattle.row_tallies.specs.Internal.{tally-rows}
 use Rattle.row_tallies.proofs.TallyLaws.{rows-then-head}
 
 module _ (E : Edition) (w : Sources) (spills : ℤ) (zs : List ℤ) where

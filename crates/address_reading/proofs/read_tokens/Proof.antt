@@ -6,7 +6,7 @@ use lib.IntN.{ℤ}
 use lib.ListN.{length}
 use Rattle.segment_core.specs.declared.Part.{Part}
 use Rattle.address_core.specs.Reading.{tokens-at}
-use Rattle.address_core.specs.Steps.{TokensInto}
+use Rattle.address_core.specs.Internal.{TokensInto}
 use Rattle.address_core.proofs.TokenLaws.{tokens-start, tokens-end, tokens-more, tokens-bad}
 use borrow.Author.Needs.{needs}
 use native.Mathlib.Omega.{arith}

@@ -2,7 +2,7 @@
 use Prim.Native.Nat.{_+_, _*_, _^_}
 use native.Mathlib.Omega.{arith}
 use borrow.Author.Needs.{needs}
-use Rattle.distinct_keys.specs.Trees.{half-at}
+use Rattle.distinct_keys.specs.Internal.{half-at}
 use Rattle.distinct_keys.proofs.half.Statement.{statement}
 use Rattle.distinct_keys.proofs.half.Tie as tie
 

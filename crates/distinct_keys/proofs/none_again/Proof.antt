@@ -5,7 +5,7 @@ use native.Mathlib.Omega.{arith}
 use native.Mathlib.Nat.{mul-le-mul-right}
 use borrow.Author.Needs.{needs}
 use denote.Ref.{now}
-use Rattle.distinct_keys.specs.Trees.{NoneAgain}
+use Rattle.distinct_keys.specs.Internal.{NoneAgain}
 use Rattle.records.proofs.TurnLaws.{below-mul}
 use Rattle.records.proofs.KeyLaws.{clash}
 use Rattle.distinct_keys.proofs.TreeLaws.{none-again-start, none-again-more, again, next-at, spotted-free, spotted-taken}

@@ -1,7 +1,7 @@
 -- `distinct_keys::word` meets its contract: the lower half and the higher half.
 use Prim.Native.Nat.{_+_, _*_, _^_}
 use borrow.Author.Needs.{needs}
-use Rattle.distinct_keys.specs.Trees.{word-at}
+use Rattle.distinct_keys.specs.Internal.{word-at}
 use Rattle.distinct_keys.proofs.word.Statement.{statement}
 use Rattle.distinct_keys.proofs.word.Tie as tie
 

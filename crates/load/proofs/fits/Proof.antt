@@ -10,7 +10,7 @@ use lib.ListN.{length}
 use Rattle.calls.specs.Calls.{size-of}
 use Rattle.load_core.specs.declared.Drawn.{Drawn}
 use Rattle.load.specs.Bytes.{load-bytes}
-use Rattle.load.specs.Steps.{Countable}
+use Rattle.load.specs.Internal.{Countable}
 use Rattle.load.proofs.LoadLaws.{fits-turn, fits-short, countable-turn, none-left}
 use Rattle.load.proofs.fits.Statement.{statement}
 use Rattle.load.proofs.fits.Tie as tie

@@ -5,7 +5,7 @@ use lib.ListN.{take}
 use Rattle.buffer_core.specs.Edition.{edition-of}
 use Rattle.buffer_core.specs.Spills.{sources}
 use Rattle.buffer_core.specs.Flip.{row-checked}
-use Rattle.page_core.specs.Steps.{rows-flat}
+use Rattle.page_core.specs.Internal.{rows-flat}
 use Rattle.page_core.proofs.PageLaws.{page-left}
 use Rattle.page_core.proofs.put_page.Statement.{statement}
 use Rattle.page_core.proofs.put_page.Tie as tie

@@ -9,7 +9,7 @@ use Rattle.segment_id.specs.declared.Kind.the-variants.{Box}
 use Rattle.buffer_core.specs.Edition.{edition-of}
 use Rattle.buffer_core.specs.Spills.{sources, spill-read}
 use Rattle.buffer_core.specs.Flip.{row-checked}
-use Rattle.row_tallies.specs.Steps.{tally-rows}
+use Rattle.row_tallies.specs.Internal.{tally-rows}
 use Rattle.row_tallies.proofs.TallyLaws.{turn, stop, past, counted-all}
 use Rattle.row_tallies.proofs.count_rows.Statement.{statement}
 use Rattle.row_tallies.proofs.count_rows.Tie as tie

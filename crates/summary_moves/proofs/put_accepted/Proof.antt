@@ -7,7 +7,7 @@ use lib.IntN.{natAbs}
 use mir.Syntax.{w32}
 use Rattle.signed.proofs.SignedLaws.{back}
 use Rattle.summary_core.specs.Lines.{put-line}
-use Rattle.summary_lines.specs.Steps.{line-numbers}
+use Rattle.summary_lines.specs.Internal.{line-numbers}
 use borrow.Author.Needs.{needs}
 use Rattle.summary_moves.proofs.put_accepted.Statement.{statement}
 use Rattle.summary_moves.proofs.put_accepted.Tie as tie

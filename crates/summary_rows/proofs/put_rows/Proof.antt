@@ -9,7 +9,7 @@ use Rattle.records.proofs.TurnLaws.{left-all}
 use Rattle.buffer_core.specs.Edition.{edition-of}
 use Rattle.buffer_core.specs.Spills.{sources}
 use Rattle.buffer_core.specs.Flip.{row-checked}
-use Rattle.summary_rows.specs.Steps.{row-lines}
+use Rattle.summary_rows.specs.Internal.{row-lines}
 use Rattle.summary_rows.proofs.MakingLaws.{row-turn, row-past, row-line-long}
 use Rattle.summary_rows.proofs.put_rows.Statement.{statement}
 use Rattle.summary_rows.proofs.put_rows.Tie as tie

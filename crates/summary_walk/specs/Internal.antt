@@ -13,7 +13,7 @@ use Rattle.buffer_core.specs.Edition.{edition-of}
 use Rattle.buffer_core.specs.Spills.{Sources}
 use Rattle.buffer_core.specs.Flip.{walk-by}
 use Rattle.summary_core.specs.Flip.{after-lines}
-use Rattle.summary_take.specs.Steps.{StagesLines}
+use Rattle.summary_take.specs.Internal.{StagesLines}
 use Rattle.summary_walk.specs.declared.Tried.{Tried}
 use Rattle.summary_walk.specs.declared.Tried.the-variants.{Ended, Stop, Next}
 
