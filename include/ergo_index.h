@@ -72,6 +72,7 @@ extern "C" {
 #define ERGO_INDEX_PAGE_LENGTH 64      /* places of a page of unspent boxes */
 #define ERGO_INDEX_FLAT_LENGTH 4096    /* places of a flat list */
 #define ERGO_INDEX_SUMMARY_LINE 5      /* numbers in a line of a summary */
+#define ERGO_INDEX_HISTORIES_LENGTH 2668 /* bytes of all short histories */
 #define ERGO_INDEX_ROW_LIMIT 10254     /* bytes of the longest segment row */
 #define ERGO_INDEX_RECORD_SIZE 10288   /* bytes of a record: 32 of the key, 2 of the length (high byte first), then the row and zeros */
 #define ERGO_INDEX_SECOND_ROW_LIMIT 10292   /* bytes of the longest row of edition 2 */
@@ -192,6 +193,23 @@ uint8_t ergo_index_generate_load(uint64_t from, uint64_t count, uint8_t *out, si
  * Refusals, in order: 25 (a count above 2^62), 38, 32.
  * Changes: out, *written, *state, *boxes, *txs. */
 uint8_t ergo_index_go_on(uint64_t *state, uint64_t *boxes, uint64_t *txs, uint64_t count, uint8_t *out, size_t out_len, size_t *written);
+
+/* ---- short histories: every list of 0 to 5 calls for one fresh parent, over the box numbers 1 and 2, that keeps the history rules (a flush at each change
+ * between calls and undos included) and in which every call is accepted, whatever the capacities */
+
+/* the calls of a short history; an undo is that of the newest standing call: a pop of an append, an unspend of a spend */
+#define ERGO_INDEX_CALL_APPEND_1 1
+#define ERGO_INDEX_CALL_APPEND_2 2
+#define ERGO_INDEX_CALL_SPEND_1 3
+#define ERGO_INDEX_CALL_SPEND_2 4
+#define ERGO_INDEX_CALL_UNDO 5
+#define ERGO_INDEX_CALL_FLUSH 6
+
+/* Writes all of them at the front of out, shorter ones first, equal lengths by their first differing call: each as a byte of its length and a byte per call,
+ * ERGO_INDEX_CALL_*. *written is ERGO_INDEX_HISTORIES_LENGTH.
+ * Refusals: 32.
+ * Changes: out, *written. */
+uint8_t ergo_index_list_histories(uint8_t *out, size_t out_len, size_t *written);
 
 /* ---- spill rows */
 

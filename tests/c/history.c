@@ -286,6 +286,24 @@ static void loads(void) {
            (unsigned long long)state);
 }
 
+/* Every short history: the first is empty, the last is five flushes; a shorter output is refused and stays as it was. */
+static void short_histories(void) {
+    uint8_t out[ERGO_INDEX_HISTORIES_LENGTH + 1];
+    size_t written = 7, at = 0, histories = 0, calls = 0;
+
+    memset(out, 9, sizeof out);
+    EXPECT(ergo_index_list_histories(out, ERGO_INDEX_HISTORIES_LENGTH - 1, &written) == ERGO_INDEX_OUTPUT_TOO_SHORT && written == 7 && out[0] == 9);
+    EXPECT(ergo_index_list_histories(out, sizeof out, &written) == ERGO_INDEX_ACCEPTED && written == ERGO_INDEX_HISTORIES_LENGTH);
+    EXPECT(out[0] == 0 && out[1] == 1 && out[2] == ERGO_INDEX_CALL_APPEND_1 && out[written - 1] == ERGO_INDEX_CALL_FLUSH && out[written] == 9);
+    while (at < written) {
+        histories++;
+        calls += out[at];
+        at += 1 + (size_t)out[at];
+    }
+    EXPECT(at == written);
+    printf("short histories: %zu, of %zu calls, in %zu bytes\n", histories, calls, written);
+}
+
 /* The same calls with rows that say whose they are, and the row taken to edition 1 and back. */
 static struct {
     size_t count;
@@ -559,6 +577,7 @@ int main(void) {
     balances_and_records();
     batch();
     loads();
+    short_histories();
     editions();
     summaries(false);
     summaries(true);

@@ -539,6 +539,7 @@ extern "C" {
         txs: *mut u64,
     ) -> u8;
     pub fn ergo_index_go_on(state: *mut u64, boxes: *mut u64, txs: *mut u64, count: u64, out: *mut u8, out_len: usize, written: *mut usize) -> u8;
+    pub fn ergo_index_list_histories(out: *mut u8, out_len: usize, written: *mut usize) -> u8;
     pub fn ergo_index_flat_append_box(count: *mut usize, list: *mut i64, list_len: usize, number: i64) -> u8;
     pub fn ergo_index_flat_spend_box(count: *mut usize, list: *mut i64, list_len: usize, target: i64) -> u8;
     pub fn ergo_index_flat_unspend_box(count: *mut usize, list: *mut i64, list_len: usize, target: i64) -> u8;

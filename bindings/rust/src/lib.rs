@@ -48,6 +48,7 @@ mod pages;
 mod records;
 mod refusal;
 mod segment;
+mod short_histories;
 mod summary;
 
 pub use balance::{statement_milli_ergs, Balance, Token, MAX_TOKENS};
@@ -62,4 +63,5 @@ pub use pages::{UnspentBoxes, PAGE_LENGTH};
 pub use records::{prune_below_window, IndexedAddress, UndoEntry, ADDRESS_LIMIT};
 pub use refusal::Refusal;
 pub use segment::{tolerate_secondary_drift, BoxNumber, Segment, Tally, Tolerated, TxNumber, SEGMENT_THRESHOLD};
+pub use short_histories::{HistoryCall, ShortHistories, HISTORIES_LENGTH};
 pub use summary::SummaryLine;

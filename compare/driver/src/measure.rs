@@ -94,18 +94,27 @@ pub fn shown(nanoseconds: f64) -> String {
     }
 }
 
+/// A ratio, with as many places as a small one needs.
+fn parts(ratio: f64) -> String {
+    if ratio < 0.01 {
+        format!("{ratio:.5}")
+    } else {
+        format!("{ratio:.2}")
+    }
+}
+
 /// A table row of Markdown.
 pub fn line(name: &str, ours: &Times, theirs: Option<&Times>) {
     match theirs {
         Some(theirs) => {
             let r = ratio(ours, theirs);
             println!(
-                "| {name} | {} | {} | {:.2} | {:.2} to {:.2} |",
+                "| {name} | {} | {} | {} | {} to {} |",
                 shown(ours.median()),
                 shown(theirs.median()),
-                r.median(),
-                r.at(0.1),
-                r.at(0.9)
+                parts(r.median()),
+                parts(r.at(0.1)),
+                parts(r.at(0.9))
             );
         }
         None => println!(

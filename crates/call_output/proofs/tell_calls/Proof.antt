@@ -16,7 +16,7 @@ same-length : tie.Need-same-length
 same-length c = search needs
 
 returns : tie.Need-returns
-returns c = record { written = c .before .before .print-lines .result; place = c .before .behind-calls .ensures; lines = c .before .before .print-lines .ensures }
+returns c = record { written = c .before .before .before .print-lines .result; place = c .behind-calls .ensures; lines = c .before .before .before .print-lines .ensures }
 
 pub tell-calls-spec : {M : Type 1} → statement M
 tell-calls-spec = tie.close (tie.spec add-first print-lines-requires behind-calls-requires same-length returns)

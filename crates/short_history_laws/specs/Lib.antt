@@ -1,0 +1,3 @@
+-- The theorem of the short histories: Asked says which lists are asked for, Complete that these are the listed ones.
+pub mod Asked
+pub mod Complete

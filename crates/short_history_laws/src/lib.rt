@@ -1,0 +1,1 @@
+// The list of every short history beside the index. Definitions and proofs; no function.
