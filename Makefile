@@ -1,5 +1,6 @@
 # make run    proves the call runner and runs it on a sample history that forks across a full row
 # make load   writes a load that can be repeated to standard output: CALLS calls from STATE
+# make fork-trial  which room the staged and the deleted spills need for given blocks and forks (STATE, STEPS): n a block of n calls, -d a fork of d blocks
 # make histories   prints every short history, then runs each on the index at both editions and on the flat list beside a ledger: the release run
 # make test   the gate: every crate proved from nothing, every must-fail edit refused, every program's output compared
 # make c-test    the C interface: proves and builds the archive, links a C program with it and compares what it prints
@@ -26,7 +27,7 @@ RT := $(shell command -v rt 2>/dev/null)
 NO_RT := the Rattle kit is missing: no command 'rt' on PATH (expected in /opt/rattle/bin)
 ARCHIVE := target/staticlib/libergo_index.a
 
-.PHONY: run load histories test times c-test bindings convert flat-view copies compare compare-full compare-sample compare-build vectors bench all-checks fmt
+.PHONY: run load histories fork-trial test times c-test bindings convert flat-view copies compare compare-full compare-sample compare-build vectors bench all-checks fmt
 
 run:
 ifeq ($(RT),)
@@ -48,6 +49,11 @@ else
 	@mkdir -p target; rt check load_writer >target/load.log 2>&1 || { tail -n 20 target/load.log >&2; exit 1; }
 	@target/bin/load_writer $(STATE) $(CALLS)
 endif
+
+STEPS := 2000 2000 2000 -2 2000
+
+fork-trial: $(ARCHIVE)
+	@cd bindings/rust && ERGO_INDEX_LIB_DIR=$(CURDIR)/target/staticlib cargo run --offline --locked --quiet --release --example fork_trial -- $(STATE) $(STEPS)
 
 histories: $(ARCHIVE)
 	@mkdir -p target; rt check history_printer >target/histories.log 2>&1 || { tail -n 20 target/histories.log >&2; exit 1; }

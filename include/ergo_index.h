@@ -65,7 +65,9 @@ extern "C" {
 #define ERGO_INDEX_ROW_OF_ANOTHER_SPILL 35       /* a row of edition 2 says another parent, kind or number; no kind is given */
 #define ERGO_INDEX_SUMMARY_TOO_SHORT 36          /* a summary has fewer lines than spills, no free line, or a line that is not one of 512 entries */
 #define ERGO_INDEX_FLAT_LIST_FULL 37             /* an append to a flat list of 4,096 */
-#define ERGO_INDEX_STATE_IS_ZERO 38              /* a load is asked for from state 0 */
+#define ERGO_INDEX_STATE_IS_ZERO 38              /* a load or a trial is asked for from state 0 */
+#define ERGO_INDEX_FORK_TOO_DEEP 39              /* a fork deeper than 720 blocks, or than the blocks that stand */
+#define ERGO_INDEX_STANDING_CALLS_FULL 40        /* more calls stand than the list has room for */
 
 /* ---- sizes */
 #define ERGO_INDEX_HEAD_LENGTH 512     /* numbers in a full head, and in a spilled row */
@@ -193,6 +195,22 @@ uint8_t ergo_index_generate_load(uint64_t from, uint64_t count, uint8_t *out, si
  * Refusals, in order: 25 (a count above 2^62), 38, 32.
  * Changes: out, *written, *state, *boxes, *txs. */
 uint8_t ergo_index_go_on(uint64_t *state, uint64_t *boxes, uint64_t *txs, uint64_t count, uint8_t *out, size_t out_len, size_t *written);
+
+/* ---- trials of staging sizes: blocks of generated calls and forks, on one parent from an empty index */
+
+#define ERGO_INDEX_TRIAL_STEPS 4096   /* steps at most */
+#define ERGO_INDEX_STANDING_NUMBERS 3 /* numbers that a standing call takes */
+
+/* Runs the steps: n is a block of n calls of the load from `state`, -d a fork of d blocks, which undoes their standing calls, newest first. A flush is made at
+ * every change between calls and undos. *most_staged and *most_deleted are the largest numbers of staged rows and of deleted keys at any one time: with at least
+ * that room the same steps give the same answers and never 16 or 21, with less they give no figures. standing holds ERGO_INDEX_STANDING_NUMBERS numbers for each
+ * call that stands.
+ * Refusals, in order: 25 (more than 4,096 steps, a buffer shorter than its capacity), 38; then what ends the run: 16, 21, 22, 39, 40, or any refusal of an undo.
+ * Changes: table, staged, deleted and standing are zeroed to their capacities, refused or not, unless by 25 or 38: the one call that changes something when it is
+ * refused; *most_staged, *most_deleted. */
+uint8_t ergo_index_try_forks(uint64_t state, const int32_t *steps, size_t steps_len, size_t table_capacity, uint8_t *table, size_t table_len,
+                             size_t staged_capacity, uint8_t *staged, size_t staged_len, size_t deleted_capacity, uint8_t *deleted, size_t deleted_len,
+                             size_t standing_capacity, int64_t *standing, size_t standing_len, size_t *most_staged, size_t *most_deleted);
 
 /* ---- short histories: every list of 0 to 5 calls for one fresh parent, over the box numbers 1 and 2, that keeps the history rules (a flush at each change
  * between calls and undos included) and in which every call is accepted, whatever the capacities */

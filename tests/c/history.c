@@ -572,11 +572,37 @@ static void flat_lists(void) {
     printf("flat list: ok\n");
 }
 
+static void trials(void) {
+    static uint8_t table[16 * ERGO_INDEX_RECORD_SIZE], staged[8 * ERGO_INDEX_RECORD_SIZE], deleted[8 * ERGO_INDEX_KEY_SIZE];
+    static int64_t standing[5000 * ERGO_INDEX_STANDING_NUMBERS];
+    const size_t places = sizeof standing / sizeof *standing;
+    const int32_t steps[] = {1000, 1000, 1000, 1000, -3, 500};
+    const int32_t deep[] = {10, -2};
+    size_t most_staged = 77, most_deleted = 78;
+
+    EXPECT(ergo_index_try_forks(1, steps, 6, 16, table, sizeof table, 8, staged, sizeof staged, 8, deleted, sizeof deleted, 5000, standing, places, &most_staged,
+                                &most_deleted) == ERGO_INDEX_ACCEPTED);
+    printf("trial: %zu staged rows, %zu deleted keys\n", most_staged, most_deleted);
+    EXPECT(ergo_index_try_forks(1, steps, 6, 16, table, sizeof table, most_staged - 1, staged, sizeof staged, 8, deleted, sizeof deleted, 5000, standing, places,
+                                &most_staged, &most_deleted) == ERGO_INDEX_STAGING_FULL);
+    table[0] = 1;
+    EXPECT(ergo_index_try_forks(0, steps, 6, 16, table, sizeof table, 8, staged, sizeof staged, 8, deleted, sizeof deleted, 5000, standing, places, &most_staged,
+                                &most_deleted) == ERGO_INDEX_STATE_IS_ZERO && table[0] == 1);
+    EXPECT(ergo_index_try_forks(1, deep, 2, 16, table, sizeof table, 8, staged, sizeof staged, 8, deleted, sizeof deleted, 5000, standing, places, &most_staged,
+                                &most_deleted) == ERGO_INDEX_FORK_TOO_DEEP && table[0] == 0);
+    EXPECT(ergo_index_try_forks(1, steps, 6, 17, table, sizeof table, 8, staged, sizeof staged, 8, deleted, sizeof deleted, 5000, standing, places, &most_staged,
+                                &most_deleted) == ERGO_INDEX_BUFFERS);
+    EXPECT(ergo_index_try_forks(1, steps, 6, 16, table, sizeof table, 8, staged, sizeof staged, 8, deleted, sizeof deleted, 100, standing, places, &most_staged,
+                                &most_deleted) == ERGO_INDEX_STANDING_CALLS_FULL);
+    printf("trials: ok\n");
+}
+
 int main(void) {
     history();
     balances_and_records();
     batch();
     loads();
+    trials();
     short_histories();
     editions();
     summaries(false);

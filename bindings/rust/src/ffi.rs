@@ -657,4 +657,23 @@ extern "C" {
         summary: *mut u64,
         summary_len: usize,
     ) -> u8;
+    pub fn ergo_index_try_forks(
+        state: u64,
+        steps: *const i32,
+        steps_len: usize,
+        table_capacity: usize,
+        table: *mut u8,
+        table_len: usize,
+        staged_capacity: usize,
+        staged: *mut u8,
+        staged_len: usize,
+        deleted_capacity: usize,
+        deleted: *mut u8,
+        deleted_len: usize,
+        standing_capacity: usize,
+        standing: *mut i64,
+        standing_len: usize,
+        most_staged: *mut usize,
+        most_deleted: *mut usize,
+    ) -> u8;
 }

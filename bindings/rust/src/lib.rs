@@ -50,6 +50,7 @@ mod refusal;
 mod segment;
 mod short_histories;
 mod summary;
+mod trial;
 
 pub use balance::{statement_milli_ergs, Balance, Token, MAX_TOKENS};
 pub use batch::{Batch, BatchAnswer, END_CUT_CALL, END_NO_CALL, END_NO_ROOM, END_OF_INPUT, MAX_PARENTS};
@@ -65,3 +66,4 @@ pub use refusal::Refusal;
 pub use segment::{tolerate_secondary_drift, BoxNumber, Segment, Tally, Tolerated, TxNumber, SEGMENT_THRESHOLD};
 pub use short_histories::{HistoryCall, ShortHistories, HISTORIES_LENGTH};
 pub use summary::SummaryLine;
+pub use trial::{try_forks, TrialFigures, TrialSizes};

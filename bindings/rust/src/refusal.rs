@@ -92,9 +92,13 @@ pub enum Refusal {
     FlatListFull = 37,
     /// 38: a load is asked for from state 0.
     StateIsZero = 38,
+    /// 39: a fork deeper than 720 blocks, or than the blocks that stand.
+    ForkTooDeep = 39,
+    /// 40: more calls stand than there is room for.
+    StandingCallsFull = 40,
 }
 
-const ALL: [Refusal; 38] = [
+const ALL: [Refusal; 40] = [
     Refusal::BytesEnd,
     Refusal::NumberTooLarge,
     Refusal::NegativeLength,
@@ -133,6 +137,8 @@ const ALL: [Refusal; 38] = [
     Refusal::SummaryTooShort,
     Refusal::FlatListFull,
     Refusal::StateIsZero,
+    Refusal::ForkTooDeep,
+    Refusal::StandingCallsFull,
 ];
 
 impl Refusal {
@@ -187,6 +193,8 @@ impl Refusal {
             Refusal::SummaryTooShort => "a summary has too few lines, or a line that does not add up",
             Refusal::FlatListFull => "an append to a flat list of 4,096",
             Refusal::StateIsZero => "a load is asked for from state 0",
+            Refusal::ForkTooDeep => "a fork deeper than 720 blocks, or than the blocks that stand",
+            Refusal::StandingCallsFull => "more calls stand than there is room for",
         }
     }
 }
@@ -213,12 +221,12 @@ mod tests {
 
     #[test]
     fn numbers_and_names_agree() {
-        assert!(ALL.iter().map(|refusal| refusal.code()).eq(1..=38));
+        assert!(ALL.iter().map(|refusal| refusal.code()).eq(1..=40));
         for refusal in ALL {
             assert_eq!(Refusal::from_code(refusal.code()), Some(refusal));
         }
         assert_eq!(Refusal::from_code(0), None);
-        assert_eq!(Refusal::from_code(39), None);
+        assert_eq!(Refusal::from_code(41), None);
         assert_eq!(accepted(0), Ok(()));
         assert_eq!(accepted(25), Err(Refusal::Buffers));
     }

@@ -49,7 +49,7 @@ pub record Stored (E : Edition) (r : List ℕ) : Type 0 where
   pub sized : length r ≡ E .size
   pub fits : length (stored-row r) ≤ E .limit
 
-abbrev AllStored : Edition → List (List ℕ) → Type 0
+abbrev pub AllStored : Edition → List (List ℕ) → Type 0
 AllStored E [] = Unit {0}
 AllStored E (r ∷ rs) = Stored E r × AllStored E rs
 
@@ -57,7 +57,7 @@ row-short : (limit : ℕ) (r : List ℕ) → stored-length r ≤ limit → lengt
 unfolding stored-row
 row-short limit r h = simp length-take (omega arith)
 
-all-stored : (E : Edition) (rs : List (List ℕ)) → ((i : ℕ) → i < length rs → length (getD rs i []) ≡ E .size) → lengths-ok (E .limit) rs ≡ true → AllStored E rs
+pub all-stored : (E : Edition) (rs : List (List ℕ)) → ((i : ℕ) → i < length rs → length (getD rs i []) ≡ E .size) → lengths-ok (E .limit) rs ≡ true → AllStored E rs
 unfolding lengths-ok
 all-stored E [] h k = tt
 all-stored E (r ∷ rs) h k = (

@@ -1,4 +1,3 @@
 -- Laws and proofs of `runner`.
-pub mod StepLaws
 pub mod RunLaws
 pub mod PieceLaws

@@ -4,9 +4,8 @@ ghost use Prim.Native.Nat.{_+_, _*_, _<_};
 ghost use lib.ListN.{length};
 ghost use Rattle.buffer_core.specs.Edition.{edition-1};
 ghost use Rattle.call_steps.specs.State.{Ready, state};
-ghost use Rattle.call_steps.specs.Steps.{left-by, lists-with, step-of, StepReady};
+ghost use Rattle.call_steps.specs.Steps.{lists-with};
 ghost use Rattle.runner.specs.Run.{run, start, TurnReady, turn-of, runs, run-of};
-use call_steps::Stepped;
 use calls::Call;
 use index_types::SpillCounts;
 
@@ -22,82 +21,6 @@ pub struct Progress {
     pub at: usize,
     pub made: usize,
     pub end: u8,
-}
-
-// ---- one call
-
-fn step(
-    call: Call,
-    ids: &mut [u8],
-    numbers: &mut [i64],
-    lengths: &mut [usize],
-    spills: &mut [i32],
-    staged: &mut [u8],
-    table: &mut [u8],
-    deleted: &mut [u8],
-    hints: &mut [u16],
-    counts: SpillCounts,
-) -> Stepped
-    requires { ⌜ StepReady call (state (now ids) (now numbers) (now lengths) (now spills) (lists-with counts (now staged) (now table) (now deleted))) ⌝ }
-    ensures { λ r. ⌜ left-by r (now (ids .exit)) (now (numbers .exit)) (now (lengths .exit)) (now (spills .exit)) (now (staged .exit)) (now (table .exit)) (now (deleted .exit))
-        ≡ step-of edition-1 call (state (now (ids .entry)) (now (numbers .entry)) (now (lengths .entry)) (now (spills .entry))
-        (lists-with counts (now (staged .entry)) (now (table .entry)) (now (deleted .entry)))) ⌝ }
-{
-    match call {
-        Call::Append(kind, p, n) => segment_steps::append_step(
-            kind,
-            p,
-            n,
-            ids,
-            numbers,
-            lengths,
-            spills,
-            staged,
-            counts,
-        ),
-        Call::Flip(direction, p, n) => segment_steps::flip_step(
-            direction,
-            p,
-            n,
-            ids,
-            numbers,
-            lengths,
-            spills,
-            staged,
-            table,
-            hints,
-            counts,
-        ),
-        Call::Pop(kind, p) => segment_steps::pop_step(
-            kind,
-            p,
-            ids,
-            numbers,
-            lengths,
-            spills,
-            staged,
-            table,
-            deleted,
-            counts,
-        ),
-        Call::Flush => noted::flush_noted(table, staged, deleted, hints, counts),
-        Call::Change(adding, p, nanos, token, amount) => {
-            let said = balance_steps::change_step(
-                adding,
-                p,
-                nanos,
-                token,
-                amount,
-                ids,
-                numbers,
-                lengths,
-            );
-            Stepped { said, counts }
-        }
-        Call::Bad => run_answers::no_call(counts),
-        Call::Cut => run_answers::no_call(counts),
-        Call::End => run_answers::no_call(counts),
-    }
 }
 
 // ---- the calls of an input
@@ -138,7 +61,7 @@ fn turn(
         };
     }
     let next = at + n;
-    let s = step(
+    let s = run_steps::step(
         call,
         ids,
         numbers,

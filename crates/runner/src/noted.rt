@@ -1,43 +1,13 @@
-// Hints of where the table's records stand (`record_hints`) while calls are made: noted before the first call, and anew after a flush.
+// Hints of where the table's records stand (`record_hints`), noted before the first call.
 ghost use mathlib.Core.Path.{_≡_};
-ghost use mathlib.Core.Bool.{true};
 ghost use Prim.Native.Nat.{_+_};
 ghost use lib.ListN.{length};
 ghost use Rattle.buffer_core.specs.Edition.{edition-1};
-ghost use Rattle.buffer_core.specs.Pop.{lists-ok};
 ghost use Rattle.call_steps.specs.State.{Ready, state};
-ghost use Rattle.call_steps.specs.Steps.{lists-with, flush-step, flush-by};
+ghost use Rattle.call_steps.specs.Steps.{lists-with};
 ghost use Rattle.runner.specs.Run.{run, start, runs};
 use super::Progress;
-use call_steps::Stepped;
 use index_types::SpillCounts;
-
-fn note_table(counts: SpillCounts, table: &[u8], hints: &mut [u16]) {
-    let held = counts.table;
-    let count = held.count;
-    if table.len() / buffer_core::RECORD < count {
-        return;
-    }
-    record_hints::note_places(table, buffer_core::RECORD, count, hints);
-}
-
-// A flush, and where the records of the table then stand.
-pub fn flush_noted(
-    table: &mut [u8],
-    staged: &mut [u8],
-    deleted: &mut [u8],
-    hints: &mut [u16],
-    counts: SpillCounts,
-) -> Stepped
-    requires { ⌜ lists-ok edition-1 (lists-with counts (now staged) (now table) (now deleted)) ≡ true ⌝ }
-    ensures { λ r. ⌜ flush-step r (now (table .exit)) (now (staged .exit)) (now (deleted .exit))
-        ≡ flush-by edition-1 (lists-with counts (now (staged .entry)) (now (table .entry)) (now (deleted .entry))) ⌝ }
-{
-    let s = segment_steps::flush_step(table, staged, deleted, counts);
-    let after = s.counts;
-    note_table(after, table, hints);
-    s
-}
 
 // The calls from the front of the input, with hints where the table has many records.
 pub fn run_noted(
@@ -78,7 +48,7 @@ pub fn run_noted(
         );
     }
     let mut hints = [0u16; 65536];
-    note_table(counts, table, &mut hints);
+    run_steps::note_table(counts, table, &mut hints);
     super::run_ready(
         input,
         parents,

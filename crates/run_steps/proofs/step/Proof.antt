@@ -6,9 +6,9 @@ use Rattle.signed.proofs.SignedLaws.{back}
 use Rattle.calls.specs.declared.Call.{Call}
 use Rattle.call_steps.specs.State.{state}
 use Rattle.call_steps.specs.Steps.{lists-with, StepReady}
-use Rattle.runner.proofs.StepLaws.{append-returns, flip-returns, pop-returns, flush-returns, change-returns, bad-returns, cut-returns, end-returns}
-use Rattle.runner.proofs.step.Statement.{statement}
-use Rattle.runner.proofs.step.Tie as tie
+use Rattle.run_steps.proofs.StepLaws.{append-returns, flip-returns, pop-returns, flush-returns, change-returns, bad-returns, cut-returns, end-returns}
+use Rattle.run_steps.proofs.step.Statement.{statement}
+use Rattle.run_steps.proofs.step.Tie as tie
 
 enum-known-call : tie.Need-enum-known-call
 enum-known-call c = search needs

@@ -1,0 +1,2 @@
+-- The laws of `ergo_index_trials`.
+pub mod TrialLaws

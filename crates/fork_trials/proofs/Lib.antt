@@ -1,0 +1,2 @@
+-- Laws and proofs of `fork_trials`.
+pub mod TryLaws

@@ -1,0 +1,50 @@
+-- A trial of staging sizes with made-up forks (document 02, U12), with 25 and over borrowed buffers.
+use Prim.Native.Nat.{ℕ, _*_}
+use mathlib.Core.Path.{_≡_}
+use mathlib.Core.Bool.{Bool, cond, _&&_}
+use mathlib.Core.List.{List}
+use lib.Dec.{eqb, leb}
+use lib.IntN.{ℤ, pos}
+use lib.ListN.{length, replicate}
+use Rattle.stores.specs.Stores.{write}
+use Rattle.buffer_core.specs.Edition.{edition-1}
+use Rattle.trial_core.specs.declared.TriedForks.{TriedForks}
+use Rattle.trial_core.specs.declared.TriedForks.the-variants.{Refused}
+use Rattle.trial_core.specs.Trial.{step-limit, tried}
+
+-- the bytes of so many records, and of so many keys, and the numbers of so many standing calls
+abbrev pub record-bytes : ℕ → ℕ
+record-bytes n = n * edition-1 .size
+
+abbrev pub key-bytes : ℕ → ℕ
+key-bytes n = n * 32
+
+abbrev pub stood-numbers : ℕ → ℕ
+stood-numbers n = n * 3
+
+-- "25 above that", or "a lent buffer too short for its stated capacity": by the lengths
+abbrev pub sizes-ok : (T S D room steps table staged deleted standing : ℕ) → Bool
+sizes-ok T S D room steps table staged deleted standing =
+    leb steps step-limit && (leb (record-bytes T) table && (leb (record-bytes S) staged && (leb (key-bytes D) deleted && leb (stood-numbers room) standing)))
+
+-- "zeroed after 25 and 38 are tested and again at the end, refused or not": to the capacity
+abbrev pub cleared : {A : Type 0} → A → ℕ → List A → List A
+cleared z n l = write 0 (replicate n z) l
+
+-- ---- a trial: 25, then 38, then the run. The buffers are unchanged by 25 and 38, and zero to their capacities otherwise
+module _ (x T S D room : ℕ) (zs : List ℤ) (t s d : List ℕ) (k : List ℤ) where
+  abbrev pub passes : Bool
+  passes = sizes-ok T S D room (length zs) (length t) (length s) (length d) (length k)
+
+  abbrev pub try-of : TriedForks
+  try-of = cond passes (tried x zs T S D room) (Refused 25)
+
+  abbrev pub after : {A : Type 0} → A → ℕ → List A → List A
+  after z n l = cond passes (cond (eqb x 0) l (cleared z n l)) l
+
+  pub record Tries (r : TriedForks) (t′ s′ d′ : List ℕ) (k′ : List ℤ) : Type 0 where
+    pub answer : r ≡ try-of
+    pub table : t′ ≡ after 0 (record-bytes T) t
+    pub staged : s′ ≡ after 0 (record-bytes S) s
+    pub deleted : d′ ≡ after 0 (key-bytes D) d
+    pub standing : k′ ≡ after (pos 0) (stood-numbers room) k

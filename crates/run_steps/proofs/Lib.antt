@@ -1,0 +1,2 @@
+-- Laws and proofs of `run_steps`.
+pub mod StepLaws

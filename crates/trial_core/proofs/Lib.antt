@@ -1,0 +1,2 @@
+-- Values of `trial_core`.
+pub mod SmallTrials

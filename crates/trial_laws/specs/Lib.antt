@@ -1,0 +1,2 @@
+-- The promise of `trial_laws`.
+pub mod Enough

@@ -1,0 +1,62 @@
+-- The step of the call, and the larger numbers.
+use denote.Ref.{now}
+use Rattle.trial_steps.specs.Held.{held}
+use Rattle.trial_steps.proofs.StepLaws.{made-returns}
+use borrow.Author.Needs.{needs}
+use Rattle.trial_steps.proofs.made.Statement.{statement}
+use Rattle.trial_steps.proofs.made.Tie as tie
+
+step-requires : tie.Need-step-requires
+step-requires c κs = search needs
+
+larger-requires : tie.Need-larger-requires
+larger-requires c κs = search needs
+
+larger-requires-2 : tie.Need-larger-requires-2
+larger-requires-2 c κs = search needs
+
+same-length : tie.Need-same-length
+same-length c = search needs
+
+same-length-2 : tie.Need-same-length-2
+same-length-2 c = search needs
+
+same-length-3 : tie.Need-same-length-3
+same-length-3 c = search needs
+
+same-length-4 : tie.Need-same-length-4
+same-length-4 c = search needs
+
+same-length-5 : tie.Need-same-length-5
+same-length-5 c = search needs
+
+same-length-6 : tie.Need-same-length-6
+same-length-6 c = search needs
+
+same-length-7 : tie.Need-same-length-7
+same-length-7 c = search needs
+
+same-length-8 : tie.Need-same-length-8
+same-length-8 c = search needs
+
+returns : tie.Need-returns
+returns c =
+    let a = c .before .before .before .before .before .before .before .before .before .before .before .before .before .before .before .before .before .before .before .before .before .before .before .before .before .before .before .before .before .before .before .before .before .before .before .before .args in
+    made-returns (a .call) (held (a .t) (now (a .ids)) (now (a .numbers)) (now (a .lengths)) (now (a .spills)) (now (a .staged)) (now (a .table)) (now (a .deleted))) _ _ _ (c .before .before .before .before .before .before .before .before .before .before .before .before .before .before .before .before .before .before .before .before .step .ensures) (c .before .larger .ensures) (c .larger2 .ensures)
+
+pub made-spec : {M : Type 1} → statement M
+made-spec =
+    tie.close
+    (tie.spec
+    step-requires
+    larger-requires
+    larger-requires-2
+    same-length
+    same-length-2
+    same-length-3
+    same-length-4
+    same-length-5
+    same-length-6
+    same-length-7
+    same-length-8
+    returns)
