@@ -1,0 +1,1 @@
+// Some rows of the segments table borrowed instead of the whole table. Definitions and laws; no function.
