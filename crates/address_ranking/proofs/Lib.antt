@@ -1,0 +1,3 @@
+-- Laws of the call.
+pub mod RankLaws
+pub mod CheckLaws
