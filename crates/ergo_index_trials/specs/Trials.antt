@@ -5,7 +5,8 @@ use mathlib.Core.List.{List}
 use lib.IntN.{ℤ, pos}
 use Rattle.trial_core.specs.declared.TriedForks.{TriedForks}
 use Rattle.trial_core.specs.declared.TriedForks.the-variants.{Figures, Refused}
-use Rattle.fork_trials.specs.Tries.{record-bytes, key-bytes, stood-numbers, try-of, after}
+use Rattle.trial_buffers.specs.Sizes.{record-bytes, key-bytes, stood-numbers}
+use Rattle.fork_trials.specs.Tries.{try-of, after}
 
 -- the code, and the largest numbers of staged rows and of deleted keys
 pub record TrialOut : Type 0 where

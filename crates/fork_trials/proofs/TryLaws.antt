@@ -8,7 +8,7 @@ use lib.Dec.{eqb, leb}
 use lib.IntN.{ℤ, pos}
 use lib.ListN.{length, take, drop, replicate, length-replicate}
 use lib.Seq.{length-take-le}
-use borrow.Author.Tests.{leb-true, eq-eqb, ne-eqb}
+use borrow.Author.Tests.{leb-true, eqb-true, eqb-false, eq-eqb, ne-eqb}
 use Rattle.records.proofs.CheckLaws.{and-left, and-right}
 use Rattle.stores.specs.Stores.{write}
 use Rattle.buffer_core.specs.Edition.{edition-1}
@@ -20,11 +20,13 @@ use Rattle.trial_core.specs.declared.TriedForks.{TriedForks}
 use Rattle.trial_core.specs.declared.TriedForks.the-variants.{Figures, Refused}
 use Rattle.trial_core.specs.Trial.{neither, Stood, Trial, Going, on, ended, steps-to, zero-state, figures, run-of, tried}
 use Rattle.trial_laws.proofs.Enough.{zero-ready}
-use Rattle.trial_steps.specs.declared.TrialState.{TrialState}
-use Rattle.trial_steps.specs.Held.{standing-of, Held, held-at, held, trial-of, Goes, StandReady}
+use Rattle.standing_calls.specs.declared.TrialState.{TrialState}
+use Rattle.standing_calls.specs.Stands.{standing-of, StandReady}
+use Rattle.trial_buffers.specs.Sizes.{record-bytes, key-bytes, stood-numbers, sizes-ok, refused-by}
+use Rattle.trial_steps.specs.Held.{Held, held-at, held, trial-of, Goes}
 use Rattle.trial_runs.specs.declared.TrialRun.{TrialRun}
 use Rattle.trial_runs.specs.Runs.{RunReady, RunBy}
-use Rattle.fork_trials.specs.Tries.{record-bytes, key-bytes, stood-numbers, sizes-ok, cleared, passes, try-of, Tries}
+use Rattle.fork_trials.specs.Tries.{cleared, passes, try-of, Tries}
 use Rattle.fork_trials.specs.Internal.{start-run, told, Zeroed, Sized, RunsSized}
 
 -- ---- the figures
@@ -73,18 +75,6 @@ module _ (x T S D room : ℕ) (zs : List ℤ) (table staged deleted : List ℕ) 
       (subst (λ (y : TrialRun). RunBy room zs (y .source) (y .blocks) (held (y .state) (replicate 4128 0) (replicate 1153 (pos 0)) (replicate 3 0) (replicate 2 (pos 0)) staged table deleted) standing g′ b′ h′ l′) q R .goes []))
 
 -- ---- zeros
-none-behind : {A : Type 0} (n : ℕ) (l : List A) → length l ≤ n → drop n l ≡ []
-none-behind zero [] h = refl
-none-behind zero (y ∷ l) h = absurd (omega arith)
-none-behind (suc n) [] h = refl
-none-behind (suc n) (y ∷ l) h = none-behind n l (omega arith)
-
-pub write-all : {A : Type 0} (z : A) (l : List A) → write 0 (replicate (length l) z) l ≡ replicate (length l) z
-unfolding write
-write-all z l =
-    ap (λ (k : List _). replicate (length l) z ++ k) (none-behind (0 + length (replicate (length l) z)) l (omega (arith, length-replicate (length l) z)))
-    ∙ append-nil (replicate (length l) z)
-
 -- the front of a list replaced by zeros
 pub front-cleared : {A : Type 0} (z : A) (n : ℕ) (l ys : List A) → ys ≡ replicate n z → ys ++ drop n l ≡ cleared z n l
 unfolding write
@@ -120,6 +110,9 @@ module _ (T S D room steps table staged deleted standing : ℕ) where
       }
 
 -- ---- the answers
+abbrev code-by : Bool → Bool → ℕ
+code-by w v = cond w (cond v 38 0) 25
+
 module _ (x T S D room : ℕ) (zs : List ℤ) (table staged deleted : List ℕ) (standing : List ℤ) where
   abbrev ok : Bool
   ok = passes x T S D room zs table staged deleted standing
@@ -128,7 +121,7 @@ module _ (x T S D room : ℕ) (zs : List ℤ) (table staged deleted : List ℕ) 
     same-25 : {A : Type 0} (z : A) (n : ℕ) (l : List A) → l ≡ cond ok (cond (eqb x 0) l (cleared z n l)) l
     same-25 z n l = λ i. cond (sym p i) (cond (eqb x 0) l (cleared z n l)) l
 
-    pub tries-25 : Tries x T S D room zs table staged deleted standing (Refused 25) table staged deleted standing
+    tries-25 : Tries x T S D room zs table staged deleted standing (Refused 25) table staged deleted standing
     tries-25 =
         record {
           answer = λ i. cond (sym p i) (tried x zs T S D room) (Refused 25);
@@ -142,7 +135,7 @@ module _ (x T S D room : ℕ) (zs : List ℤ) (table staged deleted : List ℕ) 
     same-38 : {A : Type 0} (z : A) (n : ℕ) (l : List A) → l ≡ cond ok (cond (eqb x 0) l (cleared z n l)) l
     same-38 z n l = let v = eq-eqb x 0 q in λ i. cond (sym p i) (cond (sym v i) l (cleared z n l)) l
 
-    pub tries-38 : Tries x T S D room zs table staged deleted standing (Refused 38) table staged deleted standing
+    tries-38 : Tries x T S D room zs table staged deleted standing (Refused 38) table staged deleted standing
     unfolding tried
     tries-38 =
         let v = eq-eqb x 0 q in
@@ -158,7 +151,7 @@ module _ (x T S D room : ℕ) (zs : List ℤ) (table staged deleted : List ℕ) 
     zeroed-by : {A : Type 0} (z : A) (n : ℕ) (l ys : List A) → ys ≡ replicate n z → ys ++ drop n l ≡ cond ok (cond (eqb x 0) l (cleared z n l)) l
     zeroed-by z n l ys e = front-cleared z n l ys e ∙ (let v = ne-eqb x 0 q in λ i. cond (sym p i) (cond (sym v i) l (cleared z n l)) l)
 
-    pub tries-run : (r : TriedForks) (t s d : List ℕ) (k : List ℤ) → RunsSized x T S D room zs r t s d k
+    tries-run : (r : TriedForks) (t s d : List ℕ) (k : List ℤ) → RunsSized x T S D room zs r t s d k
         → Tries x T S D room zs table staged deleted standing r (t ++ drop (record-bytes T) table) (s ++ drop (record-bytes S) staged) (d ++ drop (key-bytes D) deleted) (k ++ drop (stood-numbers room) standing)
     unfolding tried
     tries-run r t s d k R =
@@ -170,8 +163,37 @@ module _ (x T S D room : ℕ) (zs : List ℤ) (table staged deleted : List ℕ) 
           standing = zeroed-by (pos 0) (stood-numbers room) standing k (R .standing);
         }
 
-  pub fits-passed : ok ≡ true → Fits T S D room (length zs) (length table) (length staged) (length deleted) (length standing)
-  fits-passed = fits-when T S D room (length zs) (length table) (length staged) (length deleted) (length standing)
+  -- turned away
+  pub tries-refused : (k : ℕ) → k ≡ refused-by x ok → (k ≡ 0 → ⊥) → Tries x T S D room zs table staged deleted standing (Refused k) table staged deleted standing
+  tries-refused k e n = subst (λ (j : ℕ). Tries x T S D room zs table staged deleted standing (Refused j) table staged deleted standing) (sym e) (by ok (eqb x 0) refl refl (λ z. n (e ∙ z)))
+    where
+      by : (w v : Bool) → ok ≡ w → eqb x 0 ≡ v → (code-by w v ≡ 0 → ⊥) → Tries x T S D room zs table staged deleted standing (Refused (code-by w v)) table staged deleted standing
+      by true true p q n = tries-38 p (eqb-true x 0 q)
+      by true false p q n = absurd (n refl)
+      by false v p q n = tries-25 p
+
+  module _ (k : ℕ) (e : k ≡ refused-by x ok) (z : k ≡ 0) where
+    accepted : ok ≡ true
+    accepted = by ok (eqb x 0) (sym e ∙ z)
+      where
+        by : (w v : Bool) → code-by w v ≡ 0 → w ≡ true
+        by true v h = refl
+        by false v h = absurd (omega (arith, h))
+
+    state-not-0 : x ≡ 0 → ⊥
+    state-not-0 = eqb-false x 0 (by ok (eqb x 0) (sym e ∙ z))
+      where
+        by : (w v : Bool) → code-by w v ≡ 0 → v ≡ false
+        by true true h = absurd (omega (arith, h))
+        by true false h = refl
+        by false v h = absurd (omega (arith, h))
+
+    pub started-fits : Fits T S D room (length zs) (length table) (length staged) (length deleted) (length standing)
+    started-fits = fits-when T S D room (length zs) (length table) (length staged) (length deleted) (length standing) accepted
+
+    pub tries-started : (r : TriedForks) (t s d : List ℕ) (y : List ℤ) → RunsSized x T S D room zs r t s d y
+        → Tries x T S D room zs table staged deleted standing r (t ++ drop (record-bytes T) table) (s ++ drop (record-bytes S) staged) (d ++ drop (key-bytes D) deleted) (y ++ drop (stood-numbers room) standing)
+    tries-started = tries-run accepted state-not-0
 
   pub sized-front : Fits T S D room (length zs) (length table) (length staged) (length deleted) (length standing)
       → Sized T S D room zs (take (record-bytes T) table) (take (record-bytes S) staged) (take (key-bytes D) deleted) (take (stood-numbers room) standing)
@@ -183,22 +205,6 @@ module _ (x T S D room : ℕ) (zs : List ℤ) (table staged deleted : List ℕ) 
         deleted = length-take-le (key-bytes D) deleted (f .deleted);
         standing = length-take-le (stood-numbers room) standing (f .standing);
       }
-
--- ---- the tests of 25 one after the other
-pub all-on : {a b c d r : Bool} (f : Bool) → a ≡ true → b ≡ true → c ≡ true → d ≡ true → r ≡ f → r ≡ a && (b && (c && (d && f)))
-all-on f p q s t e = e ∙ (λ i. sym p i && (sym q i && (sym s i && (sym t i && f))))
-
-pub last-off : {a b c d : Bool} (f : Bool) → a ≡ true → b ≡ true → c ≡ true → d ≡ false → false ≡ a && (b && (c && (d && f)))
-last-off f p q s t = λ i. sym p i && (sym q i && (sym s i && (sym t i && f)))
-
-pub third-off : {a b c : Bool} (d f : Bool) → a ≡ true → b ≡ true → c ≡ false → false ≡ a && (b && (c && (d && f)))
-third-off d f p q s = λ i. sym p i && (sym q i && (sym s i && (d && f)))
-
-pub second-off : {a b : Bool} (c d f : Bool) → a ≡ true → b ≡ false → false ≡ a && (b && (c && (d && f)))
-second-off c d f p q = λ i. sym p i && (sym q i && (c && (d && f)))
-
-pub first-off : {a : Bool} (b c d f : Bool) → a ≡ false → false ≡ a && (b && (c && (d && f)))
-first-off b c d f p = λ i. sym p i && (b && (c && (d && f)))
 
 -- ---- what a trial came to
 pub told-figures : (t : TrialState) → t .end ≡ 0 → Figures (t .staged) (t .deleted) ≡ told t

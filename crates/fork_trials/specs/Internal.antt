@@ -11,10 +11,10 @@ use Rattle.call_steps.specs.Steps.{spill-counts}
 use Rattle.trial_core.specs.declared.TriedForks.{TriedForks}
 use Rattle.trial_core.specs.declared.TriedForks.the-variants.{Figures, Refused}
 use Rattle.trial_core.specs.Trial.{step-limit, figures, run-of}
-use Rattle.trial_steps.specs.declared.Side.the-variants.{Neither}
-use Rattle.trial_steps.specs.declared.TrialState.{TrialState}
+use Rattle.standing_calls.specs.declared.Side.the-variants.{Neither}
+use Rattle.standing_calls.specs.declared.TrialState.{TrialState}
 use Rattle.trial_runs.specs.declared.TrialRun.{TrialRun}
-use Rattle.fork_trials.specs.Tries.{record-bytes, key-bytes, stood-numbers}
+use Rattle.trial_buffers.specs.Sizes.{record-bytes, key-bytes, stood-numbers}
 
 -- ---- the start, and the two figures
 abbrev pub start-run : (x T S D : ℕ) → TrialRun

@@ -1,31 +1,16 @@
 -- A trial of staging sizes with made-up forks (document 02, U12), with 25 and over borrowed buffers.
-use Prim.Native.Nat.{ℕ, _*_}
+use Prim.Native.Nat.{ℕ}
 use mathlib.Core.Path.{_≡_}
-use mathlib.Core.Bool.{Bool, cond, _&&_}
+use mathlib.Core.Bool.{Bool, cond}
 use mathlib.Core.List.{List}
-use lib.Dec.{eqb, leb}
+use lib.Dec.{eqb}
 use lib.IntN.{ℤ, pos}
 use lib.ListN.{length, replicate}
 use Rattle.stores.specs.Stores.{write}
-use Rattle.buffer_core.specs.Edition.{edition-1}
 use Rattle.trial_core.specs.declared.TriedForks.{TriedForks}
 use Rattle.trial_core.specs.declared.TriedForks.the-variants.{Refused}
-use Rattle.trial_core.specs.Trial.{step-limit, tried}
-
--- the bytes of so many records, and of so many keys, and the numbers of so many standing calls
-abbrev pub record-bytes : ℕ → ℕ
-record-bytes n = n * edition-1 .size
-
-abbrev pub key-bytes : ℕ → ℕ
-key-bytes n = n * 32
-
-abbrev pub stood-numbers : ℕ → ℕ
-stood-numbers n = n * 3
-
--- "25 above that", or "a lent buffer too short for its stated capacity": by the lengths
-abbrev pub sizes-ok : (T S D room steps table staged deleted standing : ℕ) → Bool
-sizes-ok T S D room steps table staged deleted standing =
-    leb steps step-limit && (leb (record-bytes T) table && (leb (record-bytes S) staged && (leb (key-bytes D) deleted && leb (stood-numbers room) standing)))
+use Rattle.trial_core.specs.Trial.{tried}
+use Rattle.trial_buffers.specs.Sizes.{record-bytes, key-bytes, stood-numbers, sizes-ok}
 
 -- "zeroed after 25 and 38 are tested and again at the end, refused or not": to the capacity
 abbrev pub cleared : {A : Type 0} → A → ℕ → List A → List A

@@ -1,26 +1,15 @@
 // Trying staging sizes with made-up forks (document 02, U12): how many staged rows and deleted keys a run of generated blocks and forks needs at any one time.
 ghost use mathlib.Core.Path.{_≡_};
-ghost use Prim.Native.Nat.{_*_, _<_};
-ghost use lib.Dec.{leb};
-ghost use lib.IntN.{pos};
-ghost use lib.ListN.{length, replicate};
 ghost use Rattle.trial_core.specs.Trial.{figures, run-of};
-ghost use Rattle.fork_trials.specs.Tries.{Tries, sizes-ok};
+ghost use Rattle.fork_trials.specs.Tries.{Tries};
 ghost use Rattle.fork_trials.specs.Internal.{Zeroed, Sized, RunsSized, start-run, told};
 use index_types::ListCounts;
 use index_types::SpillCounts;
 use load_core::Source;
+use standing_calls::Side;
+use standing_calls::TrialState;
 use trial_core::TriedForks;
 use trial_runs::TrialRun;
-use trial_steps::Side;
-use trial_steps::TrialState;
-
-// The most steps of a trial, the bytes of a key, and the numbers of a standing call.
-const STEP_LIMIT: usize = 4096;
-
-const KEY: usize = 32;
-
-const STOOD: usize = 3;
 
 // Where a trial starts.
 fn start_run(
@@ -116,30 +105,6 @@ fn run_zeroed(
     told(state)
 }
 
-fn zero_bytes(dst: &mut [u8])
-    ensures { λ _. ⌜ now (dst .exit) ≡ replicate (length (now (dst .entry))) 0 ⌝ }
-{
-    let n = dst.len();
-    stores::clear_bytes(dst, 0, n);
-}
-
-fn zero_numbers(dst: &mut [i64])
-    ensures { λ _. ⌜ now (dst .exit) ≡ replicate (length (now (dst .entry))) (pos 0) ⌝ }
-{
-    let n = dst.len();
-    stores::clear_numbers(dst, 0, n);
-}
-
-fn zero_all(table: &mut [u8], staged: &mut [u8], deleted: &mut [u8], standing: &mut [i64])
-    ensures { λ _. ⌜ (now (table .exit) ≡ replicate (length (now (table .entry))) 0) × (now (staged .exit) ≡ replicate (length (now (staged .entry))) 0)
-        × (now (deleted .exit) ≡ replicate (length (now (deleted .entry))) 0) × (now (standing .exit) ≡ replicate (length (now (standing .entry))) (pos 0)) ⌝ }
-{
-    zero_bytes(table);
-    zero_bytes(staged);
-    zero_bytes(deleted);
-    zero_numbers(standing);
-}
-
 // The run, over working buffers of just their capacities, which are zero before it and after it.
 fn run_sized(
     x: u64,
@@ -156,7 +121,7 @@ fn run_sized(
     requires { ⌜ Sized «table_capacity» «staged_capacity» «deleted_capacity» room (now steps) (now table) (now staged) (now deleted) (now standing) ⌝ }
     ensures { λ r. ⌜ RunsSized x «table_capacity» «staged_capacity» «deleted_capacity» room (now (steps .entry)) r (now (table .exit)) (now (staged .exit)) (now (deleted .exit)) (now (standing .exit)) ⌝ }
 {
-    zero_all(table, staged, deleted, standing);
+    trial_buffers::zero_all(table, staged, deleted, standing);
     let r = run_zeroed(
         x,
         steps,
@@ -169,42 +134,8 @@ fn run_sized(
         deleted,
         standing,
     );
-    zero_all(table, staged, deleted, standing);
+    trial_buffers::zero_all(table, staged, deleted, standing);
     r
-}
-
-// ---- refusal 25
-
-fn fits(capacity: usize, size: usize, length: usize) -> bool
-    requires { ⌜ 0 < size ⌝ }
-    ensures { λ r. ⌜ r ≡ leb (capacity * size) length ⌝ }
-{
-    capacity <= length / size
-}
-
-fn sizes_ok(
-    steps: usize,
-    table_capacity: usize,
-    table: usize,
-    staged_capacity: usize,
-    staged: usize,
-    deleted_capacity: usize,
-    deleted: usize,
-    room: usize,
-    standing: usize,
-) -> bool
-    ensures { λ r. ⌜ r ≡ sizes-ok «table_capacity» «staged_capacity» «deleted_capacity» room steps table staged deleted standing ⌝ }
-{
-    if steps <= STEP_LIMIT {
-        if fits(table_capacity, buffer_core::RECORD, table) {
-            if fits(staged_capacity, buffer_core::RECORD, staged) {
-                if fits(deleted_capacity, KEY, deleted) {
-                    return fits(room, STOOD, standing);
-                }
-            }
-        }
-    }
-    false
 }
 
 // Tries staging sizes: n for a block of n generated calls, -d for a fork of d blocks. Once 25 and 38 are tested the working buffers are zeroed to their
@@ -224,7 +155,8 @@ pub fn try_forks(
     ensures { λ r. ⌜ Tries state «table_capacity» «staged_capacity» «deleted_capacity» «standing_capacity» (now (steps .entry)) (now (table .entry)) (now (staged .entry)) (now (deleted .entry)) (now (standing .entry))
         r (now (table .exit)) (now (staged .exit)) (now (deleted .exit)) (now (standing .exit)) ⌝ }
 {
-    let ok = sizes_ok(
+    let code = trial_buffers::refused(
+        state,
         steps.len(),
         table_capacity,
         table.len(),
@@ -235,14 +167,11 @@ pub fn try_forks(
         standing_capacity,
         standing.len(),
     );
-    if ok {
-        if state == 0 {
-            return TriedForks::Refused(refusal::STATE_IS_ZERO);
-        }
+    if code == 0 {
         let t = table_capacity * buffer_core::RECORD;
         let s = staged_capacity * buffer_core::RECORD;
-        let d = deleted_capacity * KEY;
-        let n = standing_capacity * STOOD;
+        let d = deleted_capacity * trial_buffers::KEY;
+        let n = standing_capacity * trial_core::STOOD;
         return run_sized(
             state,
             steps,
@@ -256,5 +185,5 @@ pub fn try_forks(
             &mut standing[..n],
         );
     }
-    TriedForks::Refused(refusal::BUFFERS)
+    TriedForks::Refused(code)
 }

@@ -36,15 +36,15 @@ module _ (room S D : ℕ) where
   OnBounded (on s) = Bounded s
   OnBounded (ended k) = Unit {0}
 
-  on-cond : (w : Bool) (G G′ : Going) → OnBounded G → OnBounded G′ → OnBounded (cond w G G′)
+  pub on-cond : (w : Bool) (G G′ : Going) → OnBounded G → OnBounded G′ → OnBounded (cond w G G′)
   on-cond true G G′ p q = p
   on-cond false G G′ p q = q
 
-  on-then : (G : Going) (g : Trial → Going) → OnBounded G → ((u : Trial) → Bounded u → OnBounded (g u)) → OnBounded (then G g)
+  pub on-then : (G : Going) (g : Trial → Going) → OnBounded G → ((u : Trial) → Bounded u → OnBounded (g u)) → OnBounded (then G g)
   on-then (on u) g h k = k u h
   on-then (ended k) g h r = tt
 
-  made-bounded : (x : Call) → Among 1 x → (u : Trial) → Bounded u → Bounded (made edition-1 room x u)
+  pub made-bounded : (x : Call) → Among 1 x → (u : Trial) → Bounded u → Bounded (made edition-1 room x u)
   made-bounded x m u I =
       let r = step-kept 1 (u .now) (I .ready) x m in
       let k = call-kept edition-1 x (u .now) in
@@ -61,14 +61,14 @@ module _ (room S D : ℕ) where
   taken-bounded : (x : Call) → Among 1 x → (u : Trial) → Bounded u → OnBounded (cond (eqb (code-of edition-1 room x u) 0) (on (made edition-1 room x u)) (ended (code-of edition-1 room x u)))
   taken-bounded x m u I = on-cond (eqb (code-of edition-1 room x u) 0) (on (made edition-1 room x u)) (ended (code-of edition-1 room x u)) (made-bounded x m u I) tt
 
-  flush-bounded : (u : Trial) → Bounded u → OnBounded (flushing edition-1 room u)
+  pub flush-bounded : (u : Trial) → Bounded u → OnBounded (flushing edition-1 room u)
   unfolding flushing
   flush-bounded u I = taken-bounded Flush tt u I
 
   set-side : (d : Side) (u : Trial) → Bounded u → Bounded (with-side d u)
   set-side d u I = record { ready = I .ready; plain = I .plain; staged-at = I .staged-at; deleted-at = I .deleted-at; staged = I .staged; deleted = I .deleted }
 
-  change-bounded : (d : Side) (u : Trial) → Bounded u → OnBounded (change-to edition-1 room d u)
+  pub change-bounded : (d : Side) (u : Trial) → Bounded u → OnBounded (change-to edition-1 room d u)
   unfolding change-to
   change-bounded d u I = on-then (cond (changes edition-1 room (u .side) d) (flushing edition-1 room u) (on u)) (λ t. on (with-side d t))
       (on-cond (changes edition-1 room (u .side) d) (flushing edition-1 room u) (on u) (flush-bounded u I) I) (λ t J. set-side d t J)
@@ -83,7 +83,7 @@ module _ (room S D : ℕ) where
       (record { ready = J .ready; plain = (h, J .plain); staged-at = J .staged-at; deleted-at = J .deleted-at; staged = J .staged; deleted = J .deleted }) tt)
       (on-cond (ends-run edition-1 room (code-of edition-1 room c u)) (ended (code-of edition-1 room c u)) (on M) tt J)
 
-  make-bounded : (c : Call) → Drawable room S D c → (u : Trial) → Bounded u → OnBounded (make edition-1 room c u)
+  pub make-bounded : (c : Call) → Drawable room S D c → (u : Trial) → Bounded u → OnBounded (make edition-1 room c u)
   make-bounded (Append k p z) h u I = on-then (change-to edition-1 room called u) (calling edition-1 room (Append k p z)) (change-bounded called u I) (call-bounded (Append k p z) h)
   make-bounded (Flip d p z) h u I = on-then (change-to edition-1 room called u) (calling edition-1 room (Flip d p z)) (change-bounded called u I) (call-bounded (Flip d p z) h)
   make-bounded (Pop k p) h u I = absurd h
@@ -93,7 +93,7 @@ module _ (room S D : ℕ) where
   make-bounded Cut h u I = absurd h
   make-bounded End h u I = absurd h
 
-  block-bounded : (n : ℕ) (u : Trial) → Bounded u → OnBounded (block-of edition-1 room n u)
+  pub block-bounded : (n : ℕ) (u : Trial) → Bounded u → OnBounded (block-of edition-1 room n u)
   unfolding block-of
   block-bounded zero u I = I
   block-bounded (suc n) u I =
@@ -101,7 +101,7 @@ module _ (room S D : ℕ) where
       (make-bounded (draws (u .gen) .call) (draws-drawable room S D (u .gen)) (with-gen (draws (u .gen) .next) u)
       (record { ready = I .ready; plain = I .plain; staged-at = I .staged-at; deleted-at = I .deleted-at; staged = I .staged; deleted = I .deleted })) (block-bounded n)
 
-  undo-bounded : (c : Call) → Plain room S D c → (u : Trial) → Bounded u → OnBounded (undoing edition-1 room c u)
+  pub undo-bounded : (c : Call) → Plain room S D c → (u : Trial) → Bounded u → OnBounded (undoing edition-1 room c u)
   unfolding undoing
   undo-bounded (Append k p z) h u I = taken-bounded (Pop k p) (omega arith) u I
   undo-bounded (Flip d p z) h u I = taken-bounded (Flip Unspend p z) (omega arith) u I
@@ -112,7 +112,7 @@ module _ (room S D : ℕ) where
   undo-bounded Cut h u I = absurd h
   undo-bounded End h u I = absurd h
 
-  back-bounded : (n : ℕ) (l : List Stood) → PlainAll room S D l → (u : Trial) → Bounded u → OnBounded (back-to edition-1 room n l u)
+  pub back-bounded : (n : ℕ) (l : List Stood) → PlainAll room S D l → (u : Trial) → Bounded u → OnBounded (back-to edition-1 room n l u)
   unfolding back-to
   back-bounded n [] h u I = I
   back-bounded n (x ∷ l) h u I =
@@ -130,7 +130,7 @@ module _ (room S D : ℕ) where
       on-cond (leb d 720 && leb d (u .blocks)) (then (back-to edition-1 room (u .blocks - d) (u .standing) u) (λ t. on (with-blocks (u .blocks - d) t))) (ended 39)
       (on-then (back-to edition-1 room (u .blocks - d) (u .standing) u) (λ t. on (with-blocks (u .blocks - d) t)) (back-bounded (u .blocks - d) (u .standing) (I .plain) u I) (λ t J. set-blocks (u .blocks - d) t J)) tt
 
-  step-bounded : (z : ℤ) (u : Trial) → Bounded u → OnBounded (step-to edition-1 room z u)
+  pub step-bounded : (z : ℤ) (u : Trial) → Bounded u → OnBounded (step-to edition-1 room z u)
   step-bounded (pos n) u I = on-then (block-of edition-1 room n u) (λ t. on (with-blocks (t .blocks + 1) t)) (block-bounded n u I) (λ t J. set-blocks (t .blocks + 1) t J)
   step-bounded (negsuc d) u I = fork-bounded (suc d) u I
 

@@ -45,7 +45,7 @@ near-start size limit a S S′ h g =
     zeros j n k = take-replicate j n k
 
 module _ (x T S D S′ D′ room a e : ℕ) (hS : a ≤ S) (hS′ : a ≤ S′) (hD : e ≤ D) (hD′ : e ≤ D′) where
-  start-rel : Ready 1 (start x T S D .now) → Alike room a e (start x T S D) (start x T S′ D′)
+  pub start-rel : Ready 1 (start x T S D .now) → Alike room a e (start x T S D) (start x T S′ D′)
   start-rel ready = record {
     now = record {
       ids = refl;
@@ -113,7 +113,7 @@ from-figures x T S D room zs a b S′ D′ h g (on u) q e =
     let y = enough-from x T S D S′ D′ room a b (omega (arith, I .staged, p)) h (omega (arith, I .deleted, r)) g ready zs u q (omega arith) (omega arith) in
     (ap figures (y .1) ∙ (λ i. Figures (sym (y .2) i) (sym (y .3) i)) ∙ e, ap answers-of (y .1) ∙ sym (y .4))
 
-by-state : (w : Bool) (G : Going) (a b : ℕ) → cond w (Refused 38) (figures G) ≡ Figures a b → (w ≡ false) × (figures G ≡ Figures a b)
+pub by-state : (w : Bool) (G : Going) (a b : ℕ) → cond w (Refused 38) (figures G) ≡ Figures a b → (w ≡ false) × (figures G ≡ Figures a b)
 by-state true G a b e = absurd (let z : _≡_ {A = ℕ} 0 1 = cc in omega arith)
 by-state false G a b e = (refl, e)
 

@@ -8,3 +8,4 @@ pub mod Capacities
 pub mod Parts
 pub mod Bounds
 pub mod Enough
+pub mod Short

@@ -89,7 +89,7 @@ module _ (room a e : ℕ) where
   follow-then (on u) G′ g F P = follow-on u G′ g (g u) refl (P .grows u) F P
   follow-then (ended k) G′ g F P = tt
 
-  part-then : (f g : Trial → Going) → Part f → Part g → Part (λ s. then (f s) g)
+  pub part-then : (f g : Trial → Going) → Part f → Part g → Part (λ s. then (f s) g)
   part-then f g P Q = record {
     grows = λ u. grow-then u (f u) g (P .grows u) Q;
     follows = λ u v R. follow-then (f u) (f v) g (P .follows u v R) Q;
@@ -109,11 +109,11 @@ module _ (room a e : ℕ) where
     );
   }
 
-  with-gen-rel : (g : Source) (u v : Trial) → Alike u v → Alike (with-gen g u) (with-gen g v)
+  pub with-gen-rel : (g : Source) (u v : Trial) → Alike u v → Alike (with-gen g u) (with-gen g v)
   with-gen-rel g u v R = record { now = R .now; ready = R .ready; plain = R .plain; gen = refl; standing = R .standing; blocks = R .blocks; side = R .side; staged = R .staged; deleted = R .deleted; answers = R .answers }
 
   -- ---- a call
-  made-rel : (x : Call) → OfForks E a e x → Among 1 x → (u v : Trial) → Alike u v → code-of E room x u ≢ 16 → code-of E room x u ≢ 21 → made E room x u .staged ≤ a → made E room x u .deleted ≤ e
+  pub made-rel : (x : Call) → OfForks E a e x → Among 1 x → (u v : Trial) → Alike u v → code-of E room x u ≢ 16 → code-of E room x u ≢ 21 → made E room x u .staged ≤ a → made E room x u .deleted ≤ e
       → (code-of E room x u ≡ code-of E room x v) × Alike (made E room x u) (made E room x v)
   made-rel x o m u v R h16 h21 p q =
       let X = step-of E x (u .now) in
@@ -167,7 +167,7 @@ module _ (room a e : ℕ) where
   part-flush = part-taken Flush tt tt
 
   -- ---- the flush at a change
-  side-by : (d : Side) → Part (λ s. cond (changes E room (s .side) d) (flushing E room s) (on s))
+  pub side-by : (d : Side) → Part (λ s. cond (changes E room (s .side) d) (flushing E room s) (on s))
   side-by d = record { grows = λ u. g u (changes E room (u .side) d); follows = λ u v R. subst (λ (x : Side). Follows (cond (changes E room (u .side) d) (flushing E room u) (on u)) (cond (changes E room x d) (flushing E room v) (on v))) (R .side) (f u v R (changes E room (u .side) d)) }
     where
       g : (u : Trial) (w : Bool) → Grows u (cond w (flushing E room u) (on u))
@@ -178,7 +178,7 @@ module _ (room a e : ℕ) where
       f u v R true = part-flush .follows u v R
       f u v R false = λ p q. (v, refl, R)
 
-  part-change : (d : Side) → Part (change-to E room d)
+  pub part-change : (d : Side) → Part (change-to E room d)
   unfolding change-to
   part-change d = part-then (λ s. cond (changes E room (s .side) d) (flushing E room s) (on s)) (λ t. on (with-side d t)) (side-by d) (part-side d)
 
@@ -197,7 +197,7 @@ module _ (room a e : ℕ) where
   call-grows c u false true = tt
   call-grows c u false false = made-grows c u
 
-  forks-of : (c : Call) → Plain c → OfForks E a e c
+  pub forks-of : (c : Call) → Plain c → OfForks E a e c
   forks-of (Append k p z) h = tt
   forks-of (Flip d p z) h = tt
   forks-of (Pop k p) h = absurd h
@@ -315,27 +315,27 @@ module _ (room a e : ℕ) where
   part-make Cut h = absurd h
   part-make End h = absurd h
 
-  abbrev draws-one : Trial → Going
+  abbrev pub draws-one : Trial → Going
   draws-one s = make E room (draws (s .gen) .call) (with-gen (draws (s .gen) .next) s)
 
   gen-grows : (g : Source) (u : Trial) (G : Going) → Grows (with-gen g u) G → Grows u G
   gen-grows g u (on w) h = h
   gen-grows g u (ended k) h = tt
 
-  part-draws : Part draws-one
+  pub part-draws : Part draws-one
   part-draws = record {
     grows = λ u. gen-grows (draws (u .gen) .next) u (draws-one u) (part-make (draws (u .gen) .call) (draws-drawable (u .gen)) .grows (with-gen (draws (u .gen) .next) u));
     follows = λ u v R. subst (λ (g : Source). Follows (draws-one u) (make E room (draws g .call) (with-gen (draws g .next) v))) (R .gen)
         (part-make (draws (u .gen) .call) (draws-drawable (u .gen)) .follows (with-gen (draws (u .gen) .next) u) (with-gen (draws (u .gen) .next) v) (with-gen-rel (draws (u .gen) .next) u v R));
   }
 
-  part-block : (n : ℕ) → Part (block-of E room n)
+  pub part-block : (n : ℕ) → Part (block-of E room n)
   unfolding block-of
   part-block zero = part-on
   part-block (suc n) = part-then draws-one (block-of E room n) part-draws (part-block n)
 
   -- ---- forks
-  part-undoing : (c : Call) → Plain c → Part (undoing E room c)
+  pub part-undoing : (c : Call) → Plain c → Part (undoing E room c)
   unfolding undoing
   part-undoing (Append k p z) h = part-taken (Pop k p) tt (omega arith)
   part-undoing (Flip d p z) h = part-taken (Flip Unspend p z) tt (omega arith)
@@ -360,7 +360,7 @@ module _ (room a e : ℕ) where
   part-if true f P = P
   part-if false f P = part-on
 
-  part-back : (n : ℕ) (l : List Stood) → PlainAll l → Part (back-to E room n l)
+  pub part-back : (n : ℕ) (l : List Stood) → PlainAll l → Part (back-to E room n l)
   unfolding back-to
   part-back n [] h = part-on
   part-back n (x ∷ l) h =
@@ -431,7 +431,7 @@ module _ (room a e : ℕ) where
     );
   }
 
-  part-step : (z : ℤ) → Part (step-to E room z)
+  pub part-step : (z : ℤ) → Part (step-to E room z)
   part-step (pos n) = part-then (block-of E room n) (λ t. on (with-blocks (t .blocks + 1) t)) (part-block n) more-blocks
   part-step (negsuc d) = part-fork (suc d)
 

@@ -1,9 +1,10 @@
 -- What the two figures of a trial are worth (document 02, U12).
-use Prim.Native.Nat.{ℕ, _≤_}
+use Prim.Native.Nat.{ℕ, _≤_, _<_}
 use mathlib.Core.Path.{_≡_}
+use mathlib.Core.Logic.{_⊎_}
 use mathlib.Core.List.{List, []}
 use lib.IntN.{ℤ}
-use Rattle.trial_core.specs.declared.TriedForks.the-variants.{Figures}
+use Rattle.trial_core.specs.declared.TriedForks.the-variants.{Figures, Refused}
 use Rattle.trial_core.specs.Trial.{Going, on, ended, run-of, tried}
 
 -- what each call, undo and flush of a trial answered, the newest first
@@ -27,3 +28,8 @@ Exact = (x : ℕ) (zs : List ℤ) (T S D room a b : ℕ) → tried x zs T S D ro
 -- with one record or one key less than the figures say, a trial gives none
 abbrev pub Least : Type 0
 Least = (x : ℕ) (zs : List ℤ) (T S D room a b : ℕ) → tried x zs T S D room ≡ Figures a b → (S′ D′ a′ b′ : ℕ) → tried x zs T S′ D′ room ≡ Figures a′ b′ → (a ≤ S′) × (b ≤ D′)
+
+-- but it ends by 16 or by 21
+abbrev pub Short : Type 0
+Short = (x : ℕ) (zs : List ℤ) (T S D room a b : ℕ) → tried x zs T S D room ≡ Figures a b → (S′ D′ : ℕ) → (S′ < a) ⊎ (D′ < b)
+    → (tried x zs T S′ D′ room ≡ Refused 16) ⊎ (tried x zs T S′ D′ room ≡ Refused 21)

@@ -4,10 +4,10 @@ use mathlib.Core.Path.{_≡_, refl, sym, ap, _∙_, subst}
 use mathlib.Core.Bool.{Bool, true, false, cond}
 use mathlib.Core.List.{List, [], _∷_}
 use native.Mathlib.Omega.{arith}
-use lib.Dec.{leb}
-use lib.IntN.{ℤ, pos, natAbs}
-use lib.ListN.{length, getD}
-use borrow.Author.Tests.{le-leb, lt-leb}
+use lib.Dec.{leb, ltb}
+use lib.IntN.{ℤ}
+use lib.ListN.{length}
+use borrow.Author.Tests.{le-leb, lt-leb, ltb-true, ltb-false}
 use Rattle.buffer_core.specs.Edition.{edition-1}
 use Rattle.calls.specs.declared.Call.{Call}
 use Rattle.call_steps.specs.State.{State, Ready}
@@ -16,7 +16,8 @@ use Rattle.load_core.specs.declared.Drawn.{Drawn}
 use Rattle.load_core.specs.Draw.{draws}
 use Rattle.load_core.proofs.DrawLaws.{drawn-is}
 use Rattle.trial_core.specs.Trial.{Stood, Trial, Going, on, then, make, change-to, undid, undoing, with-standing, block-of, back-to}
-use Rattle.trial_steps.specs.Held.{stood-at, standing-of, Drawable, Held, trial-of, Goes, StandReady, MakeReady, MakesBy, UndoReady, UndoesBy}
+use Rattle.standing_calls.specs.Stands.{number-limit, stood-at, standing-of, StandReady}
+use Rattle.trial_steps.specs.Held.{Drawable, Held, trial-of, Goes, MakeReady, MakesBy, UndoReady, UndoesBy}
 use Rattle.trial_steps.proofs.StepLaws.{goes-ready, goes-on, goes-ended}
 use Rattle.trial_runs.specs.Runs.{Countable, Grown, BlockReady, BlockBy, ForkReady, ForkBy}
 
@@ -61,7 +62,7 @@ module _ (n room b : ℕ) (g₀ : Source) (h₀ : Held) (l₀ : List ℤ) where
       }
 
   module _ (sizes : Type 0) (left : ℕ) (g : Source) (h : Held) (l : List ℤ) (K : BlockKept sizes n room b left g₀ h₀ l₀ g h l) where
-    pub block-counts : 0 < left → (g .boxes < 9223372036854775808) × (g .txs < 9223372036854775808)
+    pub block-counts : 0 < left → (g .boxes < number-limit) × (g .txs < number-limit)
     block-counts p = (omega (arith, K .grown .boxes, K .countable .boxes, K .within), omega (arith, K .grown .txs, K .countable .txs, K .within))
 
     pub block-ready : (r : Drawn) → r ≡ draws g → MakeReady room b (r .call) (h .stood) l (h .now)
@@ -173,9 +174,16 @@ module _ (lowest : ℕ) (l : List ℤ) (h₀ : Held) where
     abbrev N : List Stood
     N = standing-of (h .stood) l
 
-    -- the block of the newest standing call, as it is read
-    pub newest-block : (n : ℕ) → n ≡ natAbs (getD l ((left - 1) * 3 + 2) (pos 0)) → n ≡ stood-at (h .stood - 1) l .block
-    newest-block n e = e ∙ ap (λ (j : ℕ). natAbs (getD l ((j - 1) * 3 + 2) (pos 0))) (K .counted)
+    -- the block of the newest standing call, as it is tested
+    module _ (w : Bool) (e : w ≡ ltb (stood-at (left - 1) l .block) lowest) where
+      newest : ltb (stood-at (h .stood - 1) l .block) lowest ≡ w
+      newest = sym (e ∙ ap (λ (j : ℕ). ltb (stood-at (j - 1) l .block) lowest) (K .counted))
+
+      pub newest-earlier : w ≡ true → stood-at (h .stood - 1) l .block < lowest
+      newest-earlier t = ltb-true (stood-at (h .stood - 1) l .block) lowest (newest ∙ t)
+
+      pub newest-undone : w ≡ false → lowest ≤ stood-at (h .stood - 1) l .block
+      newest-undone t = ltb-false (stood-at (h .stood - 1) l .block) lowest (newest ∙ t)
 
     module _ (p : 0 < left) where
       abbrev x : Stood

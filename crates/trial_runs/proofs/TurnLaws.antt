@@ -10,24 +10,17 @@ use lib.IntN.{ℤ, pos, negsuc, natAbs}
 use lib.ListN.{length, drop, getD, length-drop}
 use lib.Seq.{drop-cons}
 use lib.Signed.{mag}
-use borrow.Author.Tests.{leb-true, le-leb, lt-leb}
+use borrow.Author.Tests.{leb-true}
 use Rattle.records.proofs.CheckLaws.{and-right}
 use Rattle.signed.specs.Sign.{is-negative}
 use Rattle.buffer_core.specs.Edition.{edition-1}
 use Rattle.call_steps.specs.State.{State, Ready}
 use Rattle.load_core.specs.declared.Source.{Source}
 use Rattle.trial_core.specs.Trial.{Stood, Trial, Going, on, ended, then, with-blocks, block-of, back-to, fork-of, step-to, steps-to}
-use Rattle.trial_steps.specs.Held.{standing-of, Held, held-at, trial-of, Goes, StandReady}
+use Rattle.standing_calls.specs.Stands.{standing-of, StandReady}
+use Rattle.trial_steps.specs.Held.{Held, held-at, trial-of, Goes}
 use Rattle.trial_steps.proofs.StepLaws.{goes-ready, goes-on, goes-ended}
 use Rattle.trial_runs.specs.Runs.{Countable, Grown, BlockReady, BlockBy, ForkReady, ForkBy, TurnReady, TurnBy, RunReady, RunBy}
-
--- ---- how deep a fork may be
-module _ (d b : ℕ) where
-  pub undo-within : d ≤ 720 → leb d b ≡ leb d 720 && leb d b
-  undo-within h = sym (ap (λ (w : Bool). w && leb d b) (le-leb d 720 h))
-
-  pub undo-too-deep : 720 < d → false ≡ leb d 720 && leb d b
-  undo-too-deep h = sym (ap (λ (w : Bool). w && leb d b) (lt-leb d 720 h))
 
 -- ---- a step
 pub step-forks : (room : ℕ) (z : ℤ) → is-negative z ≡ true → (s : Trial) → fork-of edition-1 room (natAbs z) s ≡ step-to edition-1 room z s

@@ -8,13 +8,18 @@ use Rattle.buffer_core.specs.Edition.{edition-1}
 use Rattle.call_steps.specs.State.{State, Ready}
 use Rattle.load_core.specs.declared.Source.{Source}
 use Rattle.trial_core.specs.Trial.{step-limit, block-of, back-to, step-to, steps-to}
-use Rattle.trial_steps.specs.declared.TrialState.{TrialState}
-use Rattle.trial_steps.specs.Held.{standing-of, Held, trial-of, Goes, StandReady}
+use Rattle.standing_calls.specs.declared.TrialState.{TrialState}
+use Rattle.standing_calls.specs.Stands.{standing-of, StandReady}
+use Rattle.trial_steps.specs.Held.{Held, trial-of, Goes}
+
+-- half of what 64 signed bits count, so that as much may follow
+abbrev pub count-limit : ℕ
+count-limit = 4611686018427387904
 
 -- the generator's counts after n calls more are within 64 signed bits
 pub record Countable (n : ℕ) (g : Source) : Type 0 where
-  pub boxes : g .boxes + n ≤ 4611686018427387904
-  pub txs : g .txs + n ≤ 4611686018427387904
+  pub boxes : g .boxes + n ≤ count-limit
+  pub txs : g .txs + n ≤ count-limit
 
 -- they grow by 1 at most with a call
 pub record Grown (n : ℕ) (g g′ : Source) : Type 0 where

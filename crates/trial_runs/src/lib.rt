@@ -1,17 +1,15 @@
 // The blocks and forks of a trial of staging sizes (document 02, U12), once 25 and 38 are tested and the working buffers are zero.
 ghost use mathlib.Core.Path.{_≡_};
-ghost use mathlib.Core.Bool.{false, _&&_};
-ghost use lib.Dec.{leb};
+ghost use mathlib.Core.Bool.{false};
 ghost use lib.IntN.{natAbs};
 ghost use lib.ListN.{length};
 ghost use Rattle.signed.specs.Sign.{is-negative};
 ghost use Rattle.call_steps.specs.State.{state};
 ghost use Rattle.call_steps.specs.Steps.{lists-with};
-ghost use Rattle.trial_core.specs.Trial.{depth-limit};
 ghost use Rattle.trial_steps.specs.Held.{held};
 ghost use Rattle.trial_runs.specs.Runs.{BlockReady, BlockBy, ForkReady, ForkBy, TurnReady, TurnBy, ended-by, RunReady, RunBy};
 use load_core::Source;
-use trial_steps::TrialState;
+use standing_calls::TrialState;
 
 // Where a trial stands, and the generator.
 pub struct Drawing {
@@ -25,9 +23,6 @@ pub struct TrialRun {
     pub state: TrialState,
     pub blocks: u64,
 }
-
-// The most blocks that a fork undoes.
-const DEPTH_LIMIT: u64 = 720;
 
 // A block of n drawn calls, until one ends the trial.
 fn block(
@@ -102,9 +97,8 @@ fn fork(
     let mut left = t.stood;
     while 0 < left {
         left -= 1;
-        let at = left * 3 + 2;
-        let number = signed::magnitude(standing[at]);
-        if number < lowest {
+        let earlier = standing_calls::is_earlier(standing, left, lowest);
+        if earlier {
             return state;
         }
         state = trial_steps::undo_newest(
@@ -124,16 +118,6 @@ fn fork(
         }
     }
     state
-}
-
-// Whether so many blocks may be undone: no more than 720, and no more than stand.
-fn may_undo(depth: u64, blocks: u64) -> bool
-    ensures { λ r. ⌜ r ≡ leb depth depth-limit && leb depth blocks ⌝ }
-{
-    if depth <= DEPTH_LIMIT {
-        return depth <= blocks;
-    }
-    false
 }
 
 fn ended_by(code: u8, t: TrialState) -> TrialState
@@ -182,7 +166,7 @@ fn turn(
     let blocks = run.blocks;
     if signed::is_negative_i32(step) {
         let depth = signed::magnitude(signed::i64_from_i32(step));
-        if may_undo(depth, blocks) {
+        if standing_calls::may_undo(depth, blocks) {
             let lowest = blocks - depth;
             let after = fork(
                 lowest,

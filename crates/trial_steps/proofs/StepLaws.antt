@@ -1,30 +1,31 @@
--- Laws of what the code of a trial keeps: the parts of a trial one after the other, and the standing calls in their list.
-use Prim.Native.Nat.{ℕ, zero, suc, _+_, _*_, _-_, _≤_, _<_, max}
+-- Laws of what the code of a trial keeps: the parts of a trial one after the other.
+use Prim.Native.Nat.{ℕ, _+_, _*_, _-_, _≤_, max}
 use mathlib.Core.Path.{_≡_, refl, sym, ap, _∙_, subst}
-use mathlib.Core.Bool.{Bool, true, false, cond, _||_}
+use mathlib.Core.Bool.{Bool, true, false, cond}
 use mathlib.Core.List.{List, [], _∷_}
 use native.Mathlib.Omega.{arith}
-use native.Mathlib.Numerals.{add-one}
 use lib.Dec.{eqb, ltb}
 use lib.IntN.{ℤ, pos, natAbs}
-use lib.ListN.{length, set, getD, length-set}
-use lib.Seq.{getD-set-same, getD-set-other}
-use borrow.Author.Tests.{eqb-true, eqb-false, ltb-true, lt-ltb, le-ltb, eq-eqb, ne-eqb}
+use lib.ListN.{length, getD}
+use borrow.Author.Tests.{eqb-true, eqb-false, ltb-true}
 use Rattle.segment_id.specs.declared.Kind.the-variants.{Box, Tx}
-use Rattle.buffer_core.specs.declared.Direction.the-variants.{Spend, Unspend}
+use Rattle.buffer_core.specs.declared.Direction.the-variants.{Spend}
 use Rattle.buffer_core.specs.Edition.{edition-1}
 use Rattle.calls.specs.declared.Call.{Call}
 use Rattle.calls.specs.declared.Call.the-variants.{Append, Flip, Pop, Flush, Change, Bad, Cut, End}
 use Rattle.calls.specs.Calls.{Among}
-use Rattle.call_steps.specs.State.{State, Ready}
+use Rattle.call_steps.specs.State.{Ready}
 use Rattle.call_steps.specs.Steps.{Stepping, step-of}
 use Rattle.call_steps.proofs.KeepLaws.{step-kept}
 use Rattle.load_core.specs.declared.Source.{Source}
 use Rattle.load_core.specs.Draw.{source}
 use Rattle.trial_core.specs.Trial.{Side, called, undid, Stood, Trial, Going, on, ended, then, with-side, with-standing, made, code-of, ends-run, flushing, changes, change-to, stands, calling, make, undo-of, undoing}
-use Rattle.trial_steps.specs.declared.Side.{Side as DeclaredSide}
-use Rattle.trial_steps.specs.declared.Standing.{Standing}
-use Rattle.trial_steps.specs.Held.{side-of, stood-kind, stood-number, stood-call, stood, stood-at, standing-of, with-stood, is-flush, Drawable, Held, held-at, trial-of, Goes, made-held, Changed, stand, stand-of, standing-with, StandReady, StandsBy, MakesBy, UndoesBy}
+use Rattle.run_steps.specs.Undoes.{Undoes}
+use Rattle.standing_calls.specs.declared.TrialState.{TrialState}
+use Rattle.standing_calls.specs.declared.Standing.{Standing}
+use Rattle.standing_calls.specs.Stands.{stood-kind, stood-number, stood-call, stood, stood-at, standing-of, is-flush, stand, stand-of, standing-with, StandReady, StandsBy}
+use Rattle.standing_calls.proofs.StandingLaws.{standing-length, undo-among}
+use Rattle.trial_steps.specs.Held.{Drawable, Held, held-at, held, trial-of, Goes, made-held, Changed, MakesBy, UndoesBy}
 
 -- ---- one part of a trial after the other
 module _ (h : Held) (l : List Stood) (g : Source) (b : ℕ) where
@@ -44,11 +45,14 @@ module _ (h : Held) (l : List Stood) (g : Source) (b : ℕ) where
     goes-ended (ended j) k n e = (e ∙ k .0, k .1)
 
 -- ---- one call on the index
-pub made-returns : (c : Call) (h : Held) (y : Stepping) (m n : ℕ) → y ≡ step-of edition-1 c (h .now) → m ≡ max (h .staged) (y .after .lists .staged-counts .count)
-    → n ≡ max (h .deleted) (y .after .lists .deleted-counts .count) → held-at (y .after) (h .side) (h .stood) m n (y .said .code) ≡ made-held c h
-made-returns c h y m n e p q =
-    (λ i. held-at (y .after) (h .side) (h .stood) (p i) (q i) (y .said .code))
-    ∙ ap (λ (x : Stepping). held-at (x .after) (h .side) (h .stood) (max (h .staged) (x .after .lists .staged-counts .count)) (max (h .deleted) (x .after .lists .deleted-counts .count)) (x .said .code)) e
+pub held-by : {t t′ : TrialState} (ids : List ℕ) (numbers : List ℤ) (lengths : List ℕ) (spills : List ℤ) (staged table deleted : List ℕ) → t ≡ t′
+    → held t ids numbers lengths spills staged table deleted ≡ held t′ ids numbers lengths spills staged table deleted
+held-by ids numbers lengths spills staged table deleted e = ap (λ (x : TrialState). held x ids numbers lengths spills staged table deleted) e
+
+pub made-returns : (c : Call) (h : Held) (y : Stepping) → y ≡ step-of edition-1 c (h .now)
+    → held-at (y .after) (h .side) (h .stood) (max (h .staged) (y .after .lists .staged-counts .count)) (max (h .deleted) (y .after .lists .deleted-counts .count)) (y .said .code) ≡ made-held c h
+made-returns c h y e =
+    ap (λ (x : Stepping). held-at (x .after) (h .side) (h .stood) (max (h .staged) (x .after .lists .staged-counts .count)) (max (h .deleted) (x .after .lists .deleted-counts .count)) (x .said .code)) e
 
 module _ (room : ℕ) (c : Call) (among : Among 1 c) (h : Held) (r : Ready 1 (h .now)) (l : List Stood) (g : Source) (b : ℕ) (answers : List ℕ) where
   abbrev s : Trial
@@ -96,57 +100,6 @@ module _ (d : Side) (h : Held) (r : Ready 1 (h .now)) where
             subst (λ (w : Bool). Goes (held-at (h .now) d (h .stood) (h .staged) (h .deleted) 0) l g b (then (cond w (flushing edition-1 room (trial-of h l g b answers)) (on (trial-of h l g b answers))) (λ t. on (with-side d t)))) (e room)
             (refl, r, refl);
       }
-
--- ---- the standing calls in their list
-pub standing-length : (n : ℕ) (l : List ℤ) → length (standing-of n l) ≡ n
-unfolding standing-of
-standing-length zero l = refl
-standing-length (suc n) l = ap suc (standing-length n l)
-
-stood-same : (i : ℕ) (l l′ : List ℤ) → ((j : ℕ) → j < i * 3 + 3 → getD l′ j (pos 0) ≡ getD l j (pos 0)) → stood-at i l′ ≡ stood-at i l
-stood-same i l l′ f =
-    let p = f (i * 3) (omega arith) in
-    let q = f (i * 3 + 1) (omega arith) in
-    let r = f (i * 3 + 2) (omega arith) in
-    λ k. stood (stood-call (natAbs (p k)) (q k)) (natAbs (r k))
-
-standing-same : (n : ℕ) (l l′ : List ℤ) → ((j : ℕ) → j < n * 3 → getD l′ j (pos 0) ≡ getD l j (pos 0)) → standing-of n l′ ≡ standing-of n l
-unfolding standing-of
-standing-same zero l l′ f = refl
-standing-same (suc n) l l′ f =
-    let p = stood-same n l l′ (λ j h. f j (omega arith)) in
-    let q = standing-same n l l′ (λ j h. f j (omega arith)) in
-    λ k. p k ∷ q k
-
-module _ (c : Call) (b n : ℕ) (l : List ℤ) (fits : n * 3 + 3 ≤ length l) where
-  abbrev l₁ : List ℤ
-  l₁ = set l (n * 3) (pos (stood-kind c))
-
-  abbrev l₂ : List ℤ
-  l₂ = set l₁ (n * 3 + 1) (stood-number c)
-
-  same-below : (j : ℕ) → j < n * 3 → getD (with-stood c b n l) j (pos 0) ≡ getD l j (pos 0)
-  same-below j h =
-      getD-set-other l₂ (n * 3 + 2) j (pos b) (pos 0) (λ e. omega (arith, e))
-      ∙ getD-set-other l₁ (n * 3 + 1) j (stood-number c) (pos 0) (λ e. omega (arith, e))
-      ∙ getD-set-other l (n * 3) j (pos (stood-kind c)) (pos 0) (λ e. omega (arith, e))
-
-  newest : stood-at n (with-stood c b n l) ≡ stood (stood-call (stood-kind c) (stood-number c)) b
-  newest =
-      let p = getD-set-other l₂ (n * 3 + 2) (n * 3) (pos b) (pos 0) (λ e. omega (arith, e))
-      ∙ getD-set-other l₁ (n * 3 + 1) (n * 3) (stood-number c) (pos 0) (λ e. omega (arith, e))
-      ∙ getD-set-same l (n * 3) (pos (stood-kind c)) (pos 0) (omega arith) in
-      let q = getD-set-other l₂ (n * 3 + 2) (n * 3 + 1) (pos b) (pos 0) (λ e. omega (arith, e))
-      ∙ getD-set-same l₁ (n * 3 + 1) (stood-number c) (pos 0) (omega (arith, length-set l (n * 3) (pos (stood-kind c)))) in
-      let r = getD-set-same l₂ (n * 3 + 2) (pos b) (pos 0) (omega (arith, length-set l (n * 3) (pos (stood-kind c)), length-set l₁ (n * 3 + 1) (stood-number c))) in
-      λ k. stood (stood-call (natAbs (p k)) (q k)) (natAbs (r k))
-
-  -- a call that is written behind the standing ones is the newest
-  pub standing-put : standing-of (n + 1) (with-stood c b n l) ≡ stood (stood-call (stood-kind c) (stood-number c)) b ∷ standing-of n l
-  unfolding standing-of
-  standing-put =
-      ap (λ (m : ℕ). standing-of m (with-stood c b n l)) (add-one n)
-      ∙ (λ k. newest k ∷ standing-same n l (with-stood c b n l) same-below k)
 
 -- ---- the calls that are drawn
 pub among-drawn : (c : Call) → Drawable c → Among 1 c
@@ -286,80 +239,14 @@ module _ (room b : ℕ) (c : Call) (drawable : Drawable c) (h : Held) (l : List 
 pub stand-kept : (room b n m : ℕ) (l : List ℤ) → n ≡ m → StandReady room b m l → StandReady room b n l
 stand-kept room b n m l e s = record { few = omega (arith, e, s .few); long = s .long; small = s .small }
 
--- ---- what becomes of the standing calls, as the code tests it
-module _ (room b : ℕ) (c : Call) (n k : ℕ) (l : List ℤ) where
-  pub stands-put : StandReady room b n l → k ≡ 0 → n < room → (l′ : List ℤ) → l′ ≡ with-stood c b n l → StandsBy room b c n k l (stand (n + 1) 0) l′
-  stands-put r e f l′ q =
-      let w = eq-eqb k 0 e in
-      let v = lt-ltb n room f in
-      record {
-        answer = λ i. cond (sym w i) (cond (sym v i) (stand (n + 1) 0) (stand n 40)) (cond (ends-run edition-1 room k) (stand n k) (stand n 0));
-        standing =
-            ap (standing-of (n + 1)) q
-            ∙ standing-put c b n l (omega (arith, r .long, f))
-            ∙ (λ i. cond (sym w i) (cond (sym v i) (stood (stood-call (stood-kind c) (stood-number c)) b ∷ standing-of n l) (standing-of n l)) (standing-of n l));
-      }
-
-  pub stands-full : k ≡ 0 → room ≤ n → StandsBy room b c n k l (stand n 40) l
-  stands-full e f =
-      let w = eq-eqb k 0 e in
-      let v = le-ltb n room f in
-      record {
-        answer = λ i. cond (sym w i) (cond (sym v i) (stand (n + 1) 0) (stand n 40)) (cond (ends-run edition-1 room k) (stand n k) (stand n 0));
-        standing = λ i. cond (sym w i) (cond (sym v i) (stood (stood-call (stood-kind c) (stood-number c)) b ∷ standing-of n l) (standing-of n l)) (standing-of n l);
-      }
-
-  pub stands-ended : (k ≡ 0 → ⊥) → true ≡ ends-run edition-1 room k → StandsBy room b c n k l (stand n k) l
-  stands-ended e u =
-      let w = ne-eqb k 0 e in
-      record {
-        answer = λ i. cond (sym w i) (cond (ltb n room) (stand (n + 1) 0) (stand n 40)) (cond (u i) (stand n k) (stand n 0));
-        standing = λ i. cond (sym w i) (cond (ltb n room) (stood (stood-call (stood-kind c) (stood-number c)) b ∷ standing-of n l) (standing-of n l)) (standing-of n l);
-      }
-
-  pub stands-on : (k ≡ 0 → ⊥) → false ≡ ends-run edition-1 room k → StandsBy room b c n k l (stand n 0) l
-  stands-on e u =
-      let w = ne-eqb k 0 e in
-      record {
-        answer = λ i. cond (sym w i) (cond (ltb n room) (stand (n + 1) 0) (stand n 40)) (cond (u i) (stand n k) (stand n 0));
-        standing = λ i. cond (sym w i) (cond (ltb n room) (stood (stood-call (stood-kind c) (stood-number c)) b ∷ standing-of n l) (standing-of n l)) (standing-of n l);
-      }
-
-pub kind-small : (c : Call) → stood-kind c < 9223372036854775808
-kind-small (Append Box p z) = omega arith
-kind-small (Append Tx p z) = omega arith
-kind-small (Flip d p z) = omega arith
-kind-small (Pop k p) = omega arith
-kind-small Flush = omega arith
-kind-small (Change a p n t v) = omega arith
-kind-small Bad = omega arith
-kind-small Cut = omega arith
-kind-small End = omega arith
-
 -- ---- an undo
-module _ (k : ℕ) (z : ℤ) (room : ℕ) where
-  abbrev undo-by : Bool → Bool → Call
-  undo-by w v = undo-of edition-1 room (cond w (Append Box 0 z) (cond v (Append Tx 0 z) (Flip Spend 0 z)))
+undoes-by : (z : ℤ) (w v : Bool) → Undoes (undo-of edition-1 0 (cond w (Append Box 0 z) (cond v (Append Tx 0 z) (Flip Spend 0 z))))
+undoes-by z true v = tt
+undoes-by z false true = tt
+undoes-by z false false = tt
 
-  pub undo-box : k ≡ 0 → Pop Box 0 ≡ undo-of edition-1 room (stood-call k z)
-  undo-box e = ap (λ (w : Bool). undo-by w (eqb k 1)) (sym (eq-eqb k 0 e))
-
-  pub undo-tx : (k ≡ 0 → ⊥) → k ≡ 1 → Pop Tx 0 ≡ undo-of edition-1 room (stood-call k z)
-  undo-tx n e = let w = ne-eqb k 0 n in let v = eq-eqb k 1 e in λ i. undo-by (sym w i) (sym v i)
-
-  pub undo-spend : (k ≡ 0 → ⊥) → (k ≡ 1 → ⊥) → (y : ℤ) → y ≡ z → Flip Unspend 0 y ≡ undo-of edition-1 room (stood-call k z)
-  undo-spend n e y q = ap (Flip Unspend 0) q ∙ (let w = ne-eqb k 0 n in let v = ne-eqb k 1 e in λ i. undo-by (sym w i) (sym v i))
-
-  among-by : (w v : Bool) → Among 1 (undo-by w v)
-  among-by true v = omega arith
-  among-by false true = omega arith
-  among-by false false = omega arith
-
-  pub undo-among : Among 1 (undo-of edition-1 room (stood-call k z))
-  undo-among = among-by (eqb k 0) (eqb k 1)
-
-pub newest-among : (i : ℕ) (l : List ℤ) (c : Call) → ((room : ℕ) → c ≡ undo-of edition-1 room (stood-at i l .call)) → Among 1 c
-newest-among i l c q = subst (Among 1) (sym (q 0)) (undo-among (natAbs (getD l (i * 3) (pos 0))) (getD l (i * 3 + 1) (pos 0)) 0)
+pub newest-undoes : (i : ℕ) (l : List ℤ) (c : Call) → ((room : ℕ) → c ≡ undo-of edition-1 room (stood-at i l .call)) → Undoes c
+newest-undoes i l c q = subst Undoes (sym (q 0)) (undoes-by (getD l (i * 3 + 1) (pos 0)) (eqb (natAbs (getD l (i * 3) (pos 0))) 0) (eqb (natAbs (getD l (i * 3) (pos 0))) 1))
 
 abbrev pub with-number-stood : ℕ → Held → Held
 with-number-stood n h = held-at (h .now) (h .side) n (h .staged) (h .deleted) (h .end)
@@ -398,10 +285,3 @@ module _ (h : Held) (l : List ℤ) (h₁ : Held) (C : Changed undid h h₁) wher
               goes-on h₁ k g b (with-number-stood n (made-held c h₁)) k g b (undoing edition-1 room (x .call)) (change-to edition-1 room undid (trial-of h k g b answers)) (C .goes room k g b answers) z
               (undo-taken n room k g b);
         })
-
-pub changes-told : {a b x y : DeclaredSide} → a ≡ x → b ≡ y → (room : ℕ) → changes edition-1 room (side-of x) (side-of y) ≡ changes edition-1 room (side-of a) (side-of b)
-changes-told e f room = λ i. changes edition-1 room (side-of (sym e i)) (side-of (sym f i))
-
--- the three numbers that end a trial
-pub ends-told : (k room : ℕ) (w v u : Bool) → eqb k 16 ≡ w → eqb k 21 ≡ v → eqb k 22 ≡ u → w || (v || u) ≡ ends-run edition-1 room k
-ends-told k room w v u e f g = λ i. sym e i || (sym f i || sym g i)

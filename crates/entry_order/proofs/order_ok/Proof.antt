@@ -1,74 +1,156 @@
--- `entry_order::order_ok` meets its contract. The invariant: what is left, from the last absolute value on, decides.
-use mathlib.Core.Path.{_≡_, refl, sym, ap, _∙_, subst}
-use mathlib.Core.List.{List, map}
-use mathlib.Core.Bool.{Bool, true, false, _&&_}
-use Prim.Native.Nat.{ℕ, _≤_, _<_, _-_, _+_}
+-- `entry_order::order_ok` meets its contract. The invariant of both loops: what is left, from the last absolute value on, decides.
+use mathlib.Core.Path.{_≡_, sym, ap, _∙_, refl}
+use mathlib.Core.List.{map}
+use mathlib.Core.Bool.{_&&_}
+use Prim.Native.Nat.{ℕ, _≤_, _-_, _+_}
 use native.Mathlib.Omega.{arith}
-use borrow.Author.Needs.{needs, sfits-of}
-use borrow.Author.Tests.{le-leb, lt-leb, lt-ltb, le-ltb}
-use lib.IntN.{ℤ, pos, natAbs}
-use lib.ListN.{length, take, getD}
-use lib.Seq.{slice, slice-cons, slice-empty}
-use lib.Dec.{leb, ltb}
+use borrow.Author.Needs.{needs}
+use borrow.Author.Tests.{le-leb, lt-leb}
+use lib.Dec.{leb}
+use lib.IntN.{pos, natAbs}
+use lib.ListN.{take, getD}
+use lib.Seq.{slice}
 use Rattle.signed.proofs.SignedLaws.{back64}
-use Rattle.entries.proofs.TurnLaws.{order-step}
-use Rattle.entries.specs.Order.{ordered, order-ok}
+use Rattle.entries.specs.Order.{order-ok}
+use Rattle.entry_order.proofs.CappedLaws.{capped, ordered-capped, capped-step, capped-end, four-falls, four-rises}
 use Rattle.entry_order.proofs.order_ok.Statement.{statement}
 use Rattle.entry_order.proofs.order_ok.Tie as tie
 
 abbrev Inv-loop : tie.InvT-loop
-Inv-loop xs n prev₀ i₀ prev i = (i ≤ n) × (order-ok (take n xs) ≡ ordered prev (map natAbs (slice i n xs)))
+Inv-loop xs n prev₀ i₀ prev i = (i ≤ n) × (order-ok (take n xs) ≡ capped prev (map natAbs (slice i n xs)))
 
 abbrev μ-loop : tie.MeasureT-loop
 μ-loop xs n prev₀ i₀ prev i = n - i
 
-loop-holds : tie.Need-loop-holds Inv-loop μ-loop
-loop-holds c = search needs
+abbrev Inv-loop2 : tie.InvT-loop2
+Inv-loop2 xs n prev₀ i₀ prev i = (i ≤ n) × (order-ok (take n xs) ≡ capped prev (map natAbs (slice i n xs)))
 
-mul-magnitude : tie.Need-mul-magnitude Inv-loop μ-loop
+abbrev μ-loop2 : tie.MeasureT-loop2
+μ-loop2 xs n prev₀ i₀ prev i = n - i
+
+loop-holds : tie.Need-loop-holds Inv-loop μ-loop Inv-loop2 μ-loop2
+loop-holds c = (omega arith, ordered-capped 0 (map natAbs (take (c .args .n) (c .args .xs .now))) (omega arith))
+
+sub-loop : tie.Need-sub-loop Inv-loop μ-loop Inv-loop2 μ-loop2
+sub-loop c = search needs
+
+add-second : tie.Need-add-second Inv-loop μ-loop Inv-loop2 μ-loop2
+add-second c = search needs
+
+add-third : tie.Need-add-third Inv-loop μ-loop Inv-loop2 μ-loop2
+add-third c = search needs
+
+add-fourth : tie.Need-add-fourth Inv-loop μ-loop Inv-loop2 μ-loop2
+add-fourth c = search needs
+
+mul-magnitude : tie.Need-mul-magnitude Inv-loop μ-loop Inv-loop2 μ-loop2
 mul-magnitude c = search needs
 
-shared-slice-copy-out-magnitude : tie.Need-shared-slice-copy-out-magnitude Inv-loop μ-loop
+shared-slice-copy-out-magnitude : tie.Need-shared-slice-copy-out-magnitude Inv-loop μ-loop Inv-loop2 μ-loop2
 shared-slice-copy-out-magnitude c = search needs
 
-magnitude-requires : tie.Need-magnitude-requires Inv-loop μ-loop
+magnitude-requires : tie.Need-magnitude-requires Inv-loop μ-loop Inv-loop2 μ-loop2
 magnitude-requires c κs = search needs
 
-magnitude-is : (c : tie.After-magnitude Inv-loop μ-loop) → c .magnitude .result ≡ natAbs (getD (c .before .before .before .before .args .xs .now) (c .before .before .before .loop .i) (pos 0))
-magnitude-is c =
-    let z = getD (c .before .before .before .before .args .xs .now) (c .before .before .before .loop .i) (pos 0) in
-    c .magnitude .ensures ∙ ap natAbs (back64 z (c .before .magnitude-arg .given))
+mul-magnitude-2 : tie.Need-mul-magnitude-2 Inv-loop μ-loop Inv-loop2 μ-loop2
+mul-magnitude-2 c = search needs
 
-step : (c : tie.After-magnitude Inv-loop μ-loop) →
-    let s = c .before .before .before .before in
-    let l = c .before .before .before .loop in
-    order-ok (take (s .args .n) (s .args .xs .now)) ≡ leb (l .prev) (c .magnitude .result) && (ltb (c .magnitude .result) 9223372036854775808 && ordered (c .magnitude .result) (map natAbs (slice (l .i + 1) (s .args .n) (s .args .xs .now))))
-step c =
-    let s = c .before .before .before .before in
-    let l = c .before .before .before .loop in
-    l .inv .1 ∙ order-step (s .args .xs .now) (s .args .n) (l .i) (c .before .before .loop-test .taken) (s .pre) (l .prev) (c .magnitude .result) (magnitude-is c)
+shared-slice-copy-out-magnitude-2 : tie.Need-shared-slice-copy-out-magnitude-2 Inv-loop μ-loop Inv-loop2 μ-loop2
+shared-slice-copy-out-magnitude-2 c = search needs
 
-returns : tie.Need-returns Inv-loop μ-loop
-returns c = sym (step (c .before) ∙ simp (lt-leb _ _ (c .if1 .taken)))
+magnitude-requires-2 : tie.Need-magnitude-requires-2 Inv-loop μ-loop Inv-loop2 μ-loop2
+magnitude-requires-2 c κs = search needs
 
-returns-2 : tie.Need-returns-2 Inv-loop μ-loop
-returns-2 c = sym (step (c .before .before) ∙ simp (le-leb _ _ (c .before .if1 .left), le-ltb _ _ (c .if2 .taken)))
+mul-magnitude-3 : tie.Need-mul-magnitude-3 Inv-loop μ-loop Inv-loop2 μ-loop2
+mul-magnitude-3 c = search needs
 
-add-i : tie.Need-add-i Inv-loop μ-loop
+shared-slice-copy-out-magnitude-3 : tie.Need-shared-slice-copy-out-magnitude-3 Inv-loop μ-loop Inv-loop2 μ-loop2
+shared-slice-copy-out-magnitude-3 c = search needs
+
+magnitude-requires-3 : tie.Need-magnitude-requires-3 Inv-loop μ-loop Inv-loop2 μ-loop2
+magnitude-requires-3 c κs = search needs
+
+mul-magnitude-4 : tie.Need-mul-magnitude-4 Inv-loop μ-loop Inv-loop2 μ-loop2
+mul-magnitude-4 c = search needs
+
+shared-slice-copy-out-magnitude-4 : tie.Need-shared-slice-copy-out-magnitude-4 Inv-loop μ-loop Inv-loop2 μ-loop2
+shared-slice-copy-out-magnitude-4 c = search needs
+
+magnitude-requires-4 : tie.Need-magnitude-requires-4 Inv-loop μ-loop Inv-loop2 μ-loop2
+magnitude-requires-4 c κs = search needs
+
+four-fall-requires : tie.Need-four-fall-requires Inv-loop μ-loop Inv-loop2 μ-loop2
+four-fall-requires c κs = search needs
+
+returns : tie.Need-returns Inv-loop μ-loop Inv-loop2 μ-loop2
+returns c =
+    let l = c .before .before .before .before .before .before .before .before .before .before .before .loop in
+    let s = c .before .before .before .before .before .before .before .before .before .before .before .before in
+    let xs = s .args .xs .now in
+    let a = c .before .before .before .before .before .before .before .before .magnitude .ensures ∙ ap natAbs (back64 (getD xs (l .i) (pos 0)) (c .before .before .before .before .before .before .before .before .before .magnitude-arg .given)) in
+    let b = c .before .before .before .before .before .before .magnitude2 .ensures ∙ ap natAbs (back64 (getD xs (l .i + 1) (pos 0)) (c .before .before .before .before .before .before .before .magnitude-arg2 .given)) in
+    let d = c .before .before .before .before .magnitude3 .ensures ∙ ap natAbs (back64 (getD xs (l .i + 2) (pos 0)) (c .before .before .before .before .before .magnitude-arg3 .given)) in
+    let e = c .before .before .magnitude4 .ensures ∙ ap natAbs (back64 (getD xs (l .i + 3) (pos 0)) (c .before .before .before .magnitude-arg4 .given)) in
+    let f = l .inv .1 ∙ four-falls xs (s .args .n) (l .i) (l .prev) _ _ _ _ (omega (arith, c .before .before .before .before .before .before .before .before .before .before .loop-test .taken, l .inv .0)) (s .pre) a b d e (sym (c .before .four-fall .ensures) ∙ c .if1 .taken) in
+    sym f
+
+add-i : tie.Need-add-i Inv-loop μ-loop Inv-loop2 μ-loop2
 add-i c = search needs
 
-loop-less : tie.Need-loop-less Inv-loop μ-loop
+loop-less : tie.Need-loop-less Inv-loop μ-loop Inv-loop2 μ-loop2
 loop-less c = search needs
 
-loop-again : tie.Need-loop-again Inv-loop μ-loop
-loop-again c = (search needs, step (c .before .before) ∙ simp (le-leb _ _ (c .before .if1 .left), lt-ltb _ _ (c .if2 .left)))
+loop-again : tie.Need-loop-again Inv-loop μ-loop Inv-loop2 μ-loop2
+loop-again c =
+    let l = c .before .before .before .before .before .before .before .before .before .before .before .loop in
+    let s = c .before .before .before .before .before .before .before .before .before .before .before .before in
+    let xs = s .args .xs .now in
+    let a = c .before .before .before .before .before .before .before .before .magnitude .ensures ∙ ap natAbs (back64 (getD xs (l .i) (pos 0)) (c .before .before .before .before .before .before .before .before .before .magnitude-arg .given)) in
+    let b = c .before .before .before .before .before .before .magnitude2 .ensures ∙ ap natAbs (back64 (getD xs (l .i + 1) (pos 0)) (c .before .before .before .before .before .before .before .magnitude-arg2 .given)) in
+    let d = c .before .before .before .before .magnitude3 .ensures ∙ ap natAbs (back64 (getD xs (l .i + 2) (pos 0)) (c .before .before .before .before .before .magnitude-arg3 .given)) in
+    let e = c .before .before .magnitude4 .ensures ∙ ap natAbs (back64 (getD xs (l .i + 3) (pos 0)) (c .before .before .before .magnitude-arg4 .given)) in
+    let f = l .inv .1 ∙ four-rises xs (s .args .n) (l .i) (l .prev) _ _ _ _ (omega (arith, c .before .before .before .before .before .before .before .before .before .before .loop-test .taken, l .inv .0)) (s .pre) a b d e (sym (c .before .four-fall .ensures) ∙ c .if1 .left) in
+    (omega (arith, c .before .before .before .before .before .before .before .before .before .before .loop-test .taken, l .inv .0), f)
 
-returns-3 : tie.Need-returns-3 Inv-loop μ-loop
+loop2-holds : tie.Need-loop2-holds Inv-loop μ-loop Inv-loop2 μ-loop2
+loop2-holds c = c .before .loop .inv
+
+mul-magnitude-5 : tie.Need-mul-magnitude-5 Inv-loop μ-loop Inv-loop2 μ-loop2
+mul-magnitude-5 c = search needs
+
+shared-slice-copy-out-magnitude-5 : tie.Need-shared-slice-copy-out-magnitude-5 Inv-loop μ-loop Inv-loop2 μ-loop2
+shared-slice-copy-out-magnitude-5 c = search needs
+
+magnitude-requires-5 : tie.Need-magnitude-requires-5 Inv-loop μ-loop Inv-loop2 μ-loop2
+magnitude-requires-5 c κs = search needs
+
+one : (c : tie.After-magnitude5 Inv-loop μ-loop Inv-loop2 μ-loop2) →
+    let s = c .before .before .before .before .before .before in
+    let l = c .before .before .before .loop2 in
+    order-ok (take (s .args .n) (s .args .xs .now)) ≡ leb (l .prev) (c .magnitude5 .result) && capped (c .magnitude5 .result) (map natAbs (slice (l .i + 1) (s .args .n) (s .args .xs .now)))
+one c =
+    let s = c .before .before .before .before .before .before in
+    let l = c .before .before .before .loop2 in
+    let xs = s .args .xs .now in
+    l .inv .1 ∙ capped-step xs (s .args .n) (l .i) (l .i + 1) (l .prev) (c .magnitude5 .result) (c .before .before .loop2-test .taken) (s .pre) refl (c .magnitude5 .ensures ∙ ap natAbs (back64 (getD xs (l .i) (pos 0)) (c .before .magnitude-arg5 .given)))
+
+returns-2 : tie.Need-returns-2 Inv-loop μ-loop Inv-loop2 μ-loop2
+returns-2 c = sym (one (c .before) ∙ simp (lt-leb (c .before .before .before .before .loop2 .prev) (c .before .magnitude5 .result) (c .if2 .taken)))
+
+add-i-2 : tie.Need-add-i-2 Inv-loop μ-loop Inv-loop2 μ-loop2
+add-i-2 c = search needs
+
+loop2-less : tie.Need-loop2-less Inv-loop μ-loop Inv-loop2 μ-loop2
+loop2-less c = search needs
+
+loop2-again : tie.Need-loop2-again Inv-loop μ-loop Inv-loop2 μ-loop2
+loop2-again c = (search needs, one (c .before) ∙ simp (le-leb (c .before .before .before .before .loop2 .prev) (c .before .magnitude5 .result) (c .if2 .left)))
+
+returns-3 : tie.Need-returns-3 Inv-loop μ-loop Inv-loop2 μ-loop2
 returns-3 c =
-    let n = c .before .before .args .n in
-    let xs = c .before .before .args .xs .now in
-    let e : c .before .loop .i ≡ n = omega arith in
-    sym (c .before .loop .inv .1 ∙ ap (λ (k : ℕ). ordered (c .before .loop .prev) (map natAbs (slice k n xs))) e ∙ ap (λ (l : List ℤ). ordered (c .before .loop .prev) (map natAbs l)) (slice-empty n xs))
+    let s = c .before .before .before .before in
+    let l = c .before .loop2 in
+    sym (l .inv .1 ∙ capped-end (s .args .xs .now) (s .args .n) (l .i) (l .prev) (omega (arith, l .inv .0, c .loop2-test .left)))
 
 pub order-ok-spec : {M : Type 1} → statement M
 order-ok-spec =
@@ -76,13 +158,36 @@ order-ok-spec =
     (tie.spec
     Inv-loop
     μ-loop
+    Inv-loop2
+    μ-loop2
     loop-holds
+    sub-loop
+    add-second
+    add-third
+    add-fourth
     mul-magnitude
     shared-slice-copy-out-magnitude
     magnitude-requires
+    mul-magnitude-2
+    shared-slice-copy-out-magnitude-2
+    magnitude-requires-2
+    mul-magnitude-3
+    shared-slice-copy-out-magnitude-3
+    magnitude-requires-3
+    mul-magnitude-4
+    shared-slice-copy-out-magnitude-4
+    magnitude-requires-4
+    four-fall-requires
     returns
-    returns-2
     add-i
     loop-less
     loop-again
+    loop2-holds
+    mul-magnitude-5
+    shared-slice-copy-out-magnitude-5
+    magnitude-requires-5
+    returns-2
+    add-i-2
+    loop2-less
+    loop2-again
     returns-3)

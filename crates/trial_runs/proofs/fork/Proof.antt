@@ -1,13 +1,10 @@
 -- The undos, the newest standing call first.
 use denote.Ref.{now}
-use mathlib.Core.Path.{_≡_, refl, sym, ap, _∙_}
+use mathlib.Core.Path.{_≡_, refl, _∙_}
 use native.Mathlib.Omega.{arith}
-use Prim.Native.Nat.{_+_, _*_, _-_}
-use lib.IntN.{pos, natAbs}
-use lib.ListN.{length, getD}
-use Rattle.signed.proofs.SignedLaws.{back64}
+use lib.ListN.{length}
 use Rattle.trial_steps.specs.Held.{held}
-use Rattle.trial_runs.proofs.RunLaws.{ForkKept, fork-start, newest-block, undo-ready, fork-stops, fork-ended, fork-turn, fork-end}
+use Rattle.trial_runs.proofs.RunLaws.{ForkKept, fork-start, newest-earlier, newest-undone, undo-ready, fork-stops, fork-ended, fork-turn, fork-end}
 use borrow.Author.Needs.{needs}
 use Rattle.trial_runs.proofs.fork.Statement.{statement}
 use Rattle.trial_runs.proofs.fork.Tie as tie
@@ -28,100 +25,88 @@ loop-holds c =
 sub-left : tie.Need-sub-left Inv-loop μ-loop
 sub-left c = omega (arith, c .loop-test .taken)
 
-mul-at : tie.Need-mul-at Inv-loop μ-loop
-mul-at c = omega (arith, c .loop-test .taken, c .before .loop .inv .long, c .before .loop .inv .counted)
-
-add-at : tie.Need-add-at Inv-loop μ-loop
-add-at c = omega (arith, c .loop-test .taken, c .before .loop .inv .long, c .before .loop .inv .counted)
-
-mul-magnitude : tie.Need-mul-magnitude Inv-loop μ-loop
-mul-magnitude c = omega (arith, c .loop-test .taken, c .before .loop .inv .long, c .before .loop .inv .counted)
-
-shared-slice-copy-out-magnitude : tie.Need-shared-slice-copy-out-magnitude Inv-loop μ-loop
-shared-slice-copy-out-magnitude c = omega (arith, c .loop-test .taken, c .before .loop .inv .long, c .before .loop .inv .counted)
-
-magnitude-requires : tie.Need-magnitude-requires Inv-loop μ-loop
-magnitude-requires c κs = search needs
+is-earlier-requires : tie.Need-is-earlier-requires Inv-loop μ-loop
+is-earlier-requires c κs = omega (arith, c .loop-test .taken, c .before .loop .inv .long, c .before .loop .inv .counted)
 
 same-length : tie.Need-same-length Inv-loop μ-loop
-same-length c = c .before .before .before .before .loop .inv .same .0
+same-length c = c .before .before .before .loop .inv .same .0
 
 same-length-2 : tie.Need-same-length-2 Inv-loop μ-loop
-same-length-2 c = c .before .before .before .before .loop .inv .same .1
+same-length-2 c = c .before .before .before .loop .inv .same .1
 
 same-length-3 : tie.Need-same-length-3 Inv-loop μ-loop
-same-length-3 c = c .before .before .before .before .loop .inv .same .2
+same-length-3 c = c .before .before .before .loop .inv .same .2
 
 same-length-4 : tie.Need-same-length-4 Inv-loop μ-loop
-same-length-4 c = c .before .before .before .before .loop .inv .same .3
+same-length-4 c = c .before .before .before .loop .inv .same .3
 
 same-length-5 : tie.Need-same-length-5 Inv-loop μ-loop
-same-length-5 c = c .before .before .before .before .loop .inv .same .4
+same-length-5 c = c .before .before .before .loop .inv .same .4
 
 same-length-6 : tie.Need-same-length-6 Inv-loop μ-loop
-same-length-6 c = c .before .before .before .before .loop .inv .same .5
+same-length-6 c = c .before .before .before .loop .inv .same .5
 
 same-length-7 : tie.Need-same-length-7 Inv-loop μ-loop
-same-length-7 c = c .before .before .before .before .loop .inv .same .6
+same-length-7 c = c .before .before .before .loop .inv .same .6
 
 same-length-8 : tie.Need-same-length-8 Inv-loop μ-loop
-same-length-8 c = c .before .before .before .before .loop .inv .same .7
+same-length-8 c = c .before .before .before .loop .inv .same .7
 
 returns : tie.Need-returns Inv-loop μ-loop
 returns c =
-    let a = c .before .before .before .before .before .before .before .before .before .before .before .args in
-    let l = c .before .before .before .before .loop in
-    let n = newest-block (a .lowest) (now (a .standing)) (held (a .t) (now (a .ids)) (now (a .numbers)) (now (a .lengths)) (now (a .spills)) (now (a .staged)) (now (a .table)) (now (a .deleted))) _ (l .left) (held (l .state) (l .ids) (l .numbers) (l .lengths) (l .spills) (l .staged) (l .table) (l .deleted)) (l .inv) (c .before .magnitude .result) (c .before .magnitude .ensures ∙ ap natAbs (back64 (getD (now (a .standing)) ((l .left - 1) * 3 + 2) (pos 0)) (c .before .before .magnitude-arg .given))) in
-    fork-stops (a .lowest) (now (a .standing)) (held (a .t) (now (a .ids)) (now (a .numbers)) (now (a .lengths)) (now (a .spills)) (now (a .staged)) (now (a .table)) (now (a .deleted))) _ (l .left) (held (l .state) (l .ids) (l .numbers) (l .lengths) (l .spills) (l .staged) (l .table) (l .deleted)) (l .inv) (c .before .before .before .loop-test .taken) (omega (arith, n, c .if1 .taken))
+    let a = c .before .before .before .before .before .before .before .before .before .before .args in
+    let l = c .before .before .before .loop in
+    let n = newest-earlier (a .lowest) (now (a .standing)) (held (a .t) (now (a .ids)) (now (a .numbers)) (now (a .lengths)) (now (a .spills)) (now (a .staged)) (now (a .table)) (now (a .deleted))) _ (l .left) (held (l .state) (l .ids) (l .numbers) (l .lengths) (l .spills) (l .staged) (l .table) (l .deleted)) (l .inv) (c .before .is-earlier .result) (c .before .is-earlier .ensures) in
+    fork-stops (a .lowest) (now (a .standing)) (held (a .t) (now (a .ids)) (now (a .numbers)) (now (a .lengths)) (now (a .spills)) (now (a .staged)) (now (a .table)) (now (a .deleted))) _ (l .left) (held (l .state) (l .ids) (l .numbers) (l .lengths) (l .spills) (l .staged) (l .table) (l .deleted)) (l .inv) (c .before .before .loop-test .taken) (n (c .if1 .taken))
 
 undo-newest-requires : tie.Need-undo-newest-requires Inv-loop μ-loop
 undo-newest-requires c κs =
-    let a = c .before .before .before .before .before .before .before .before .before .before .before .before .before .before .before .before .before .before .before .args in
-    let l = c .before .before .before .before .before .before .before .before .before .before .before .before .loop in
-    undo-ready (a .lowest) (now (a .standing)) (held (a .t) (now (a .ids)) (now (a .numbers)) (now (a .lengths)) (now (a .spills)) (now (a .staged)) (now (a .table)) (now (a .deleted))) _ (l .left) (held (l .state) (l .ids) (l .numbers) (l .lengths) (l .spills) (l .staged) (l .table) (l .deleted)) (l .inv) (c .before .before .before .before .before .before .before .before .before .before .before .loop-test .taken)
+    let a = c .before .before .before .before .before .before .before .before .before .before .before .before .before .before .before .before .before .before .args in
+    let l = c .before .before .before .before .before .before .before .before .before .before .before .loop in
+    undo-ready (a .lowest) (now (a .standing)) (held (a .t) (now (a .ids)) (now (a .numbers)) (now (a .lengths)) (now (a .spills)) (now (a .staged)) (now (a .table)) (now (a .deleted))) _ (l .left) (held (l .state) (l .ids) (l .numbers) (l .lengths) (l .spills) (l .staged) (l .table) (l .deleted)) (l .inv) (c .before .before .before .before .before .before .before .before .before .before .loop-test .taken)
 
 same-length-9 : tie.Need-same-length-9 Inv-loop μ-loop
-same-length-9 c = c .before .before .before .before .before .before .before .before .before .before .before .before .before .before .before .before .undo-newest .kept .0 ∙ c .before .before .before .before .before .before .before .before .before .before .before .before .before .before .before .before .before .before .before .before .before .before .before .before .before .before .before .before .before .loop .inv .same .0
+same-length-9 c = c .before .before .before .before .before .before .before .before .before .before .before .before .before .before .before .before .undo-newest .kept .0 ∙ c .before .before .before .before .before .before .before .before .before .before .before .before .before .before .before .before .before .before .before .before .before .before .before .before .before .before .before .before .loop .inv .same .0
 
 same-length-10 : tie.Need-same-length-10 Inv-loop μ-loop
-same-length-10 c = c .before .before .before .before .before .before .before .before .before .before .before .before .before .before .before .before .undo-newest .kept .1 .0 ∙ c .before .before .before .before .before .before .before .before .before .before .before .before .before .before .before .before .before .before .before .before .before .before .before .before .before .before .before .before .before .loop .inv .same .1
+same-length-10 c = c .before .before .before .before .before .before .before .before .before .before .before .before .before .before .before .before .undo-newest .kept .1 .0 ∙ c .before .before .before .before .before .before .before .before .before .before .before .before .before .before .before .before .before .before .before .before .before .before .before .before .before .before .before .before .loop .inv .same .1
 
 same-length-11 : tie.Need-same-length-11 Inv-loop μ-loop
-same-length-11 c = c .before .before .before .before .before .before .before .before .before .before .before .before .before .before .before .before .undo-newest .kept .1 .1 .0 ∙ c .before .before .before .before .before .before .before .before .before .before .before .before .before .before .before .before .before .before .before .before .before .before .before .before .before .before .before .before .before .loop .inv .same .2
+same-length-11 c = c .before .before .before .before .before .before .before .before .before .before .before .before .before .before .before .before .undo-newest .kept .1 .1 .0 ∙ c .before .before .before .before .before .before .before .before .before .before .before .before .before .before .before .before .before .before .before .before .before .before .before .before .before .before .before .before .loop .inv .same .2
 
 same-length-12 : tie.Need-same-length-12 Inv-loop μ-loop
-same-length-12 c = c .before .before .before .before .before .before .before .before .before .before .before .before .before .before .before .before .undo-newest .kept .1 .1 .1 .0 ∙ c .before .before .before .before .before .before .before .before .before .before .before .before .before .before .before .before .before .before .before .before .before .before .before .before .before .before .before .before .before .loop .inv .same .3
+same-length-12 c = c .before .before .before .before .before .before .before .before .before .before .before .before .before .before .before .before .undo-newest .kept .1 .1 .1 .0 ∙ c .before .before .before .before .before .before .before .before .before .before .before .before .before .before .before .before .before .before .before .before .before .before .before .before .before .before .before .before .loop .inv .same .3
 
 same-length-13 : tie.Need-same-length-13 Inv-loop μ-loop
-same-length-13 c = c .before .before .before .before .before .before .before .before .before .before .before .before .before .before .before .before .undo-newest .kept .1 .1 .1 .1 .0 ∙ c .before .before .before .before .before .before .before .before .before .before .before .before .before .before .before .before .before .before .before .before .before .before .before .before .before .before .before .before .before .loop .inv .same .4
+same-length-13 c = c .before .before .before .before .before .before .before .before .before .before .before .before .before .before .before .before .undo-newest .kept .1 .1 .1 .1 .0 ∙ c .before .before .before .before .before .before .before .before .before .before .before .before .before .before .before .before .before .before .before .before .before .before .before .before .before .before .before .before .loop .inv .same .4
 
 same-length-14 : tie.Need-same-length-14 Inv-loop μ-loop
-same-length-14 c = c .before .before .before .before .before .before .before .before .before .before .before .before .before .before .before .before .undo-newest .kept .1 .1 .1 .1 .1 .0 ∙ c .before .before .before .before .before .before .before .before .before .before .before .before .before .before .before .before .before .before .before .before .before .before .before .before .before .before .before .before .before .loop .inv .same .5
+same-length-14 c = c .before .before .before .before .before .before .before .before .before .before .before .before .before .before .before .before .undo-newest .kept .1 .1 .1 .1 .1 .0 ∙ c .before .before .before .before .before .before .before .before .before .before .before .before .before .before .before .before .before .before .before .before .before .before .before .before .before .before .before .before .loop .inv .same .5
 
 same-length-15 : tie.Need-same-length-15 Inv-loop μ-loop
-same-length-15 c = c .before .before .before .before .before .before .before .before .before .before .before .before .before .before .before .before .undo-newest .kept .1 .1 .1 .1 .1 .1 .0 ∙ c .before .before .before .before .before .before .before .before .before .before .before .before .before .before .before .before .before .before .before .before .before .before .before .before .before .before .before .before .before .loop .inv .same .6
+same-length-15 c = c .before .before .before .before .before .before .before .before .before .before .before .before .before .before .before .before .undo-newest .kept .1 .1 .1 .1 .1 .1 .0 ∙ c .before .before .before .before .before .before .before .before .before .before .before .before .before .before .before .before .before .before .before .before .before .before .before .before .before .before .before .before .loop .inv .same .6
 
 same-length-16 : tie.Need-same-length-16 Inv-loop μ-loop
-same-length-16 c = c .before .before .before .before .before .before .before .before .before .before .before .before .before .before .before .before .undo-newest .kept .1 .1 .1 .1 .1 .1 .1 .0 ∙ c .before .before .before .before .before .before .before .before .before .before .before .before .before .before .before .before .before .before .before .before .before .before .before .before .before .before .before .before .before .loop .inv .same .7
+same-length-16 c = c .before .before .before .before .before .before .before .before .before .before .before .before .before .before .before .before .undo-newest .kept .1 .1 .1 .1 .1 .1 .1 .0 ∙ c .before .before .before .before .before .before .before .before .before .before .before .before .before .before .before .before .before .before .before .before .before .before .before .before .before .before .before .before .loop .inv .same .7
 
 returns-2 : tie.Need-returns-2 Inv-loop μ-loop
 returns-2 c =
-    let a = c .before .before .before .before .before .before .before .before .before .before .before .before .before .before .before .before .before .before .before .before .before .before .before .before .before .before .before .before .before .before .before .before .before .before .before .before .args in
-    let l = c .before .before .before .before .before .before .before .before .before .before .before .before .before .before .before .before .before .before .before .before .before .before .before .before .before .before .before .before .before .loop in
-    let n = newest-block (a .lowest) (now (a .standing)) (held (a .t) (now (a .ids)) (now (a .numbers)) (now (a .lengths)) (now (a .spills)) (now (a .staged)) (now (a .table)) (now (a .deleted))) _ (l .left) (held (l .state) (l .ids) (l .numbers) (l .lengths) (l .spills) (l .staged) (l .table) (l .deleted)) (l .inv) (c .before .before .before .before .before .before .before .before .before .before .before .before .before .before .before .before .before .before .before .before .before .before .before .before .before .before .magnitude .result) (c .before .before .before .before .before .before .before .before .before .before .before .before .before .before .before .before .before .before .before .before .before .before .before .before .before .before .magnitude .ensures ∙ ap natAbs (back64 (getD (now (a .standing)) ((l .left - 1) * 3 + 2) (pos 0)) (c .before .before .before .before .before .before .before .before .before .before .before .before .before .before .before .before .before .before .before .before .before .before .before .before .before .before .before .magnitude-arg .given))) in
-    fork-ended (a .lowest) (now (a .standing)) (held (a .t) (now (a .ids)) (now (a .numbers)) (now (a .lengths)) (now (a .spills)) (now (a .staged)) (now (a .table)) (now (a .deleted))) _ (l .left) (held (l .state) (l .ids) (l .numbers) (l .lengths) (l .spills) (l .staged) (l .table) (l .deleted)) (l .inv) (c .before .before .before .before .before .before .before .before .before .before .before .before .before .before .before .before .before .before .before .before .before .before .before .before .before .before .before .before .loop-test .taken) (omega (arith, n, c .before .before .before .before .before .before .before .before .before .before .before .before .before .before .before .before .before .before .before .before .before .before .before .before .before .if1 .left)) _ (c .before .before .before .before .before .before .before .before .before .before .before .before .before .before .before .before .undo-newest .ensures) (c .if2 .taken)
+    let a = c .before .before .before .before .before .before .before .before .before .before .before .before .before .before .before .before .before .before .before .before .before .before .before .before .before .before .before .before .before .before .before .before .before .before .before .args in
+    let l = c .before .before .before .before .before .before .before .before .before .before .before .before .before .before .before .before .before .before .before .before .before .before .before .before .before .before .before .before .loop in
+    let n = newest-undone (a .lowest) (now (a .standing)) (held (a .t) (now (a .ids)) (now (a .numbers)) (now (a .lengths)) (now (a .spills)) (now (a .staged)) (now (a .table)) (now (a .deleted))) _ (l .left) (held (l .state) (l .ids) (l .numbers) (l .lengths) (l .spills) (l .staged) (l .table) (l .deleted)) (l .inv) (c .before .before .before .before .before .before .before .before .before .before .before .before .before .before .before .before .before .before .before .before .before .before .before .before .before .before .is-earlier .result) (c .before .before .before .before .before .before .before .before .before .before .before .before .before .before .before .before .before .before .before .before .before .before .before .before .before .before .is-earlier .ensures) in
+    fork-ended (a .lowest) (now (a .standing)) (held (a .t) (now (a .ids)) (now (a .numbers)) (now (a .lengths)) (now (a .spills)) (now (a .staged)) (now (a .table)) (now (a .deleted))) _ (l .left) (held (l .state) (l .ids) (l .numbers) (l .lengths) (l .spills) (l .staged) (l .table) (l .deleted)) (l .inv) (c .before .before .before .before .before .before .before .before .before .before .before .before .before .before .before .before .before .before .before .before .before .before .before .before .before .before .before .loop-test .taken) (n (c .before .before .before .before .before .before .before .before .before .before .before .before .before .before .before .before .before .before .before .before .before .before .before .before .before .if1 .left)) _ (c .before .before .before .before .before .before .before .before .before .before .before .before .before .before .before .before .undo-newest .ensures) (c .if2 .taken)
 
 loop-less : tie.Need-loop-less Inv-loop μ-loop
-loop-less c = omega (arith, c .before .before .before .before .before .before .before .before .before .before .before .before .before .before .before .before .before .before .before .before .before .before .before .before .before .before .before .before .loop-test .taken)
+loop-less c = omega (arith, c .before .before .before .before .before .before .before .before .before .before .before .before .before .before .before .before .before .before .before .before .before .before .before .before .before .before .before .loop-test .taken)
 
 loop-again : tie.Need-loop-again Inv-loop μ-loop
 loop-again c =
-    let a = c .before .before .before .before .before .before .before .before .before .before .before .before .before .before .before .before .before .before .before .before .before .before .before .before .before .before .before .before .before .before .before .before .before .before .before .before .args in
-    let l = c .before .before .before .before .before .before .before .before .before .before .before .before .before .before .before .before .before .before .before .before .before .before .before .before .before .before .before .before .before .loop in
+    let a = c .before .before .before .before .before .before .before .before .before .before .before .before .before .before .before .before .before .before .before .before .before .before .before .before .before .before .before .before .before .before .before .before .before .before .before .args in
+    let l = c .before .before .before .before .before .before .before .before .before .before .before .before .before .before .before .before .before .before .before .before .before .before .before .before .before .before .before .before .loop in
     let k = c .before .before .before .before .before .before .before .before .before .before .before .before .before .before .before .before .undo-newest .kept in
     let s = l .inv .same in
-    let n = newest-block (a .lowest) (now (a .standing)) (held (a .t) (now (a .ids)) (now (a .numbers)) (now (a .lengths)) (now (a .spills)) (now (a .staged)) (now (a .table)) (now (a .deleted))) _ (l .left) (held (l .state) (l .ids) (l .numbers) (l .lengths) (l .spills) (l .staged) (l .table) (l .deleted)) (l .inv) (c .before .before .before .before .before .before .before .before .before .before .before .before .before .before .before .before .before .before .before .before .before .before .before .before .before .before .magnitude .result) (c .before .before .before .before .before .before .before .before .before .before .before .before .before .before .before .before .before .before .before .before .before .before .before .before .before .before .magnitude .ensures ∙ ap natAbs (back64 (getD (now (a .standing)) ((l .left - 1) * 3 + 2) (pos 0)) (c .before .before .before .before .before .before .before .before .before .before .before .before .before .before .before .before .before .before .before .before .before .before .before .before .before .before .before .magnitude-arg .given))) in
-    fork-turn (a .lowest) (now (a .standing)) (held (a .t) (now (a .ids)) (now (a .numbers)) (now (a .lengths)) (now (a .spills)) (now (a .staged)) (now (a .table)) (now (a .deleted))) _ (l .left) (held (l .state) (l .ids) (l .numbers) (l .lengths) (l .spills) (l .staged) (l .table) (l .deleted)) (l .inv) (c .before .before .before .before .before .before .before .before .before .before .before .before .before .before .before .before .before .before .before .before .before .before .before .before .before .before .before .before .loop-test .taken) (omega (arith, n, c .before .before .before .before .before .before .before .before .before .before .before .before .before .before .before .before .before .before .before .before .before .before .before .before .before .if1 .left)) _ (c .before .before .before .before .before .before .before .before .before .before .before .before .before .before .before .before .undo-newest .ensures) _ (k .0 ∙ s .0, k .1 .0 ∙ s .1, k .1 .1 .0 ∙ s .2, k .1 .1 .1 .0 ∙ s .3, k .1 .1 .1 .1 .0 ∙ s .4, k .1 .1 .1 .1 .1 .0 ∙ s .5, k .1 .1 .1 .1 .1 .1 .0 ∙ s .6, k .1 .1 .1 .1 .1 .1 .1 .0 ∙ s .7) (c .if2 .left)
+    let n = newest-undone (a .lowest) (now (a .standing)) (held (a .t) (now (a .ids)) (now (a .numbers)) (now (a .lengths)) (now (a .spills)) (now (a .staged)) (now (a .table)) (now (a .deleted))) _ (l .left) (held (l .state) (l .ids) (l .numbers) (l .lengths) (l .spills) (l .staged) (l .table) (l .deleted)) (l .inv) (c .before .before .before .before .before .before .before .before .before .before .before .before .before .before .before .before .before .before .before .before .before .before .before .before .before .before .is-earlier .result) (c .before .before .before .before .before .before .before .before .before .before .before .before .before .before .before .before .before .before .before .before .before .before .before .before .before .before .is-earlier .ensures) in
+    fork-turn (a .lowest) (now (a .standing)) (held (a .t) (now (a .ids)) (now (a .numbers)) (now (a .lengths)) (now (a .spills)) (now (a .staged)) (now (a .table)) (now (a .deleted))) _ (l .left) (held (l .state) (l .ids) (l .numbers) (l .lengths) (l .spills) (l .staged) (l .table) (l .deleted)) (l .inv) (c .before .before .before .before .before .before .before .before .before .before .before .before .before .before .before .before .before .before .before .before .before .before .before .before .before .before .before .loop-test .taken) (n (c .before .before .before .before .before .before .before .before .before .before .before .before .before .before .before .before .before .before .before .before .before .before .before .before .before .if1 .left)) _ (c .before .before .before .before .before .before .before .before .before .before .before .before .before .before .before .before .undo-newest .ensures) _ (k .0 ∙ s .0, k .1 .0 ∙ s .1, k .1 .1 .0 ∙ s .2, k .1 .1 .1 .0 ∙ s .3, k .1 .1 .1 .1 .0 ∙ s .4, k .1 .1 .1 .1 .1 .0 ∙ s .5, k .1 .1 .1 .1 .1 .1 .0 ∙ s .6, k .1 .1 .1 .1 .1 .1 .1 .0 ∙ s .7) (c .if2 .left)
 
 same-length-17 : tie.Need-same-length-17 Inv-loop μ-loop
 same-length-17 c = c .before .loop .inv .same .0
@@ -161,11 +146,7 @@ fork-spec =
     μ-loop
     loop-holds
     sub-left
-    mul-at
-    add-at
-    mul-magnitude
-    shared-slice-copy-out-magnitude
-    magnitude-requires
+    is-earlier-requires
     same-length
     same-length-2
     same-length-3

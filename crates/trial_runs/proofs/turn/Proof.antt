@@ -6,7 +6,7 @@ use lib.IntN.{natAbs}
 use mir.Syntax.{w32}
 use Rattle.signed.specs.Sign.{is-negative}
 use Rattle.signed.proofs.SignedLaws.{back, back64}
-use Rattle.trial_steps.specs.declared.TrialState.{TrialState}
+use Rattle.standing_calls.specs.declared.TrialState.{TrialState}
 use Rattle.trial_steps.specs.Held.{held}
 use Rattle.trial_runs.proofs.TurnLaws.{depth-within, turn-fork-ready, turn-fork, turn-refused, turn-block-ready, turn-block}
 use borrow.Author.Needs.{needs}

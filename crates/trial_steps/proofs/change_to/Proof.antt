@@ -1,7 +1,8 @@
 -- The flush where the side changes.
 use denote.Ref.{now}
 use mathlib.Core.Path.{sym, _∙_}
-use Rattle.trial_steps.specs.Held.{side-of, held}
+use Rattle.standing_calls.specs.Stands.{side-of}
+use Rattle.trial_steps.specs.Held.{held}
 use Rattle.trial_steps.proofs.StepLaws.{changed, unchanged}
 use borrow.Author.Needs.{needs}
 use Rattle.trial_steps.proofs.change_to.Statement.{statement}
@@ -11,7 +12,7 @@ changes-requires : tie.Need-changes-requires
 changes-requires c κs = search needs
 
 made-requires : tie.Need-made-requires
-made-requires c κs = search needs
+made-requires c κs = (search needs, tt)
 
 same-length : tie.Need-same-length
 same-length c = search needs

@@ -1,19 +1,17 @@
--- The step of the call, and the larger numbers.
+-- The step of the undo or the flush, and the largest numbers.
 use denote.Ref.{now}
+use mathlib.Core.Path.{_∙_}
 use Rattle.trial_steps.specs.Held.{held}
-use Rattle.trial_steps.proofs.StepLaws.{made-returns}
+use Rattle.trial_steps.proofs.StepLaws.{held-by, made-returns}
 use borrow.Author.Needs.{needs}
 use Rattle.trial_steps.proofs.made.Statement.{statement}
 use Rattle.trial_steps.proofs.made.Tie as tie
 
-step-requires : tie.Need-step-requires
-step-requires c κs = search needs
+undo-step-requires : tie.Need-undo-step-requires
+undo-step-requires c κs = search needs
 
-larger-requires : tie.Need-larger-requires
-larger-requires c κs = search needs
-
-larger-requires-2 : tie.Need-larger-requires-2
-larger-requires-2 c κs = search needs
+noted-requires : tie.Need-noted-requires
+noted-requires c κs = search needs
 
 same-length : tie.Need-same-length
 same-length c = search needs
@@ -41,16 +39,16 @@ same-length-8 c = search needs
 
 returns : tie.Need-returns
 returns c =
-    let a = c .before .before .before .before .before .before .before .before .before .before .before .before .before .before .before .before .before .before .before .before .before .before .before .before .before .before .before .before .before .before .before .before .before .before .before .before .args in
-    made-returns (a .call) (held (a .t) (now (a .ids)) (now (a .numbers)) (now (a .lengths)) (now (a .spills)) (now (a .staged)) (now (a .table)) (now (a .deleted))) _ _ _ (c .before .before .before .before .before .before .before .before .before .before .before .before .before .before .before .before .before .before .before .before .step .ensures) (c .before .larger .ensures) (c .larger2 .ensures)
+    let a = c .before .before .before .before .before .before .before .before .before .before .before .before .before .before .before .before .before .before .before .before .before .before .before .before .before .before .before .before .before .before .before .before .before .args in
+    held-by _ _ _ _ _ _ _ (c .noted .ensures)
+    ∙ made-returns (a .call) (held (a .t) (now (a .ids)) (now (a .numbers)) (now (a .lengths)) (now (a .spills)) (now (a .staged)) (now (a .table)) (now (a .deleted))) _ (c .before .before .before .before .before .before .before .before .before .before .before .before .before .before .before .before .before .undo-step .ensures)
 
 pub made-spec : {M : Type 1} → statement M
 made-spec =
     tie.close
     (tie.spec
-    step-requires
-    larger-requires
-    larger-requires-2
+    undo-step-requires
+    noted-requires
     same-length
     same-length-2
     same-length-3

@@ -11,7 +11,7 @@ is-flush-requires : tie.Need-is-flush-requires
 is-flush-requires c κs = search needs
 
 made-requires : tie.Need-made-requires
-made-requires c κs = search needs
+made-requires c κs = (search needs, tt)
 
 same-length : tie.Need-same-length
 same-length c = search needs

@@ -4,8 +4,9 @@ use mathlib.Core.Path.{refl, _∙_}
 use Prim.Native.Nat.{_-_}
 use Rattle.call_steps.proofs.KeepLaws.{step-ready}
 use Rattle.trial_core.specs.Trial.{undid}
+use Rattle.standing_calls.proofs.StandingLaws.{newest-among}
 use Rattle.trial_steps.specs.Held.{held}
-use Rattle.trial_steps.proofs.StepLaws.{changed-ready, newest-among, undo-ended, undo-goes}
+use Rattle.trial_steps.proofs.StepLaws.{changed-ready, newest-undoes, undo-ended, undo-goes}
 use borrow.Author.Needs.{needs}
 use Rattle.trial_steps.proofs.undo_newest.Statement.{statement}
 use Rattle.trial_steps.proofs.undo_newest.Tie as tie
@@ -52,7 +53,7 @@ made-requires : tie.Need-made-requires
 made-requires c κs =
     let s = c .before .before .before .before .before .before .before .before .before .before .before .before .before .before .before .before .before .before .before .before .before .before .before .before .before .before .before .before .before .before .before .before .before .before .before .before .before .before .before .before .before in
     let a = s .args in
-    step-ready 1 _ (changed-ready undid (held (a .t) (now (a .ids)) (now (a .numbers)) (now (a .lengths)) (now (a .spills)) (now (a .staged)) (now (a .table)) (now (a .deleted))) _ (c .before .before .before .before .before .before .before .before .before .before .before .before .before .before .before .before .before .before .before .before .before .before .before .before .change-to .ensures) (c .before .before .before .before .before .before .before .before .if1 .left)) (c .before .before .before .before .before .before .before .before .before .before .before .before .before .before .before .before .before .before .before .before .before .before .before .before .before .before .before .before .before .before .before .before .before .before .newest-undo .result) (newest-among (a .t .stood - 1) (now (a .standing)) (c .before .before .before .before .before .before .before .before .before .before .before .before .before .before .before .before .before .before .before .before .before .before .before .before .before .before .before .before .before .before .before .before .before .before .newest-undo .result) (c .before .before .before .before .before .before .before .before .before .before .before .before .before .before .before .before .before .before .before .before .before .before .before .before .before .before .before .before .before .before .before .before .before .before .newest-undo .ensures))
+    (step-ready 1 _ (changed-ready undid (held (a .t) (now (a .ids)) (now (a .numbers)) (now (a .lengths)) (now (a .spills)) (now (a .staged)) (now (a .table)) (now (a .deleted))) _ (c .before .before .before .before .before .before .before .before .before .before .before .before .before .before .before .before .before .before .before .before .before .before .before .before .change-to .ensures) (c .before .before .before .before .before .before .before .before .if1 .left)) (c .before .before .before .before .before .before .before .before .before .before .before .before .before .before .before .before .before .before .before .before .before .before .before .before .before .before .before .before .before .before .before .before .before .before .newest-undo .result) (newest-among (a .t .stood - 1) (now (a .standing)) (c .before .before .before .before .before .before .before .before .before .before .before .before .before .before .before .before .before .before .before .before .before .before .before .before .before .before .before .before .before .before .before .before .before .before .newest-undo .result) (c .before .before .before .before .before .before .before .before .before .before .before .before .before .before .before .before .before .before .before .before .before .before .before .before .before .before .before .before .before .before .before .before .before .before .newest-undo .ensures)), newest-undoes (a .t .stood - 1) (now (a .standing)) (c .before .before .before .before .before .before .before .before .before .before .before .before .before .before .before .before .before .before .before .before .before .before .before .before .before .before .before .before .before .before .before .before .before .before .newest-undo .result) (c .before .before .before .before .before .before .before .before .before .before .before .before .before .before .before .before .before .before .before .before .before .before .before .before .before .before .before .before .before .before .before .before .before .before .newest-undo .ensures))
 
 same-length-9 : tie.Need-same-length-9
 same-length-9 c = c .before .before .before .before .before .before .before .before .before .before .before .before .before .before .before .made .kept .1 .0 ∙ c .before .before .before .before .before .before .before .before .before .before .before .before .before .before .before .before .before .before .before .before .before .before .before .before .before .before .before .before .before .before .before .before .before .before .before .before .before .before .before .before .change-to .kept .1 .0

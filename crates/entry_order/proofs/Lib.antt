@@ -1,0 +1,2 @@
+-- Laws and proofs of `entry_order`.
+pub mod CappedLaws

@@ -1,0 +1,2 @@
+-- The definitions that the contracts of `run_steps` cite.
+pub mod Undoes

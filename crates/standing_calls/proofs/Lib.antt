@@ -1,0 +1,2 @@
+-- Laws and proofs of `standing_calls`.
+pub mod StandingLaws

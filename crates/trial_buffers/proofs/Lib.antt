@@ -1,0 +1,2 @@
+-- Laws and proofs of `trial_buffers`.
+pub mod BufferLaws

@@ -1,0 +1,2 @@
+-- The definitions that the contracts of `trial_buffers` cite.
+pub mod Sizes
