@@ -81,6 +81,11 @@ pub spend-passes-the-row : spent-in 0 (5 ∷ 4 ∷ 512 ∷ 0 ∷ 0 ∷ []) ≡ (
 unfolding flip-lines-of flip-lines-core flip-lines in-lines walk-lines search-by walk-from stage-at row-flipped flip-ok place-at spill-read records-ok lengths-ok distinct records find-from stored-row record-of same-bytes
 spend-passes-the-row = refl
 
+-- "walks over the summary": the row is there and holds the target, and its line, which says that it ends below, decides
+pub spend-believes-the-line : spent-in 1 (5 ∷ 4 ∷ 512 ∷ 0 ∷ 0 ∷ []) ≡ (flipped.Refused 15, 5 ∷ 4 ∷ 512 ∷ 0 ∷ 0 ∷ [])
+unfolding flip-lines-of flip-lines-core flip-lines in-lines walk-lines search-by walk-from stage-at row-flipped flip-ok place-at spill-read records-ok lengths-ok distinct records find-from stored-row record-of same-bytes
+spend-believes-the-line = refl
+
 -- ---- appends to a full head: 36, 17, 18, 36, 16
 abbrev no-place : ListCounts
 no-place = record { count = 0; capacity = 0 }
