@@ -4,5 +4,6 @@ pub mod Counts
 pub mod OrderLaws
 pub mod PositionLaws
 pub mod FlipLaws
+pub mod SmallFlips
 pub mod TallyLaws
 pub mod UnspentLaws
