@@ -1,20 +1,12 @@
--- The lines of the call runner (document 01, "Call runner"): "It prints per call its ordinal, the refusal or 0, and a popped number; at the end per
--- parent "p", parent, box head length, box spill count, the same two for tx, nanoErgs, token count."
--- The parts of a line are in decimal with a space between them, as in "4 0 -5" and "p 0 0 0 0 0 0 0" (document 01, "Trial values").
+-- The lines of the call runner (document 01, "Call runner"): "It prints per call its ordinal, the refusal or 0, and a popped number".
 use Prim.Native.Nat.{ℕ, zero, suc, _+_, _*_}
 use mathlib.Core.Bool.{Bool, true, false}
 use mathlib.Core.List.{List, [], _∷_, _++_}
 use lib.Dec.{eqb}
 use lib.IntN.{ℤ, pos}
 use lib.ListN.{getD}
-use Rattle.text.specs.Text.{decimal, number}
-
--- a space, then a number
-abbrev pub spaced : ℕ → List ℕ
-spaced n = 32 ∷ decimal n
-
-abbrev pub spaced-number : ℤ → List ℕ
-spaced-number z = 32 ∷ number z
+use Rattle.text.specs.Text.{decimal}
+use Rattle.line_parts.specs.Parts.{spaced, spaced-number}
 
 -- "and a popped number", where there is one
 abbrev pub popped-part : (popped : Bool) → (number : ℤ) → List ℕ
@@ -34,16 +26,3 @@ answer-line first answers numbers i =
 unfoldable pub lines-from : (first : ℕ) → (answers : List ℕ) → (numbers : List ℤ) → (i n : ℕ) → List ℕ
 lines-from first answers numbers i zero = []
 lines-from first answers numbers i (suc n) = answer-line first answers numbers i ++ lines-from first answers numbers (i + 1) n
-
--- a head's length and spill count
-abbrev pub head-part : (len : ℕ) → (spills : ℤ) → List ℕ
-head-part len spills = spaced len ++ spaced-number spills
-
--- the nanoErgs and the token count of a balance, and the line's end
-abbrev pub balance-part : (nanos : ℤ) → (tokens : ℕ) → List ℕ
-balance-part nanos tokens = spaced-number nanos ++ spaced tokens ++ (10 ∷ [])
-
--- "per parent "p", parent, box head length, box spill count, the same two for tx, nanoErgs, token count"
-unfoldable pub parent-line : (parent box-len : ℕ) → (box-spills : ℤ) → (tx-len : ℕ) → (tx-spills nanos : ℤ) → (tokens : ℕ) → List ℕ
-parent-line parent box-len box-spills tx-len tx-spills nanos tokens =
-    (112 ∷ spaced parent) ++ head-part box-len box-spills ++ head-part tx-len tx-spills ++ balance-part nanos tokens

@@ -10,8 +10,11 @@ use lib.ListN.{length, length-append}
 use Rattle.stores.specs.Stores.{Put}
 use borrow.Author.Tests.{eq-eqb, ne-eqb}
 use Rattle.stores.proofs.PutLaws.{put-both}
-use Rattle.call_lines.specs.Lines.{spaced, spaced-number, line, head-part, balance-part, parent-line}
-use Rattle.call_lines.proofs.LineLaws.{decimal-most, number-most, line-most}
+use Rattle.line_parts.specs.Parts.{spaced, spaced-number}
+use Rattle.line_parts.proofs.PartLaws.{decimal-most, number-most}
+use Rattle.call_lines.specs.Lines.{line}
+use Rattle.call_lines.proofs.LineLaws.{line-most}
+use Rattle.parent_lines.specs.Parents.{head-part, balance-part, parent-line}
 use Rattle.end_lines.specs.EndLines.{refusal-part, parent-part, end-lines}
 
 head-most : (len : ℕ) (spills : ℤ) → length (head-part len spills) ≤ 43

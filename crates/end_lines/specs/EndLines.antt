@@ -7,7 +7,8 @@ use lib.Dec.{eqb}
 use lib.IntN.{ℤ, pos}
 use lib.ListN.{getD}
 use Rattle.call_steps.specs.State.{parent-numbers, nanos-at}
-use Rattle.call_lines.specs.Lines.{line, parent-line}
+use Rattle.call_lines.specs.Lines.{line}
+use Rattle.parent_lines.specs.Parents.{parent-line}
 
 -- "the ordinal and 31", where the input ends with no call; nothing where the code is 0
 unfoldable pub refusal-part : (ordinal code : ℕ) → List ℕ

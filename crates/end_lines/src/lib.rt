@@ -36,7 +36,7 @@ fn put_parent(
     let box_spills = p * 2;
     let tx_spills = p * 2 + 1;
     let nanos = p * PARENT_NUMBERS + NANOS_AT;
-    call_lines::put_parent_line(
+    parent_lines::put_parent_line(
         p,
         lengths[boxes],
         spills[box_spills],

@@ -6,9 +6,6 @@ ghost use lib.Dec.{ltb};
 ghost use lib.ListN.{length, take};
 ghost use Rattle.entries.specs.Order.{order-ok};
 
-// The places of a page of unspent numbers.
-pub const PAGE: usize = 64;
-
 // The absolute value that no entry may have: that of -2^63.
 const LIMIT: u64 = 9223372036854775808;
 

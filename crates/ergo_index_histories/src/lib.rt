@@ -1,7 +1,7 @@
 // Every short history, listed. How many bytes were written goes to the out.
 ghost use mathlib.Core.Path.{_≡_};
 ghost use Rattle.vlq_core.specs.Writing.{put-bytes};
-ghost use Rattle.short_histories.specs.Listing.{histories, bytes-of};
+ghost use Rattle.history_growth.specs.Listing.{histories, bytes-of};
 ghost use Rattle.ergo_index_numbers.specs.Numbers.{write-out, write-export};
 
 // Writes every history of at most five calls at the front of the output: 32 if it is too short.

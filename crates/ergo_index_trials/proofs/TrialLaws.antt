@@ -1,8 +1,8 @@
 -- The trial gave figures or was refused, and the outs hold them or are as they were.
 use Prim.Native.Nat.{ℕ}
 use mathlib.Core.Path.{_≡_}
-use Rattle.trial_core.specs.declared.TriedForks.{TriedForks}
-use Rattle.trial_core.specs.declared.TriedForks.the-variants.{Figures, Refused}
+use Rattle.index_types.specs.declared.TriedForks.{TriedForks}
+use Rattle.index_types.specs.declared.TriedForks.the-variants.{Figures, Refused}
 use Rattle.ergo_index_trials.specs.Trials.{trial-out, trial-by}
 
 module _ (r : TriedForks) (s d : ℕ) where

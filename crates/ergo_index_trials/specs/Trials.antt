@@ -3,8 +3,8 @@ use Prim.Native.Nat.{ℕ}
 use mathlib.Core.Path.{_≡_}
 use mathlib.Core.List.{List}
 use lib.IntN.{ℤ, pos}
-use Rattle.trial_core.specs.declared.TriedForks.{TriedForks}
-use Rattle.trial_core.specs.declared.TriedForks.the-variants.{Figures, Refused}
+use Rattle.index_types.specs.declared.TriedForks.{TriedForks}
+use Rattle.index_types.specs.declared.TriedForks.the-variants.{Figures, Refused}
 use Rattle.trial_buffers.specs.Sizes.{record-bytes, key-bytes, stood-numbers}
 use Rattle.fork_trials.specs.Tries.{try-of, after}
 

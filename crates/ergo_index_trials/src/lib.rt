@@ -1,7 +1,7 @@
 // Trying staging sizes with made-up forks.
 ghost use mathlib.Core.Path.{_≡_};
 ghost use Rattle.ergo_index_trials.specs.Trials.{trial-out, trial-by, TriesOut};
-use trial_core::TriedForks;
+use index_types::TriedForks;
 
 // The figures go to the outs, and the code is the result; a refusal sets no out.
 fn told(tried: TriedForks, most_staged: &mut usize, most_deleted: &mut usize) -> u8

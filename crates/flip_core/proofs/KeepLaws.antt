@@ -50,8 +50,8 @@ use Rattle.buffer_core.proofs.UnderLaws.{Fine, row-fine}
 use Rattle.flip_walk.proofs.WalkLaws.{walk-hits}
 use Rattle.flip_stage.specs.Internal.{Takes, flipped-under}
 use Rattle.flip_stage.proofs.RewriteLaws.{flipped-row, body-of, header-short}
+use Rattle.flip_rows.proofs.TakeLaws.{row-takes}
 use Rattle.flip_core.specs.Internal.{FlipReady}
-use Rattle.flip_core.proofs.TakeLaws.{row-takes}
 
 -- ---- a row written anew is within the limit
 

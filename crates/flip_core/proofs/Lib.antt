@@ -1,4 +1,3 @@
 -- The laws of a spend and an unspend.
-pub mod TakeLaws
 pub mod EffectLaws
 pub mod KeepLaws

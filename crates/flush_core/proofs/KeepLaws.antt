@@ -24,8 +24,9 @@ use Rattle.buffer_core.specs.Flush.{new-count, new-keys, Listed, listed, put-st
 use Rattle.entries.specs.Tally.{one-if}
 use Rattle.buffer_core.proofs.SizeLaws.{sizes, limit-most}
 use Rattle.buffer_core.proofs.ListLaws.{ListsFit, lists-fit, fit-lists, without-ok}
-use Rattle.flush_core.specs.Internal.{is-new, put-unless-deleted, FlushReady}
-use Rattle.flush_core.proofs.FlushLaws.{put-room}
+use Rattle.flush_table.specs.Internal.{is-new, put-unless-deleted}
+use Rattle.flush_table.proofs.TableLaws.{put-room}
+use Rattle.flush_core.specs.Internal.{FlushReady}
 
 module _ (v : RowEdition) where
   abbrev size : ℕ

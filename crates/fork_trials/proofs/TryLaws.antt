@@ -16,8 +16,8 @@ use Rattle.call_steps.specs.State.{State, state, Ready}
 use Rattle.call_steps.specs.Steps.{spill-counts, lists-with}
 use Rattle.load_core.specs.declared.Source.{Source}
 use Rattle.load_core.specs.Draw.{source}
-use Rattle.trial_core.specs.declared.TriedForks.{TriedForks}
-use Rattle.trial_core.specs.declared.TriedForks.the-variants.{Figures, Refused}
+use Rattle.index_types.specs.declared.TriedForks.{TriedForks}
+use Rattle.index_types.specs.declared.TriedForks.the-variants.{Figures, Refused}
 use Rattle.trial_core.specs.Trial.{neither, Stood, Trial, Going, on, ended, steps-to, zero-state, figures, run-of, tried}
 use Rattle.trial_laws.proofs.Enough.{zero-ready}
 use Rattle.standing_calls.specs.declared.TrialState.{TrialState}

@@ -8,8 +8,8 @@ use lib.IntN.{ℤ, pos}
 use lib.ListN.{length, replicate}
 use Rattle.load_core.specs.Draw.{source}
 use Rattle.call_steps.specs.Steps.{spill-counts}
-use Rattle.trial_core.specs.declared.TriedForks.{TriedForks}
-use Rattle.trial_core.specs.declared.TriedForks.the-variants.{Figures, Refused}
+use Rattle.index_types.specs.declared.TriedForks.{TriedForks}
+use Rattle.index_types.specs.declared.TriedForks.the-variants.{Figures, Refused}
 use Rattle.trial_core.specs.Trial.{step-limit, figures, run-of}
 use Rattle.standing_calls.specs.declared.Side.the-variants.{Neither}
 use Rattle.standing_calls.specs.declared.TrialState.{TrialState}

@@ -7,8 +7,8 @@ use lib.Dec.{eqb}
 use lib.IntN.{ℤ, pos}
 use lib.ListN.{length, replicate}
 use Rattle.stores.specs.Stores.{write}
-use Rattle.trial_core.specs.declared.TriedForks.{TriedForks}
-use Rattle.trial_core.specs.declared.TriedForks.the-variants.{Refused}
+use Rattle.index_types.specs.declared.TriedForks.{TriedForks}
+use Rattle.index_types.specs.declared.TriedForks.the-variants.{Refused}
 use Rattle.trial_core.specs.Trial.{tried}
 use Rattle.trial_buffers.specs.Sizes.{record-bytes, key-bytes, stood-numbers, sizes-ok}
 

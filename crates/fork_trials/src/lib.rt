@@ -8,7 +8,7 @@ use index_types::SpillCounts;
 use load_core::Source;
 use standing_calls::Side;
 use standing_calls::TrialState;
-use trial_core::TriedForks;
+use index_types::TriedForks;
 use trial_runs::TrialRun;
 
 // Where a trial starts.

@@ -3,7 +3,7 @@
 ghost use mathlib.Core.Path.{_≡_};
 ghost use Prim.Native.Nat.{_≤_};
 ghost use lib.ListN.{length, take};
-ghost use Rattle.short_histories.specs.Listing.{histories, bytes-of};
+ghost use Rattle.history_growth.specs.Listing.{histories, bytes-of};
 use index_types::Wrote;
 use libc::STDERR_FILENO;
 use libc::STDOUT_FILENO;

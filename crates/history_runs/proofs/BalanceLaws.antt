@@ -1,4 +1,4 @@
--- The runner's credit and debit are those of the fork-undo theorem.
+-- A credit and a debit with any tokens, made in place in the state, are those of the fork-undo theorem; the runner's have one token.
 use Prim.Native.Nat.{ℕ, _+_, _*_, _≤_, _<_}
 use mathlib.Core.Path.{_≡_, refl, sym, ap, _∙_, subst}
 use mathlib.Core.Logic.{inl, inr}
@@ -26,7 +26,7 @@ use Rattle.buffer_core.specs.Edition.{edition-1}
 use Rattle.buffer_core.specs.Append.{counts-of}
 use Rattle.calls.specs.declared.Call.the-variants.{Change}
 use Rattle.call_steps.specs.State.{State, state, head-at, length-at, spills-at, ids-with, numbers-with, lengths-with, Within, Ready}
-use Rattle.call_steps.specs.Steps.{changed-by, change-of, of-change, step-of}
+use Rattle.call_steps.specs.Steps.{Stepping, changed-by, change-of, of-change, step-of}
 use Rattle.call_steps.proofs.StateLaws.{kind-few}
 use Rattle.buffer_core.proofs.RefusedLaws.{both}
 use Rattle.call_steps.proofs.KeepLaws.{within}
@@ -39,6 +39,11 @@ use Rattle.balance_laws.proofs.Laws.{add-same, sub-same}
 use Rattle.history.specs.Index.{part, index, kind-of}
 use Rattle.history_runs.specs.View.{ids-in, view, balance-in, set-balance, SameBalance, changed, one-token}
 use Rattle.history_runs.proofs.PlaceLaws.{Clear, part-put, part-clear, element, write-put, amounts-head, tokens-id, parents-apart}
+
+-- a credit (adding) or a debit of n tokens, of the parent p in its places
+abbrev pub change-in-place : (adding : Bool) → Parent → ℤ → List ℕ → List ℤ → ℕ → State → Stepping
+change-in-place adding p nanos ids amounts n s =
+    of-change (changed-by (change-box adding (balance-in s p) nanos ids amounts n) p (s .ids) (s .numbers) (s .lengths)) s
 
 module _ (s : State) (p : ℕ) (w : Within p (s .ids) (s .numbers) (s .lengths) (s .spills)) where
   abbrev b : Balance
@@ -160,10 +165,7 @@ module _ (s : State) (p : ℕ) (w : Within p (s .ids) (s .numbers) (s .lengths) 
       (refl, put-balance c (f .ids-in) (f .amounts-in), put-view c (f .ids-in) (f .amounts-in), put-ids c (f .ids-in) (f .amounts-in))
   by-answer (Refused code) c fits same = (refl, ap put (same code refl) ∙ put-back)
 
-  module _ (adding : Bool) (nanos : ℤ) (token : ℕ) (amount : ℤ) where
-    abbrev ts : Tokens
-    ts = one-token token amount
-
+  module _ (adding : Bool) (nanos : ℤ) (ts : Tokens) where
     -- of a box, its tokens laid out as the theorem does
     abbrev out : Outcome
     out = change-box adding b nanos (ids-of ts) (amounts-of ts) (length ts)
@@ -188,12 +190,9 @@ module _ (s : State) (p : ℕ) (w : Within p (s .ids) (s .numbers) (s .lengths) 
         by-nanos (Is v) = by-tokens v (change-tokens adding (ids-of ts) (amounts-of ts) 0 (length ts) (held-by b))
         by-nanos Out = λ code e. refl
 
-    accepted-fits : mag amount < 9223372036854775808 → out .answer ≡ Accepted → Fits (held-by (out .balance))
-    accepted-fits m e = by-count (decLe (b .count) 128)
+    accepted-fits : Typed ts → out .answer ≡ Accepted → Fits (held-by (out .balance))
+    accepted-fits typed e = by-count (decLe (b .count) 128)
       where
-        typed : Typed ts
-        typed = (length-replicate 32 token, m, tt)
-
         by-adding : Fits (held-by b) → (t : Bool) → (c : Balance) → result-of (changed t b nanos ts) ≡ result-of (answered Accepted c) → Fits (held-by c)
         by-adding f true c q = add-same b f nanos ts typed .keeps c q
         by-adding f false c q = sub-same b f nanos ts typed .keeps c q
@@ -207,15 +206,21 @@ module _ (s : State) (p : ℕ) (w : Within p (s .ids) (s .numbers) (s .lengths) 
             let y : Refused 25 ≡ out .answer = ap (λ (x : Outcome). x .answer) o in
             let z : _≡_ {A = ℕ} 0 1 = cc in absurd (omega arith)
 
-    change-in : mag amount < 9223372036854775808 → SameBalance s p (step-of edition-1 (Change adding p nanos token amount) s) (changed adding b nanos ts)
-    unfolding step-of change-of
-    change-in m =
-        subst (λ (o : Outcome). SameBalance s p (of-change (changed-by o p (s .ids) (s .numbers) (s .lengths)) s) (changed adding b nanos ts))
-        (ap (λ (l : List ℕ). change-box adding b nanos l (amount ∷ []) 1) (append-nil (replicate 32 token)))
-        (subst (λ (x : Made Balance Balance). SameBalance s p (of-change (changed-by out p (s .ids) (s .numbers) (s .lengths)) s) x) (as-changed adding)
-        (by-answer (out .answer) (out .balance) (accepted-fits m) refused-same))
+    change-in : Typed ts → SameBalance s p (change-in-place adding p nanos (ids-of ts) (amounts-of ts) (length ts) s) (changed adding b nanos ts)
+    change-in typed =
+        subst (λ (x : Made Balance Balance). SameBalance s p (of-change (changed-by out p (s .ids) (s .numbers) (s .lengths)) s) x) (as-changed adding)
+        (by-answer (out .answer) (out .balance) (accepted-fits typed) refused-same)
 
--- in a state that refusal 25 passed, on one of its parents; the amount is a number of 64 signed bits
-pub change-same : (parents : ℕ) (s : State) → Ready parents s → (adding : Bool) (p : ℕ) → p < parents → (nanos : ℤ) (token : ℕ) (amount : ℤ) → mag amount < 9223372036854775808
-    → SameBalance s p (step-of edition-1 (Change adding p nanos token amount) s) (changed adding (balance-in s p) nanos (one-token token amount))
-change-same parents s r adding p h nanos token amount m = change-in s p (within parents s r p h) adding nanos token amount m
+module _ (parents : ℕ) (s : State) (r : Ready parents s) (adding : Bool) (p : ℕ) (h : p < parents) (nanos : ℤ) where
+  -- in a state that refusal 25 passed, on one of its parents
+  pub change-any : (ts : Tokens) → Typed ts
+      → SameBalance s p (change-in-place adding p nanos (ids-of ts) (amounts-of ts) (length ts) s) (changed adding (balance-in s p) nanos ts)
+  change-any ts typed = change-in s p (within parents s r p h) adding nanos ts typed
+
+  -- of the runner; the amount is a number of 64 signed bits
+  pub change-same : (token : ℕ) (amount : ℤ) → mag amount < 9223372036854775808
+      → SameBalance s p (step-of edition-1 (Change adding p nanos token amount) s) (changed adding (balance-in s p) nanos (one-token token amount))
+  unfolding step-of change-of
+  change-same token amount m =
+      subst (λ (l : List ℕ). SameBalance s p (change-in-place adding p nanos l (amount ∷ []) 1 s) (changed adding (balance-in s p) nanos (one-token token amount)))
+      (append-nil (replicate 32 token)) (change-any (one-token token amount) (length-replicate 32 token, m, tt))

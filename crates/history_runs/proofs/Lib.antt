@@ -4,6 +4,7 @@ pub mod LengthLaws
 pub mod ViewLaws
 pub mod BalanceLaws
 pub mod NearLaws
+pub mod StepHolds
 pub mod HoldLaws
 pub mod StartLaws
 pub mod InputLaws

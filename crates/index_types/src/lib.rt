@@ -155,3 +155,9 @@ pub struct SpillCounts {
     pub table: ListCounts,
     pub deleted: ListCounts,
 }
+
+// The largest number of staged rows and of deleted keys at any one time, or the number that ended the trial.
+pub enum TriedForks {
+    Figures(usize, usize),
+    Refused(u8),
+}

@@ -1,37 +1,12 @@
 // Changes of record lists and key lists in borrowed bytes: put, remove, empty, and whether there is room for a record.
 ghost use mathlib.Core.Path.{_≡_};
-ghost use mathlib.Core.List.{[], _∷_};
-ghost use Prim.Native.Nat.{_+_, _*_, _/_, _%_, _≤_, _<_};
+ghost use Prim.Native.Nat.{_+_, _*_, _≤_, _<_};
 ghost use lib.ListN.{length};
-ghost use Rattle.stores.specs.Stores.{write};
 ghost use Rattle.records.specs.Records.{keys, record-of};
 ghost use Rattle.records.specs.Find.{find-key};
 ghost use Rattle.records.specs.Changes.{slot, count-after, put-record, remove-record, clear-records, full-for};
 use index_types::ListCounts;
 use records::Found;
-
-// Writes a length at a position, in two bytes, the high one first.
-fn put_length(dst: &mut [u8], at: usize, n: usize)
-    requires { ⌜ at + 2 ≤ length (now dst) ⌝ }
-    ensures { λ _. ⌜ now (dst .exit) ≡ write at (n / 256 % 256 ∷ n % 256 ∷ []) (now (dst .entry)) ⌝ }
-{
-    let low = at + 1;
-    dst[at] = (n / 256 % 256) as u8;
-    dst[low] = (n % 256) as u8;
-}
-
-// Writes the record of a key and a row at a position.
-fn store(list: &mut [u8], at: usize, size: usize, key: &[u8], row: &[u8])
-    requires { ⌜ (at + size ≤ length (now list)) × (length (now key) ≡ 32) × (34 + length (now row) ≤ size) ⌝ }
-    ensures { λ _. ⌜ now (list .exit) ≡ write at (record-of size (now (key .entry)) (now (row .entry))) (now (list .entry)) ⌝ }
-{
-    let n = row.len();
-    let used = 34 + n;
-    stores::copy_bytes(list, at, key);
-    put_length(list, at + 32, n);
-    stores::copy_bytes(list, at + 34, row);
-    stores::clear_bytes(list, at + used, size - used);
-}
 
 // The index that a record goes to.
 fn slot_of(found: Found, count: usize) -> usize
@@ -63,7 +38,7 @@ pub fn put(list: &mut [u8], size: usize, count: usize, key: &[u8], row: &[u8]) -
 {
     let found = records::find(list, size, count, key);
     let index = slot_of(found, count);
-    store(list, index * size, size, key, row);
+    record_writing::store(list, index * size, size, key, row);
     count_with(found, count)
 }
 

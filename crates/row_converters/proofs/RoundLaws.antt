@@ -1,21 +1,20 @@
 -- Each converter takes back what the other did: a row that was converted, converted back with the same parent, kind and number, is the row that it was.
 -- With the shortest numbers only (U5), a row of either edition is its header and the row of its content.
 use Prim.Native.Nat.{ℕ, _+_, _-_, _≤_, _<_}
-use mathlib.Core.Path.{_≡_, refl, sym, ap, ap₂, subst, _∙_}
-use mathlib.Core.Bool.{Bool, true, false, cond, _&&_, _||_}
+use mathlib.Core.Path.{_≡_, refl, sym, ap, _∙_}
+use mathlib.Core.Bool.{Bool, true, false, cond, _&&_}
 use mathlib.Core.List.{List, [], _∷_, _++_, append-assoc, append-nil}
 use native.Mathlib.Omega.{arith}
 use lib.Dec.{leb, eqb}
 use lib.IntN.{ℤ, pos}
 use lib.ListN.{length, take, drop, getD, length-append}
 use lib.Seq.{take-append-le, take-at, drop-at, drop-cons, getD-drop, take-all}
-use borrow.Author.Tests.{le-leb, leb-true, eq-eqb, eqb-true}
+use borrow.Author.Tests.{eq-eqb, eqb-true}
 use mir.Syntax.{w32}
 use mir.Val.{SFits}
 use Rattle.stores.specs.Equal.{same-bytes}
 use Rattle.stores.specs.Stores.{write}
 use Rattle.stores.proofs.EqualLaws.{same-refl, same-true}
-use Rattle.stores.proofs.StoreLaws.{length-write}
 use Rattle.vlq_core.specs.Zigzag.{zig}
 use Rattle.vlq_core.specs.Groups.{enc}
 use Rattle.vlq_core.specs.declared.Got.{Got}
@@ -40,9 +39,11 @@ use Rattle.segment_id.specs.declared.Kind.{Kind}
 use Rattle.segment_id.specs.declared.Kind.the-variants.{Box, Tx}
 use Rattle.buffer_core.specs.Edition.{row-limit-of, number-at, kind-byte, header, body-at, numbers-of, named, row-under}
 use Rattle.buffer_core.proofs.BackLaws.{back}
-use Rattle.row_converters.specs.Convert.{is-kind, front, tells, put-row, start-then, convert}
+use Rattle.row_fronts.specs.Fronts.{is-kind, front, tells}
+use Rattle.row_fronts.proofs.FrontLaws.{front-length}
+use Rattle.row_converters.specs.Convert.{put-row, start-then, convert}
 use Rattle.row_converters.specs.Internal.{body-answer}
-use Rattle.row_converters.proofs.ConvertLaws.{of-these, front-length}
+use Rattle.row_converters.proofs.ConvertLaws.{of-these}
 
 module _ (p : List ℕ) (long : length p ≡ 32) (k : ℕ) (n : ℤ) (fit : SFits w32 n) where
   -- ---- a header and the row of a content: it is read, and written in the other edition

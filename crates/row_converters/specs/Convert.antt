@@ -2,36 +2,19 @@
 -- a second one, given the same three, goes back; both refuse as the readers do, then by 35 (also a kind not 1 or 2), then 32."
 -- The kind is a byte, 1 box or 2 transaction, and the spill number any signed 32-bit one.
 use Prim.Native.Nat.{ℕ}
-use mathlib.Core.Bool.{Bool, true, cond, _&&_, _||_}
-use mathlib.Core.List.{List, [], _∷_, _++_}
-use lib.Dec.{leb, eqb}
+use mathlib.Core.Bool.{true, cond}
+use mathlib.Core.List.{List, _++_}
+use lib.Dec.{leb}
 use lib.IntN.{ℤ}
-use lib.ListN.{length, take, drop, getD}
-use Rattle.stores.specs.Equal.{same-bytes}
-use Rattle.vlq_core.specs.Zigzag.{zig}
-use Rattle.vlq_core.specs.Groups.{enc}
+use lib.ListN.{length, drop}
 use Rattle.vlq_core.specs.declared.Got.{Got}
 use Rattle.vlq_core.specs.declared.Got.the-variants as got
 use Rattle.vlq_core.specs.Writing.{Written, written, put-bytes}
 use Rattle.index_types.specs.declared.Wrote.the-variants.{Refused}
 use Rattle.index_types.specs.declared.RowEdition.{RowEdition}
-use Rattle.index_types.specs.declared.RowEdition.the-variants.{One, Two}
 use Rattle.segment_core.specs.Reading.{Seg, seg, no-seg, segment-at, ended}
 use Rattle.buffer_core.specs.Edition.{row-limit-of, body-at, named}
-
--- "a kind byte (1 box, 2 transaction)"
-abbrev pub is-kind : ℕ → Bool
-is-kind k = eqb k 1 || eqb k 2
-
--- what stands before the body: `header` of the editions, with the kind as its byte
-abbrev pub front : RowEdition → (parent : List ℕ) → (kind : ℕ) → ℤ → List ℕ
-front One parent k n = []
-front Two parent k n = parent ++ (k ∷ enc (zig n))
-
--- whether the row s, which writes the coded number c, is of the three that are given: `says` of the editions, with the kind as its byte
-abbrev pub tells : RowEdition → (parent : List ℕ) → (kind : ℕ) → ℤ → List ℕ → ℕ → Bool
-tells One parent k n s c = is-kind k
-tells Two parent k n s c = is-kind k && (same-bytes (take 32 s) parent && (eqb (getD s 32 0) k && eqb c (zig n)))
+use Rattle.row_fronts.specs.Fronts.{front, tells}
 
 -- a row that was read goes to the front of the output, "then the old body"; 32 where it does not fit
 abbrev pub put-row : (front body : List ℕ) → Seg → List ℕ → Written

@@ -1,18 +1,12 @@
 // A row turned from one edition into the other, with the parent, the kind and the spill number that are given.
 ghost use mathlib.Core.Path.{_≡_};
 ghost use mathlib.Core.Bool.{true};
-ghost use mathlib.Core.List.{_++_};
-ghost use Prim.Native.Nat.{_+_, _≤_};
+ghost use Prim.Native.Nat.{_≤_};
 ghost use lib.ListN.{length, drop};
-ghost use Rattle.stores.specs.Stores.{Put};
-ghost use Rattle.vlq_core.specs.Zigzag.{zig};
-ghost use Rattle.vlq_core.specs.Groups.{enc};
 ghost use Rattle.vlq_core.specs.Writing.{written, put-bytes};
 ghost use Rattle.index_types.specs.declared.RowEdition.the-variants.{One, Two};
-ghost use Rattle.segment_core.specs.Row.{row-limit};
 ghost use Rattle.segment_core.specs.Reading.{segment-at, ended};
-ghost use Rattle.buffer_core.specs.Edition.{row-limit-of, number-at};
-ghost use Rattle.row_converters.specs.Convert.{is-kind, front, tells, convert};
+ghost use Rattle.row_converters.specs.Convert.{convert};
 ghost use Rattle.row_converters.specs.Internal.{body-answer};
 use index_types::Loaded;
 use index_types::SEGMENT_THRESHOLD;
@@ -24,21 +18,6 @@ use vlq_core::Got;
 // The most bytes of a row of the second edition.
 const SECOND_ROW_LIMIT: usize = 10292;
 
-// Where the spill number stands in such a row: behind the parent and the kind byte.
-const NUMBER_AT: usize = 33;
-
-// ---- what is tested
-
-// Whether a byte stands for a kind.
-fn is_kind(kind: u8) -> bool
-    ensures { λ r. ⌜ r ≡ is-kind kind ⌝ }
-{
-    if kind == 1 {
-        return true;
-    }
-    kind == 2
-}
-
 // Whether the bytes from a position on are a body that ends the row.
 fn check_body(row: &[u8], at: usize) -> Answer
     ensures { λ r. ⌜ r ≡ body-answer (ended true (length (now (row .entry))) (segment-at (now (row .entry)) at)) ⌝ }
@@ -49,49 +28,6 @@ fn check_body(row: &[u8], at: usize) -> Answer
         Loaded::Read { .. } => Answer::Accepted,
         Loaded::Refused(code) => Answer::Refused(code),
     }
-}
-
-// Whether a row of the second edition says the three that are given; `coded` is the spill number that it writes, in coded form.
-fn says_so(parent: &[u8], kind: u8, number: i32, row: &[u8], coded: u64) -> bool
-    requires { ⌜ number-at ≤ length (now row) ⌝ }
-    ensures { λ r. ⌜ r ≡ tells Two (now (parent .entry)) kind number (now (row .entry)) coded ⌝ }
-{
-    if !is_kind(kind) {
-        return false;
-    }
-    let written = &row[0..32];
-    if !stores::same_bytes(written, parent) {
-        return false;
-    }
-    if row[32] != kind {
-        return false;
-    }
-    coded == vlq_writing::zigzag_i32(number) as u64
-}
-
-// ---- what is written
-
-// Writes what stands before the body in the second edition, and gives its length.
-fn emit_front(parent: &[u8], kind: u8, number: i32, out: &mut [u8]) -> usize
-    requires { ⌜ (length (now parent) ≡ 32) × (number-at + length (enc (zig number)) ≤ length (now out)) ⌝ }
-    ensures { λ r. ⌜ Put (front Two (now (parent .entry)) kind number) (now (out .entry)) 0 r (now (out .exit)) ⌝ }
-{
-    let kind_at = stores::put_bytes(parent, out, 0);
-    let number_at = stores::put_byte(kind, out, kind_at);
-    vlq_writing::emit_i32(number, out, number_at)
-}
-
-// Writes the row of the second edition whose body is a row of the first.
-fn put_second(row: &[u8], parent: &[u8], kind: u8, number: i32, out: &mut [u8]) -> Wrote
-    requires { ⌜ (length (now row) ≤ row-limit) × (length (now parent) ≡ 32) ⌝ }
-    ensures { λ r. ⌜ written r (now (out .exit)) ≡ put-bytes (front Two (now (parent .entry)) kind number ++ now (row .entry)) (now (out .entry)) 0 ⌝ }
-{
-    let start = NUMBER_AT + vlq_writing::number_len_i32(number);
-    if out.len() < start + row.len() {
-        return Wrote::Refused(refusal::OUTPUT_TOO_SHORT);
-    }
-    let at = emit_front(parent, kind, number, out);
-    Wrote::Next(stores::put_bytes(row, out, at))
 }
 
 // Writes the bytes of a row from a position on.
@@ -106,8 +42,6 @@ fn put_body(row: &[u8], at: usize, out: &mut [u8]) -> Wrote
     Wrote::Next(stores::put_bytes(body, out, 0))
 }
 
-// ---- the calls
-
 // Writes a row of the first edition as one of the second, at the front of the output; a refused call changes nothing.
 pub fn row_to_second(row: &[u8], parent: &[u8; 32], kind: u8, number: i32, out: &mut [u8]) -> Wrote
     ensures { λ r. ⌜ written r (now (out .exit)) ≡ convert One Two (now (parent .entry)) kind number (now (row .entry)) (now (out .entry)) ⌝ }
@@ -118,10 +52,10 @@ pub fn row_to_second(row: &[u8], parent: &[u8; 32], kind: u8, number: i32, out: 
     match check_body(row, 0) {
         Answer::Refused(code) => Wrote::Refused(code),
         Answer::Accepted => {
-            if !is_kind(kind) {
+            if !row_fronts::is_kind(kind) {
                 return Wrote::Refused(refusal::ROW_OF_ANOTHER_SPILL);
             }
-            put_second(row, parent, kind, number, out)
+            row_fronts::put_second(row, parent, kind, number, out)
         }
     }
 }
@@ -133,12 +67,12 @@ pub fn row_to_first(row: &[u8], parent: &[u8; 32], kind: u8, number: i32, out: &
     if SECOND_ROW_LIMIT < row.len() {
         return Wrote::Refused(refusal::BUFFERS);
     }
-    match vlq_reading::get_coded_32(row, NUMBER_AT) {
+    match vlq_reading::get_coded_32(row, row_fronts::NUMBER_AT) {
         Got::Refused(code) => Wrote::Refused(code),
         Got::Value(coded, at) => match check_body(row, at) {
             Answer::Refused(code) => Wrote::Refused(code),
             Answer::Accepted => {
-                if !says_so(parent, kind, number, row, coded) {
+                if !row_fronts::says_so(parent, kind, number, row, coded) {
                     return Wrote::Refused(refusal::ROW_OF_ANOTHER_SPILL);
                 }
                 put_body(row, at, out)

@@ -1,4 +1,3 @@
 -- The laws of `short_histories`, for its functions and for the crates above.
-pub mod GrowLaws
 pub mod LengthLaws
 pub mod ListedLaws

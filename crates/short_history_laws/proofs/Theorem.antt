@@ -13,7 +13,7 @@ use Rattle.history_steps.specs.declared.Rank.{Rank}
 use Rattle.history_steps.specs.declared.Rank.the-variants.{Append1, Append2, Spend1, Spend2, Undo, Flush}
 use Rattle.history_steps.specs.Ranks.{ranks, number}
 use Rattle.history_steps.specs.Legal.{legal}
-use Rattle.short_histories.specs.Listing.{each-before, lists-of, lists-up-to, only-legal}
+use Rattle.history_growth.specs.Listing.{each-before, lists-of, lists-up-to, only-legal}
 use Rattle.short_history_laws.specs.Complete.{Lower, Before, Ascending, Complete}
 use Rattle.short_history_laws.proofs.AskedLaws.{legal-asked, asked-legal}
 

@@ -12,7 +12,7 @@ use Rattle.history.specs.Machine.{Borrowed}
 use Rattle.history.specs.ForkUndo.{Places, index-machine}
 use Rattle.history_steps.specs.declared.Rank.{Rank}
 use Rattle.history_steps.specs.Ranks.{number}
-use Rattle.short_histories.specs.Listing.{histories}
+use Rattle.history_growth.specs.Listing.{histories}
 use Rattle.short_history_laws.specs.Asked.{Asked}
 
 -- "equal lengths are ranked by their first differing call"

@@ -1,5 +1,5 @@
 -- Laws of the walk over a summary: what a row that is read and a line come to, and one law for each way out of the walk.
-use Prim.Native.Nat.{ℕ, _+_, _*_, _-_, _≤_, _<_}
+use Prim.Native.Nat.{ℕ, _-_, _≤_, _<_}
 use mathlib.Core.Path.{_≡_, refl, sym, ap, _∙_}
 use mathlib.Core.Bool.{Bool, true, false, cond, _||_}
 use mathlib.Core.List.{List}
@@ -26,7 +26,7 @@ use Rattle.buffer_core.specs.Flip.{look-past, look-by, walk-by, walk-from, row-
 use Rattle.spill_rows.proofs.CheckedLaws.{nope}
 use Rattle.flip_stage.specs.Internal.{Takes}
 use Rattle.flip_walk.proofs.WalkLaws.{walk-step, walk-stop, walk-end}
-use Rattle.flip_core.proofs.TakeLaws.{position-takes}
+use Rattle.flip_rows.proofs.TakeLaws.{position-takes}
 use Rattle.summary_core.specs.Lines.{at-line}
 use Rattle.summary_core.specs.Flip.{look-in-row, line-look, after-lines}
 use Rattle.summary_take.specs.Internal.{StagesLines}

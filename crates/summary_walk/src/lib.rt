@@ -144,11 +144,7 @@ fn try_line(
 fn no_entry(seen: bool) -> Flipped
     ensures { λ r. ⌜ r ≡ Refused (cond seen 14 15) ⌝ }
 {
-    if seen {
-        Flipped::Refused(refusal::NO_COPY_OF_THAT_SIGN)
-    } else {
-        Flipped::Refused(refusal::TARGET_NOT_SEEN)
-    }
+    Flipped::Refused(flip_refusals::no_entry(seen))
 }
 
 // The lines below a number, the newest first.

@@ -4,7 +4,7 @@ use mathlib.Core.Path.{_≡_, refl}
 use mathlib.Core.List.{[], _∷_}
 use lib.IntN.{pos, negsuc}
 use Rattle.buffer_core.specs.Edition.{Edition}
-use Rattle.trial_core.specs.declared.TriedForks.the-variants.{Figures, Refused}
+use Rattle.index_types.specs.declared.TriedForks.the-variants.{Figures, Refused}
 use Rattle.trial_core.specs.Trial.{Trial, on, with-blocks, tried, step-to, steps-to, block-of, fork-of, back-to}
 
 module _ (T S D room : ℕ) where

@@ -16,8 +16,8 @@ use Rattle.call_steps.specs.State.{State, state, parent-ids, parent-numbers}
 use Rattle.call_steps.specs.Steps.{Stepping, step-of}
 use Rattle.load_core.specs.declared.Source.{Source}
 use Rattle.load_core.specs.Draw.{source, draws}
-use Rattle.trial_core.specs.declared.TriedForks.{TriedForks}
-use Rattle.trial_core.specs.declared.TriedForks.the-variants.{Figures, Refused}
+use Rattle.index_types.specs.declared.TriedForks.{TriedForks}
+use Rattle.index_types.specs.declared.TriedForks.the-variants.{Figures, Refused}
 
 -- "at most 4,096 signed 32-bit steps"
 abbrev pub step-limit : ℕ

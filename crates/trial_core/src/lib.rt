@@ -2,9 +2,3 @@
 
 // The numbers of a standing call in its borrowed list.
 pub const STOOD: usize = 3;
-
-// The largest number of staged rows and of deleted keys at any one time, or the number that ended the trial.
-pub enum TriedForks {
-    Figures(usize, usize),
-    Refused(u8),
-}

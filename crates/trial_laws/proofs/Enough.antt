@@ -18,7 +18,7 @@ use Rattle.trial_laws.proofs.NearLaws.{Near}
 use Rattle.buffer_core.specs.Edition.{edition-1}
 use Rattle.call_steps.specs.State.{Ready, length-at}
 use Rattle.trial_core.specs.Trial.{Going, on, ended, start, run-of, zero-state, figures, Trial, tried}
-use Rattle.trial_core.specs.declared.TriedForks.the-variants.{Figures, Refused}
+use Rattle.index_types.specs.declared.TriedForks.the-variants.{Figures, Refused}
 use Rattle.trial_laws.specs.Enough.{answers-of, Enough, Within, Exact, Least}
 use Rattle.trial_laws.proofs.Parts.{Alike, Follows, part-steps}
 use Rattle.trial_laws.proofs.Bounds.{Bounded, OnBounded, steps-bounded}

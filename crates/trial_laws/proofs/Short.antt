@@ -17,7 +17,7 @@ use Rattle.calls.specs.declared.Call.the-variants.{Append, Flip, Pop, Flush, Ch
 use Rattle.calls.specs.Calls.{Among}
 use Rattle.load_core.specs.declared.Source.{Source}
 use Rattle.load_core.specs.Draw.{draws}
-use Rattle.trial_core.specs.declared.TriedForks.the-variants.{Figures, Refused}
+use Rattle.index_types.specs.declared.TriedForks.the-variants.{Figures, Refused}
 use Rattle.trial_core.specs.Trial.{Side, called, undid, Stood, Going, on, ended, then, with-side, with-gen, with-standing, with-blocks, made, code-of, ends-run, flushing, changes, change-to, stands, calling, make, block-of, undoing, back-to, fork-of, step-to, steps-to, start, figures, run-of, Trial, tried}
 use Rattle.trial_laws.specs.Enough.{Short}
 use Rattle.trial_laws.proofs.StepNear.{OfForks}

@@ -4,7 +4,7 @@ use mathlib.Core.Path.{_≡_}
 use mathlib.Core.Logic.{_⊎_}
 use mathlib.Core.List.{List, []}
 use lib.IntN.{ℤ}
-use Rattle.trial_core.specs.declared.TriedForks.the-variants.{Figures, Refused}
+use Rattle.index_types.specs.declared.TriedForks.the-variants.{Figures, Refused}
 use Rattle.trial_core.specs.Trial.{Going, on, ended, run-of, tried}
 
 -- what each call, undo and flush of a trial answered, the newest first

@@ -12,7 +12,9 @@ use lib.Pow.{pow-add, pow-mono}
 use borrow.Author.Tests.{lt-ltb, le-ltb, ne-eqb, eq-eqb}
 use Rattle.vlq_core.specs.declared.Got.{Got}
 use Rattle.vlq_core.specs.declared.Got.the-variants.{Value, Refused}
+use Rattle.index_types.specs.declared.Long.{Long}
 use Rattle.index_types.specs.declared.Long.the-variants as long
+use Rattle.index_types.specs.declared.Int.{Int}
 use Rattle.index_types.specs.declared.Int.the-variants as int
 use Rattle.vlq_core.specs.Zigzag.{zag}
 use Rattle.vlq_core.specs.Reading.{below, dec, narrow, read-any, padded, shortest, read-at, signed-of, long-of, int-of}
@@ -166,18 +168,34 @@ module _ (k : ℕ) (s : List ℕ) (at : ℕ) where
 
 -- ---- a signed answer, of either width, says what any other answer would be
 module _ {A : Type 0} (number : ℤ → ℕ → A) (refused : ℕ → A) where
+  -- what any answer gives goes over a signed answer, for each way to read that one
+  over-answer : {R : Type 0} (n : ℤ → ℕ → R) (r : ℕ → R) (f : R → A) → ((z : ℤ) (m : ℕ) → number z m ≡ f (n z m)) → ((k : ℕ) → refused k ≡ f (r k)) → (g : Got)
+      → signed-of number refused g ≡ f (signed-of n r g)
+  over-answer n r f e q (Value v m) = e (zag v) m
+  over-answer n r f e q (Refused k) = q k
+
+  abbrev of-long : Long → A
+  of-long (long.Number z n) = number z n
+  of-long (long.Refused r) = refused r
+
+  abbrev of-int : Int → A
+  of-int (int.Number z n) = number z n
+  of-int (int.Refused r) = refused r
+
+  over-long : (g : Got) (x : Long) → long-of g ≡ x → signed-of number refused g ≡ of-long x
+  over-long g x e = over-answer long.Number long.Refused of-long (λ z m. refl) (λ k. refl) g ∙ ap of-long e
+
+  over-int : (g : Got) (x : Int) → int-of g ≡ x → signed-of number refused g ≡ of-int x
+  over-int g x e = over-answer int.Number int.Refused of-int (λ z m. refl) (λ k. refl) g ∙ ap of-int e
+
   pub long-number : (g : Got) (z : ℤ) (n : ℕ) → long-of g ≡ long.Number z n → signed-of number refused g ≡ number z n
-  long-number (Value v m) z n e = let p : zag v ≡ z = cc in let q : m ≡ n = cc in ap₂ number p q
-  long-number (Refused r) z n e = let x : _≡_ {A = ℕ} 0 1 = cc in absurd (omega arith)
+  long-number g z n = over-long g (long.Number z n)
 
   pub long-refused : (g : Got) (r : ℕ) → long-of g ≡ long.Refused r → signed-of number refused g ≡ refused r
-  long-refused (Value v m) r e = let x : _≡_ {A = ℕ} 0 1 = cc in absurd (omega arith)
-  long-refused (Refused q) r e = let p : q ≡ r = cc in ap refused p
+  long-refused g r = over-long g (long.Refused r)
 
   pub int-number : (g : Got) (z : ℤ) (n : ℕ) → int-of g ≡ int.Number z n → signed-of number refused g ≡ number z n
-  int-number (Value v m) z n e = let p : zag v ≡ z = cc in let q : m ≡ n = cc in ap₂ number p q
-  int-number (Refused r) z n e = let x : _≡_ {A = ℕ} 0 1 = cc in absurd (omega arith)
+  int-number g z n = over-int g (int.Number z n)
 
   pub int-refused : (g : Got) (r : ℕ) → int-of g ≡ int.Refused r → signed-of number refused g ≡ refused r
-  int-refused (Value v m) r e = let x : _≡_ {A = ℕ} 0 1 = cc in absurd (omega arith)
-  int-refused (Refused q) r e = let p : q ≡ r = cc in ap refused p
+  int-refused g r = over-int g (int.Refused r)

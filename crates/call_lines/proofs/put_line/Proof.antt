@@ -7,7 +7,8 @@ use mir.Syntax.{w64}
 use Rattle.signed.proofs.SignedLaws.{back}
 use Rattle.stores.proofs.PutLaws.{put-as}
 use Rattle.call_lines.specs.Lines.{popped-part}
-use Rattle.call_lines.proofs.LineLaws.{decimal-most, put-line-parts}
+use Rattle.line_parts.proofs.PartLaws.{decimal-most}
+use Rattle.call_lines.proofs.LineLaws.{put-line-parts}
 use Rattle.call_lines.proofs.put_line.Statement.{statement}
 use Rattle.call_lines.proofs.put_line.Tie as tie
 

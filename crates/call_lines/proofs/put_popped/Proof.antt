@@ -6,7 +6,8 @@ use borrow.Author.Needs.{needs}
 use mir.Syntax.{w64}
 use Rattle.signed.proofs.SignedLaws.{back}
 use Rattle.stores.proofs.PutLaws.{put-as}
-use Rattle.call_lines.specs.Lines.{spaced-number, popped-part}
+use Rattle.line_parts.specs.Parts.{spaced-number}
+use Rattle.call_lines.specs.Lines.{popped-part}
 use Rattle.call_lines.proofs.put_popped.Statement.{statement}
 use Rattle.call_lines.proofs.put_popped.Tie as tie
 

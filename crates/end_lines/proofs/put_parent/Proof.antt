@@ -6,7 +6,7 @@ use mir.Syntax.{w32, w64}
 use denote.Ref.{now}
 use Rattle.signed.proofs.SignedLaws.{back}
 use Rattle.stores.proofs.PutLaws.{put-as}
-use Rattle.call_lines.specs.Lines.{parent-line}
+use Rattle.parent_lines.specs.Parents.{parent-line}
 use Rattle.end_lines.specs.EndLines.{parent-part}
 use borrow.Author.Needs.{needs}
 use Rattle.end_lines.proofs.put_parent.Statement.{statement}

@@ -1,7 +1,7 @@
 -- The trial is made, and its figures are told.
 use mathlib.Core.Path.{_∙_, ap}
 use denote.Ref.{now}
-use Rattle.trial_core.specs.declared.TriedForks.{TriedForks}
+use Rattle.index_types.specs.declared.TriedForks.{TriedForks}
 use Rattle.ergo_index_trials.specs.Trials.{trial-by}
 use borrow.Author.Needs.{needs}
 use Rattle.ergo_index_trials.proofs.ergo_index_try_forks.Statement.{statement}

@@ -9,7 +9,8 @@ use Rattle.records.proofs.TurnLaws.{left-all}
 use Rattle.buffer_core.specs.Edition.{record-size}
 use Rattle.buffer_core.specs.Flush.{new-count}
 use Rattle.buffer_core.proofs.SizeLaws.{slot-next}
-use Rattle.flush_core.proofs.FlushLaws.{turn-in, new-step, new-past, new-most}
+use Rattle.flush_table.proofs.TableLaws.{turn-in, new-step}
+use Rattle.flush_core.proofs.FlushLaws.{new-past, new-most}
 use borrow.Author.Needs.{needs}
 use Rattle.flush_core.proofs.count_new.Statement.{statement}
 use Rattle.flush_core.proofs.count_new.Tie as tie

@@ -3,7 +3,7 @@ use mathlib.Core.Path.{sym, ap, _∙_}
 use borrow.Author.Needs.{needs}
 use Rattle.index_types.specs.declared.Wrote.{Wrote}
 use Rattle.vlq_core.specs.Writing.{written}
-use Rattle.short_histories.specs.Listing.{histories, bytes-of}
+use Rattle.history_growth.specs.Listing.{histories, bytes-of}
 use Rattle.short_histories.proofs.ListedLaws.{listed}
 use Rattle.history_printer.proofs.main.Statement.{statement}
 use Rattle.history_printer.proofs.main.Tie as tie

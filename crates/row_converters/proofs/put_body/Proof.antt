@@ -3,7 +3,8 @@ use native.Mathlib.Omega.{arith}
 use denote.Ref.{now}
 use lib.ListN.{drop, length-drop}
 use Rattle.stores.proofs.PutLaws.{put-as}
-use Rattle.row_converters.proofs.ConvertLaws.{rest, no-room, with-room}
+use Rattle.row_fronts.proofs.FrontLaws.{no-room, with-room}
+use Rattle.row_converters.proofs.ConvertLaws.{rest}
 use borrow.Author.Needs.{needs}
 use Rattle.row_converters.proofs.put_body.Statement.{statement}
 use Rattle.row_converters.proofs.put_body.Tie as tie

@@ -8,7 +8,7 @@ use mir.Facts.{toZ-ofZ}
 use borrow.Author.Tests.{not-true, not-false}
 use Rattle.index_types.specs.declared.RowEdition.the-variants.{One, Two}
 use Rattle.vlq_core.specs.Writing.{put-bytes}
-use Rattle.row_converters.specs.Convert.{front}
+use Rattle.row_fronts.specs.Fronts.{front}
 use Rattle.row_converters.proofs.ConvertLaws.{too-long, body-refused, of-others, of-these}
 use borrow.Author.Needs.{needs}
 use Rattle.row_converters.proofs.row_to_second.Statement.{statement}

@@ -8,16 +8,16 @@ use borrow.Author.Needs.{needs}
 use Rattle.stores.proofs.PutLaws.{put-as, put-both}
 use Rattle.history_steps.specs.declared.Rank.the-variants.{Flush}
 use Rattle.history_steps.specs.Ranks.{ranks-in}
-use Rattle.short_histories.specs.Listing.{histories-up-to, bytes-of}
-use Rattle.short_histories.specs.Internal.{going-on}
-use Rattle.short_histories.proofs.GrowLaws.{up-to-none, up-to-turn}
+use Rattle.history_growth.specs.Listing.{histories-up-to, bytes-of}
+use Rattle.history_growth.specs.Internal.{going-on}
+use Rattle.history_growth.proofs.GrowLaws.{up-to-none, up-to-turn}
 use borrow.Fn.Kinds.{In}
 use borrow.Fn.PlainCycle.{Measures, is, falls, and}
 use Rattle.short_histories.proofs.list_up_to.Reads as list-up-to
 use Rattle.short_histories.proofs.list_up_to.Kinds as list-up-to-kinds
 use Rattle.short_histories.proofs.+list_up_to.Lts-list_up_to as list-up-to-lts
 use Rattle.history_steps.proofs.no_calls.Reads as no-calls-reads
-use Rattle.short_histories.proofs.grow.Reads as grow-reads
+use Rattle.history_growth.proofs.grow.Reads as grow-reads
 use Rattle.short_histories.proofs.+list_up_to.{statement}
 use Rattle.short_histories.proofs.+list_up_to.Tie.{close}
 

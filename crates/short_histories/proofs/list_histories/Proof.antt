@@ -8,7 +8,7 @@ use lib.ListN.{length}
 use borrow.Author.Needs.{needs}
 use borrow.Author.Tests.{lt-leb}
 use Rattle.vlq_core.proofs.WriteLaws.{put-short, put-within}
-use Rattle.short_histories.specs.Listing.{histories, bytes-of}
+use Rattle.history_growth.specs.Listing.{histories, bytes-of}
 use Rattle.short_histories.proofs.LengthLaws.{length-histories}
 use Rattle.short_histories.proofs.list_histories.Statement.{statement}
 use Rattle.short_histories.proofs.list_histories.Tie as tie

@@ -1,0 +1,3 @@
+-- The laws of the rows of a spend and an unspend.
+pub mod TakeLaws
+pub mod RowLaws

@@ -1,0 +1,2 @@
+-- What the steps of a flush ask and give at the table.
+pub mod Internal

@@ -1,0 +1,2 @@
+-- The laws of `history_growth`.
+pub mod GrowLaws

@@ -1,0 +1,2 @@
+-- The laws of `line_parts`.
+pub mod PartLaws

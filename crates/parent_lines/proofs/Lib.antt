@@ -1,0 +1,2 @@
+-- The laws of `parent_lines`.
+pub mod ParentLaws
