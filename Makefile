@@ -13,6 +13,7 @@
 # make bench           both sides timed in one run; plots go to docs/
 # make all-checks      the gate, the Rust crate and the short comparison
 # make flat-view     one account of the sample history (PARENT, CALLS_FILE) as a flat list beside the index, and where the two differ
+# make sorted-accounts  the accounts of two servers, one of each edition, in one sequence (ACCOUNTS, ACCOUNT_CALLS)
 # make copies        two servers over different forks of one load (HISTORIES, HISTORY_CALLS): whether every answer of the two is the same
 # make fmt    the layout of all Rattle and antt files
 # make times  the seconds of the last gate, crate by crate
@@ -27,7 +28,7 @@ RT := $(shell command -v rt 2>/dev/null)
 NO_RT := the Rattle kit is missing: no command 'rt' on PATH (expected in /opt/rattle/bin)
 ARCHIVE := target/staticlib/libergo_index.a
 
-.PHONY: run load histories fork-trial test times c-test bindings convert flat-view copies compare compare-full compare-sample compare-build vectors bench all-checks fmt
+.PHONY: run load histories fork-trial test times c-test bindings convert flat-view copies sorted-accounts compare compare-full compare-sample compare-build vectors bench all-checks fmt
 
 run:
 ifeq ($(RT),)
@@ -97,6 +98,12 @@ CALLS_FILE := sample/fork.calls
 flat-view: $(ARCHIVE)
 	@cd bindings/rust && ERGO_INDEX_LIB_DIR=$(CURDIR)/target/staticlib cargo build --offline --locked --quiet --release --example flat_view
 	@bindings/rust/target/release/examples/flat_view $(PARENT) < $(CALLS_FILE)
+
+ACCOUNTS := 6
+ACCOUNT_CALLS := 2000
+
+sorted-accounts: $(ARCHIVE)
+	@cd bindings/rust && ERGO_INDEX_LIB_DIR=$(CURDIR)/target/staticlib cargo run --offline --locked --quiet --release --example sorted_accounts -- $(ACCOUNTS) $(ACCOUNT_CALLS)
 
 HISTORIES := 24
 HISTORY_CALLS := 3000

@@ -68,6 +68,7 @@ extern "C" {
 #define ERGO_INDEX_STATE_IS_ZERO 38              /* a load or a trial is asked for from state 0 */
 #define ERGO_INDEX_FORK_TOO_DEEP 39              /* a fork deeper than 720 blocks, or than the blocks that stand */
 #define ERGO_INDEX_STANDING_CALLS_FULL 40        /* more calls stand than the list has room for */
+#define ERGO_INDEX_TOKEN_TWICE 41                /* a token id stands twice in a balance; tested after 25 */
 
 /* ---- sizes */
 #define ERGO_INDEX_HEAD_LENGTH 512     /* numbers in a full head, and in a spilled row */
@@ -305,6 +306,28 @@ uint8_t ergo_index_row_to_second(const uint8_t *row, size_t row_len, const uint8
  * Changes: out, *written. */
 uint8_t ergo_index_row_to_first(const uint8_t *row, size_t row_len, const uint8_t parent[32], uint8_t kind, int32_t number, uint8_t *out,
                                 size_t out_len, size_t *written);
+
+/* ---- addresses in a fixed order */
+
+/* How two whole addresses rank: *order is -1 where the first is before the second, 0 where they are equal, 1 where it is behind. An address is its hash, its
+ * balance (which counts only where `held` is set), the heads of boxes and transactions, and its own staged spills and table, with rows of edition 2 where
+ * second_edition is set. Compared in this order: the hash bytes; no balance before a balance; nanoErgs; the tokens by ascending id, id and then amount; the box
+ * entries with their signs, spill 0 up and then the head; the transaction entries. A list that ends earlier is first. It is a total order; two addresses are
+ * equal where all these agree, whatever the sequence of their tokens and however entries are divided between spills and head.
+ * Refusals, in order: 25 of both (tokens where a balance is held, both heads, staged spills, table), 41 of both; then, the first address before the second
+ * and boxes before transactions: 11; per row from spill 0 up: 12, 1 to 6 or 34, 8, 35, 20.
+ * Changes: *order. */
+uint8_t ergo_index_rank(bool second_edition, const uint8_t hash[32], bool held, int64_t nanos, const uint8_t ids[4096],
+                        const int64_t amounts[128], size_t tokens, size_t box_len, int32_t box_spills, const int64_t *boxes,
+                        size_t boxes_len, size_t tx_len, int32_t tx_spills, const int64_t *txs, size_t txs_len,
+                        size_t staged_count, size_t staged_capacity, const uint8_t *staged, size_t staged_len,
+                        size_t table_count, size_t table_capacity, const uint8_t *table, size_t table_len,
+                        bool other_second_edition, const uint8_t other_hash[32], bool other_held, int64_t other_nanos, const uint8_t other_ids[4096],
+                        const int64_t other_amounts[128], size_t other_tokens, size_t other_box_len, int32_t other_box_spills, const int64_t *other_boxes,
+                        size_t other_boxes_len, size_t other_tx_len, int32_t other_tx_spills, const int64_t *other_txs, size_t other_txs_len,
+                        size_t other_staged_count, size_t other_staged_capacity, const uint8_t *other_staged, size_t other_staged_len,
+                        size_t other_table_count, size_t other_table_capacity, const uint8_t *other_table, size_t other_table_len,
+                        int32_t *order);
 
 /* ---- a summary of one parent's box spills
  *

@@ -597,6 +597,75 @@ static void trials(void) {
     printf("trials: ok\n");
 }
 
+/* A whole address: 10 nanoErgs, two tokens, and box numbers from 1 up. */
+struct address {
+    bool second, held;
+    uint8_t hash[32], ids[4096];
+    int64_t nanos, amounts[128];
+    size_t tokens;
+    struct head boxes, txs;
+    size_t staged_count;
+    uint8_t staged[CAPACITY * ERGO_INDEX_SECOND_RECORD_SIZE];
+};
+
+static void make_address(struct address *a, bool second, uint8_t first_token, int64_t numbers) {
+    memset(a, 0, sizeof *a);
+    a->second = second;
+    a->held = true;
+    a->nanos = 10;
+    a->tokens = 2;
+    a->ids[0] = first_token;
+    a->ids[32] = 3 - first_token;
+    a->amounts[0] = first_token;
+    a->amounts[1] = 3 - first_token;
+    for (int64_t n = 1; n <= numbers; n++)
+        EXPECT(ergo_index_append_box_entry_in_edition(second, a->hash, &a->boxes.len, &a->boxes.spills, a->boxes.numbers, ERGO_INDEX_HEAD_LENGTH, n,
+                                                      &a->staged_count, CAPACITY, a->staged, sizeof a->staged) == ERGO_INDEX_ACCEPTED);
+}
+
+static uint8_t rank(const struct address *a, const struct address *b, int32_t *order) {
+    return ergo_index_rank(a->second, a->hash, a->held, a->nanos, a->ids, a->amounts, a->tokens, a->boxes.len, a->boxes.spills, a->boxes.numbers,
+                           ERGO_INDEX_HEAD_LENGTH, a->txs.len, a->txs.spills, a->txs.numbers, ERGO_INDEX_HEAD_LENGTH, a->staged_count, CAPACITY,
+                           a->staged, sizeof a->staged, 0, 0, a->staged, 0, b->second, b->hash, b->held, b->nanos, b->ids, b->amounts, b->tokens,
+                           b->boxes.len, b->boxes.spills, b->boxes.numbers, ERGO_INDEX_HEAD_LENGTH, b->txs.len, b->txs.spills, b->txs.numbers,
+                           ERGO_INDEX_HEAD_LENGTH, b->staged_count, CAPACITY, b->staged, sizeof b->staged, 0, 0, b->staged, 0, order);
+}
+
+static void ranks(void) {
+    static struct address a, b;
+    int32_t order = 9, turned = 9;
+    /* tokens in another sequence; 512 numbers in the head, and as a row behind which the head is empty */
+    make_address(&a, false, 1, 512);
+    make_address(&b, true, 2, 513);
+    b.boxes.len = 0;
+    EXPECT(a.boxes.len == 512 && a.boxes.spills == 0 && b.boxes.spills == 1);
+    EXPECT(rank(&a, &b, &order) == ERGO_INDEX_ACCEPTED && order == 0);
+
+    make_address(&a, false, 1, 513);
+    b.boxes.len = 1;
+    EXPECT(rank(&a, &b, &order) == ERGO_INDEX_ACCEPTED && order == 0);
+
+    /* the spent box is first; no balance is before a balance */
+    b.boxes.numbers[0] = -513;
+    EXPECT(rank(&a, &b, &order) == ERGO_INDEX_ACCEPTED && order == 1);
+    a.held = false;
+    EXPECT(rank(&a, &b, &order) == ERGO_INDEX_ACCEPTED && order == -1);
+    EXPECT(rank(&b, &a, &turned) == ERGO_INDEX_ACCEPTED && turned == 1);
+    a.txs.len = 1;
+    EXPECT(rank(&a, &a, &order) == ERGO_INDEX_ACCEPTED && order == 0);
+
+    /* 25 before 41, 41 before the rows, the first address before the second; a refusal leaves the order */
+    order = 9;
+    a.txs.spills = -1;
+    b.boxes.spills = 2;
+    EXPECT(rank(&a, &b, &order) == ERGO_INDEX_NEGATIVE_SPILL_COUNT && rank(&b, &a, &order) == ERGO_INDEX_ROW_MISSING && order == 9);
+    b.ids[32] = b.ids[0];
+    EXPECT(rank(&a, &b, &order) == ERGO_INDEX_TOKEN_TWICE && rank(&b, &a, &order) == ERGO_INDEX_TOKEN_TWICE && order == 9);
+    a.boxes.len = 513;
+    EXPECT(rank(&a, &b, &order) == ERGO_INDEX_BUFFERS && rank(&b, &a, &order) == ERGO_INDEX_BUFFERS && order == 9);
+    printf("ranks: ok\n");
+}
+
 int main(void) {
     history();
     balances_and_records();
@@ -609,6 +678,7 @@ int main(void) {
     summaries(true);
     codecs();
     flat_lists();
+    ranks();
     printf("ok\n");
     return 0;
 }

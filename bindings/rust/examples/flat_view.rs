@@ -129,8 +129,13 @@ fn view(input: &[u8], parent: u8, rows: usize, out: &mut impl Write) -> io::Resu
     }
     let (ours, theirs) = (spent(&mut flat.entries().iter().copied()), spent(&mut entries.iter().map(|(n, _)| *n)));
     same &= (flat.len(), ours) == (entries.len(), theirs);
-    writeln!(out, "{made} calls; flat list: {} entries, {ours} spent; index: {} entries, {theirs} spent: {}",
-        flat.len(), entries.len(), if same { "the same" } else { "DIFFERENT" })?;
+    writeln!(
+        out,
+        "{made} calls; flat list: {} entries, {ours} spent; index: {} entries, {theirs} spent: {}",
+        flat.len(),
+        entries.len(),
+        if same { "the same" } else { "DIFFERENT" }
+    )?;
     Ok(same)
 }
 

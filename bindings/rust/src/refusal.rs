@@ -96,9 +96,11 @@ pub enum Refusal {
     ForkTooDeep = 39,
     /// 40: more calls stand than there is room for.
     StandingCallsFull = 40,
+    /// 41: a token id stands twice in a balance.
+    TokenTwice = 41,
 }
 
-const ALL: [Refusal; 40] = [
+const ALL: [Refusal; 41] = [
     Refusal::BytesEnd,
     Refusal::NumberTooLarge,
     Refusal::NegativeLength,
@@ -139,6 +141,7 @@ const ALL: [Refusal; 40] = [
     Refusal::StateIsZero,
     Refusal::ForkTooDeep,
     Refusal::StandingCallsFull,
+    Refusal::TokenTwice,
 ];
 
 impl Refusal {
@@ -195,6 +198,7 @@ impl Refusal {
             Refusal::StateIsZero => "a load is asked for from state 0",
             Refusal::ForkTooDeep => "a fork deeper than 720 blocks, or than the blocks that stand",
             Refusal::StandingCallsFull => "more calls stand than there is room for",
+            Refusal::TokenTwice => "a token id stands twice in a balance",
         }
     }
 }
@@ -221,7 +225,7 @@ mod tests {
 
     #[test]
     fn numbers_and_names_agree() {
-        assert!(ALL.iter().map(|refusal| refusal.code()).eq(1..=40));
+        assert!(ALL.iter().map(|refusal| refusal.code()).eq(1..=41));
         for refusal in ALL {
             assert_eq!(Refusal::from_code(refusal.code()), Some(refusal));
         }

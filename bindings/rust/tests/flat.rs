@@ -47,10 +47,12 @@ impl Both {
     fn compare(&self) {
         let (ours, theirs) = (self.flat.entries(), self.entries());
         assert!(ours.iter().map(|n| n.unsigned_abs()).eq(theirs.iter().map(|n| n.unsigned_abs())));
-        let spent = |all: &[i64]| all.iter().filter(|n| **n < 0).fold(HashMap::new(), |mut held: HashMap<i64, usize>, n| {
-            *held.entry(*n).or_default() += 1;
-            held
-        });
+        let spent = |all: &[i64]| {
+            all.iter().filter(|n| **n < 0).fold(HashMap::new(), |mut held: HashMap<i64, usize>, n| {
+                *held.entry(*n).or_default() += 1;
+                held
+            })
+        };
         assert_eq!(spent(ours), spent(&theirs));
     }
 }
@@ -95,7 +97,8 @@ fn history(state: u64) {
                     next = n;
                 }
                 Some(Standing::Spend(n)) => {
-                    let answers = (both.segment.unflip_box_segment_entry(BoxNumber(n), &mut both.staged, &both.table), both.flat.unspend_box(BoxNumber(n)));
+                    let answers =
+                        (both.segment.unflip_box_segment_entry(BoxNumber(n), &mut both.staged, &both.table), both.flat.unspend_box(BoxNumber(n)));
                     assert_eq!(answers, (Ok(()), Ok(())));
                 }
                 None => unreachable!("a call stands"),

@@ -127,9 +127,8 @@ fn trials_answer_as_the_calls_do() {
     let mut draw = Draw(7);
     let mut figures = 0;
     for state in 1..=60 {
-        let steps: Vec<i32> = (0..draw.below(14))
-            .map(|_| if draw.below(3) == 0 { -(draw.below(4) as i32) - 1 } else { draw.below(900) as i32 })
-            .collect();
+        let steps: Vec<i32> =
+            (0..draw.below(14)).map(|_| if draw.below(3) == 0 { -(draw.below(4) as i32) - 1 } else { draw.below(900) as i32 }).collect();
         let sizes = TrialSizes {
             table: draw.below(12) as usize,
             staged: draw.below(6) as usize,

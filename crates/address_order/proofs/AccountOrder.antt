@@ -1,13 +1,13 @@
 -- Whole accounts, each without a repeated token id, are totally ordered; two rank equal exactly where they agree.
-use mathlib.Core.Path.{_≡_, refl, sym, _∙_, ap, subst}
+use mathlib.Core.Path.{_≡_, refl, sym, _∙_, ap}
 use mathlib.Core.List.{List}
 use Prim.Native.Nat.{ℕ}
 use native.Mathlib.Omega.{arith}
 use lib.IntN.{ℤ}
 use Rattle.ledger.specs.Ledger.{Tokens}
-use Rattle.address_order.specs.declared.Order.{Order}
-use Rattle.address_order.specs.declared.Order.the-variants.{Less, Equal, Greater}
-use Rattle.address_order.specs.Order.{or-else, reversed, of-numbers, of-signed, of-lists, of-ids, of-tokens, ascending, Held, none, some, of-held, Account, of-accounts, Total, SameTokens, SameHeld, SameAccount}
+use Rattle.index_types.specs.declared.Order.{Order}
+use Rattle.index_types.specs.declared.Order.the-variants.{Less, Equal, Greater}
+use Rattle.address_order.specs.Order.{or-else, reversed, of-numbers, of-signed, of-lists, of-ids, of-tokens, ascending, Held, none, some, of-held, Account, of-accounts, SameHeld, SameAccount}
 use Rattle.address_order.proofs.Comparisons.{Plain, less≢equal, less≢greater, greater≢equal, numbers-total, signed-total, lists-total, by-both, both-total}
 use Rattle.address_order.proofs.TokenOrder.{Apart, ascending-same, same-ascending}
 

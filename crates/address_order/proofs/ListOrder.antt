@@ -1,18 +1,17 @@
 -- Two lists compared place by place: a turn, and each way out.
-use mathlib.Core.Path.{_≡_, refl, sym, _∙_, ap}
+use mathlib.Core.Path.{_≡_, sym, _∙_, ap}
 use mathlib.Core.Bool.{true, false}
-use mathlib.Core.List.{List, [], _∷_}
-use Prim.Native.Nat.{ℕ, suc, _+_, _≤_, _<_}
+use mathlib.Core.List.{List}
+use Prim.Native.Nat.{ℕ, _+_, _≤_, _<_}
 use native.Mathlib.Omega.{arith}
 use native.Mathlib.Numerals.{add-one}
-use lib.Dec.{ltb}
 use lib.IntN.{ℤ}
 use lib.Signed.{ltZ}
 use lib.ListN.{length, getD, drop, drop-of-length-le}
 use lib.Seq.{drop-cons}
 use borrow.Author.Tests.{lt-ltb, le-ltb}
-use Rattle.address_order.specs.declared.Order.{Order}
-use Rattle.address_order.specs.declared.Order.the-variants.{Less, Equal, Greater}
+use Rattle.index_types.specs.declared.Order.{Order}
+use Rattle.index_types.specs.declared.Order.the-variants.{Less, Equal, Greater}
 use Rattle.address_order.specs.Order.{or-else, of-numbers, of-signed, of-lists}
 
 -- ---- numbers

@@ -1,15 +1,13 @@
 -- Tokens with distinct ids, taken by ascending id: two lists give the same exactly where they hold the same tokens, in whatever sequence.
 use mathlib.Core.Path.{_≡_, refl, sym, _∙_, ap, subst}
 use mathlib.Core.Logic.{_⊎_, inl, inr, ⊎-elim}
-use mathlib.Core.List.{List, [], _∷_, List·Memᴰ, List·Memᴰ·head, List·Memᴰ·tail, List·Memᴰ·cases-cons, List·Memᴰ·not-nil}
-use Prim.Native.Nat.{ℕ}
-use native.Mathlib.Omega.{arith}
+use mathlib.Core.List.{[], _∷_, List·Memᴰ, List·Memᴰ·head, List·Memᴰ·tail, List·Memᴰ·cases-cons, List·Memᴰ·not-nil}
 use lib.IntN.{ℤ}
 use Rattle.ledger.specs.Ledger.{TokenId, Tokens}
-use Rattle.address_order.specs.declared.Order.{Order}
-use Rattle.address_order.specs.declared.Order.the-variants.{Less, Equal, Greater}
-use Rattle.address_order.specs.Order.{reversed, of-numbers, of-ids, put-before, insert, ascending, SameTokens, Total}
-use Rattle.address_order.proofs.Comparisons.{Plain, less≢equal, less≢greater, greater≢equal, numbers-total, lists-total}
+use Rattle.index_types.specs.declared.Order.{Order}
+use Rattle.index_types.specs.declared.Order.the-variants.{Less, Equal, Greater}
+use Rattle.address_order.specs.Order.{reversed, of-numbers, of-ids, put-before, insert, ascending, SameTokens}
+use Rattle.address_order.proofs.Comparisons.{Plain, less≢equal, numbers-total, lists-total}
 
 abbrev pub Token : Type 0
 Token = TokenId × ℤ

@@ -1,7 +1,7 @@
 -- One law for each way out of the checks of an address and of the comparison of two balances.
 use Prim.Native.Nat.{ℕ, _≤_}
 use native.Mathlib.Omega.{arith}
-use mathlib.Core.Path.{_≡_, refl, sym, _∙_, ap}
+use mathlib.Core.Path.{_≡_, sym, _∙_, ap}
 use mathlib.Core.Bool.{Bool, true, false, not, _&&_, _||_}
 use mathlib.Core.List.{List}
 use lib.Dec.{leb}
@@ -19,10 +19,10 @@ use Rattle.buffer_core.specs.Spills.{head-ok}
 use Rattle.balance_laws.specs.Calls.{tokens-from}
 use Rattle.spill_rows.specs.declared.Read.{Read}
 use Rattle.spill_rows.specs.declared.Read.the-variants.{Good, Faulty}
-use Rattle.address_order.specs.declared.Order.{Order}
-use Rattle.address_order.specs.declared.Order.the-variants.{Less, Equal, Greater}
+use Rattle.index_types.specs.declared.Order.{Order}
+use Rattle.index_types.specs.declared.Order.the-variants.{Less, Equal, Greater}
 use Rattle.address_order.specs.Order.{or-else, of-signed, of-lists, of-tokens, ascending, of-held}
-use Rattle.address_ranking.specs.declared.AddressCounts.{AddressCounts}
+use Rattle.index_types.specs.declared.AddressCounts.{AddressCounts}
 use Rattle.address_ranking.specs.Rank.{address-ok, id-twice, balance-of}
 use Rattle.address_ranking.specs.Internal.{first-fault}
 

@@ -18,9 +18,9 @@ use Rattle.buffer_core.specs.Spills.{Sources, sources, head-ok}
 use Rattle.balance_laws.specs.Calls.{tokens-from}
 use Rattle.address_order.specs.Order.{Held, none, some, Account, of-accounts}
 use Rattle.side_order.specs.Side.{side-of, numbers-in}
-use Rattle.address_ranking.specs.declared.AddressCounts.{AddressCounts}
-use Rattle.address_ranking.specs.declared.Ranked.{Ranked}
-use Rattle.address_ranking.specs.declared.Ranked.the-variants.{Ranks, Refused}
+use Rattle.index_types.specs.declared.AddressCounts.{AddressCounts}
+use Rattle.index_types.specs.declared.Ranked.{Ranked}
+use Rattle.index_types.specs.declared.Ranked.the-variants.{Ranks, Refused}
 
 -- an address as it is borrowed
 pub record Address : Type 0 where
@@ -33,6 +33,10 @@ pub record Address : Type 0 where
   pub txs : List ℤ
   pub staged : List ℕ
   pub table : List ℕ
+
+abbrev pub address-of : RowEdition → AddressCounts → (hash ids : List ℕ) → (amounts boxes txs : List ℤ) → (staged table : List ℕ) → Address
+address-of edition counts hash ids amounts boxes txs staged table =
+    record { edition = edition; counts = counts; hash = hash; ids = ids; amounts = amounts; boxes = boxes; txs = txs; staged = staged; table = table }
 
 -- 25: the balance's count, where there is a balance, both heads, the staged spills and the table
 unfoldable pub address-ok : RowEdition → AddressCounts → (boxes txs : List ℤ) → (staged table : List ℕ) → Bool
@@ -70,10 +74,12 @@ abbrev pub unless-bad : RowRead → Ranked → Ranked
 unless-bad (bad code) rest = Refused code
 unless-bad (good zs) rest = rest
 
+abbrev pub passes : Address → Bool
+passes a = address-ok (a .edition) (a .counts) (a .boxes) (a .txs) (a .staged) (a .table)
+
+-- "the first address read wholly before the second"
+unfoldable pub read-and-rank : Address → Address → Ranked
+read-and-rank a b = unless-bad (box-side a) (unless-bad (tx-side a) (unless-bad (box-side b) (unless-bad (tx-side b) (Ranks (of-accounts (account-in a) (account-in b))))))
+
 unfoldable pub rank-of : Address → Address → Ranked
-rank-of a b =
-    cond
-    (address-ok (a .edition) (a .counts) (a .boxes) (a .txs) (a .staged) (a .table) && address-ok (b .edition) (b .counts) (b .boxes) (b .txs) (b .staged) (b .table))
-    (cond (id-twice (a .counts) (a .ids) || id-twice (b .counts) (b .ids)) (Refused 41)
-    (unless-bad (box-side a) (unless-bad (tx-side a) (unless-bad (box-side b) (unless-bad (tx-side b) (Ranks (of-accounts (account-in a) (account-in b))))))))
-    (Refused 25)
+rank-of a b = cond (passes a && passes b) (cond (id-twice (a .counts) (a .ids) || id-twice (b .counts) (b .ids)) (Refused 41) (read-and-rank a b)) (Refused 25)

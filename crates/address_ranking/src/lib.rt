@@ -16,34 +16,18 @@ ghost use Rattle.side_order.specs.Side.{side-of};
 ghost use Rattle.side_order.specs.Internal.{RowsReady};
 ghost use Rattle.address_ranking.specs.Rank.{address-ok, id-twice, balance-of};
 ghost use Rattle.address_ranking.specs.Internal.{first-fault};
-use address_order::Order;
+use index_types::AddressCounts;
 use index_types::HeadCounts;
 use index_types::ListCounts;
+use index_types::Order;
 use index_types::RowEdition;
 use index_types::TOKEN_ID_BYTES;
 use index_types::TOKEN_LIMIT;
 use segment_id::Kind;
 use spill_rows::Read;
 
-// The counts of an address: whether it has a balance, the balance's nanoErgs and how many tokens it holds, both heads, the staged spills and the table.
-pub struct AddressCounts {
-    pub held: bool,
-    pub nanos: i64,
-    pub tokens: usize,
-    pub boxes: HeadCounts,
-    pub txs: HeadCounts,
-    pub staged: ListCounts,
-    pub table: ListCounts,
-}
-
-// How two addresses rank, or the refusal code.
-pub enum Ranked {
-    Ranks(Order),
-    Refused(u8),
-}
-
 // Refusal 25 of an address.
-fn address_ok(
+pub fn address_ok(
     edition: RowEdition,
     counts: AddressCounts,
     boxes: &[i64],
@@ -73,10 +57,9 @@ fn address_ok(
     buffer_checks::spills_ok(edition, table, table_counts)
 }
 
-// Refusal 41 of an address: whether a token id stands twice in its balance.
-fn id_twice(counts: AddressCounts, ids: &[u8; TOKEN_ID_BYTES]) -> bool
-    requires { ⌜ not (counts .held) || leb (counts .tokens) token-limit ≡ true ⌝ }
-    ensures { λ r. ⌜ r ≡ id-twice counts (now (ids .entry)) ⌝ }
+// Refusal 41 of an address that passes 25: whether a token id stands twice in its balance.
+pub fn id_twice(counts: AddressCounts, ids: &[u8; TOKEN_ID_BYTES]) -> bool
+    ensures { λ r. ⌜ (not (counts .held) || leb (counts .tokens) token-limit ≡ true → r ≡ id-twice counts (now (ids .entry))) ⌝ }
 {
     if !counts.held {
         return false;
@@ -90,7 +73,7 @@ fn id_twice(counts: AddressCounts, ids: &[u8; TOKEN_ID_BYTES]) -> bool
 }
 
 // Whether a pop would refuse an address: its box side, then its transaction side.
-fn check_address<'a>(
+pub fn check_address<'a>(
     edition: RowEdition,
     hash: &[u8; 32],
     box_spills: i32,
@@ -134,7 +117,7 @@ fn check_address<'a>(
 }
 
 // How two balances compare: none before one, then nanoErgs, then the tokens.
-fn compare_balances<'a>(
+pub fn compare_balances<'a>(
     held: bool,
     nanos: i64,
     ids: &'a [u8],

@@ -161,3 +161,27 @@ pub enum TriedForks {
     Figures(usize, usize),
     Refused(u8),
 }
+
+// How the first of two values stands to the second.
+pub enum Order {
+    Less,
+    Equal,
+    Greater,
+}
+
+// The counts of an address: whether it has a balance, the balance's nanoErgs and how many tokens it holds, both heads, the staged spills and the table.
+pub struct AddressCounts {
+    pub held: bool,
+    pub nanos: i64,
+    pub tokens: usize,
+    pub boxes: HeadCounts,
+    pub txs: HeadCounts,
+    pub staged: ListCounts,
+    pub table: ListCounts,
+}
+
+// How two addresses rank, or the refusal code.
+pub enum Ranked {
+    Ranks(Order),
+    Refused(u8),
+}

@@ -1,11 +1,9 @@
 -- One law for each way that a cursor is filled: it stays, steps to the next row, to the head, or is at the end.
 use mathlib.Core.Path.{_≡_, refl, sym, _∙_, ap}
-use mathlib.Core.Bool.{Bool, true, false, cond}
 use mathlib.Core.List.{List, [], _∷_, _++_, append-nil, append-assoc}
 use Prim.Native.Nat.{ℕ, suc, _+_, _-_, _≤_, _<_}
 use native.Mathlib.Omega.{arith}
 use native.Mathlib.Numerals.{add-one}
-use lib.Dec.{leb}
 use lib.IntN.{ℤ, pos}
 use lib.ListN.{length, getD, take, drop, replicate, length-append, length-take}
 use lib.Seq.{take-append-seam, drop-cons}
@@ -13,7 +11,6 @@ use borrow.Author.Tests.{le-leb, lt-leb}
 use Rattle.records.proofs.TurnLaws.{left-all}
 use Rattle.stores.specs.Stores.{write}
 use Rattle.stores.proofs.StoreLaws.{length-write}
-use Rattle.segment_core.specs.Loading.{padded}
 use Rattle.index_types.specs.declared.RowEdition.{RowEdition}
 use Rattle.segment_id.specs.declared.Kind.{Kind}
 use Rattle.buffer_core.specs.Edition.{RowRead, bad, good, edition-of}

@@ -1,7 +1,7 @@
 -- Laws of two sides compared: a turn and each way out; and of a side that is checked.
 use mathlib.Core.Path.{_≡_, refl, sym, _∙_, ap}
 use mathlib.Core.Bool.{Bool, true, false, cond}
-use mathlib.Core.List.{List, [], _∷_, _++_}
+use mathlib.Core.List.{List, _∷_, _++_}
 use Prim.Native.Nat.{ℕ, _+_, _≤_, _<_}
 use native.Mathlib.Omega.{arith}
 use lib.IntN.{ℤ, pos, natAbs}
@@ -16,12 +16,12 @@ use Rattle.spill_rows.specs.declared.Read.{Read}
 use Rattle.spill_rows.specs.declared.Read.the-variants.{Good, Faulty}
 use Rattle.spill_rows.specs.Internal.{read-of}
 use Rattle.spill_rows.proofs.CheckedLaws.{nope}
-use Rattle.address_order.specs.declared.Order.{Order}
-use Rattle.address_order.specs.declared.Order.the-variants.{Less, Equal, Greater}
+use Rattle.index_types.specs.declared.Order.{Order}
+use Rattle.index_types.specs.declared.Order.the-variants.{Less, Equal, Greater}
 use Rattle.address_order.specs.Order.{or-else, of-signed, of-lists}
 use Rattle.side_order.specs.declared.Cursor.{Cursor}
 use Rattle.side_order.specs.Side.{row-taken, side-of, numbers-in}
-use Rattle.side_order.specs.Internal.{to-compare, Standing, Filled}
+use Rattle.side_order.specs.Internal.{to-compare, Filled}
 use Rattle.side_order.proofs.FillLaws.{stepped, entry-first}
 
 -- ---- a turn of the comparison, and its ways out

@@ -6,11 +6,10 @@ use native.Mathlib.Omega.{arith}
 use lib.IntN.{ℤ}
 use lib.ListN.{length}
 use Rattle.buffer_core.specs.Edition.{RowRead, bad, good}
-use Rattle.buffer_core.specs.Rows.{then-more, then-rows, rows-up}
+use Rattle.buffer_core.specs.Rows.{then-rows, rows-up}
 use Rattle.row_edition.specs.declared.SpillRead.{SpillRead}
 use Rattle.row_edition.specs.declared.SpillRead.the-variants.{Numbers, Refused}
 use Rattle.row_edition.specs.Internal.{SpillInto}
-use Rattle.spill_rows.specs.declared.Read.{Read}
 use Rattle.spill_rows.specs.declared.Read.the-variants.{Good, Faulty}
 use Rattle.spill_rows.specs.Internal.{read-of}
 use Rattle.spill_rows.proofs.CheckedLaws.{nope}

@@ -12,7 +12,7 @@ ghost use Rattle.spill_rows.specs.Internal.{read-of};
 ghost use Rattle.address_order.specs.Order.{of-signed, of-lists};
 ghost use Rattle.side_order.specs.Side.{row-taken, side-of};
 ghost use Rattle.side_order.specs.Internal.{TakenInto, RowsReady, SideReady, Standing, Filled, TakenSide, side-entries};
-use address_order::Order;
+use index_types::Order;
 use index_types::RowEdition;
 use index_types::SEGMENT_THRESHOLD;
 use row_edition::SpillRead;

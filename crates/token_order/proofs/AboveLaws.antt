@@ -1,12 +1,12 @@
 -- The tokens above an id: the least of them comes first, and then those above it.
 use mathlib.Core.Path.{_≡_, refl, sym, _∙_, ap, subst}
-use mathlib.Core.Bool.{Bool, true, false, cond, not, _&&_}
-use mathlib.Core.Logic.{_⊎_, inl, inr, ⊎-elim}
-use mathlib.Core.List.{List, [], _∷_, List·Memᴰ, List·Memᴰ·head, List·Memᴰ·tail, List·Memᴰ·cases-cons, List·Memᴰ·not-nil}
+use mathlib.Core.Bool.{Bool, true, false, cond, not}
+use mathlib.Core.Logic.{_⊎_, ⊎-elim}
+use mathlib.Core.List.{[], _∷_, List·Memᴰ, List·Memᴰ·head, List·Memᴰ·tail, List·Memᴰ·cases-cons, List·Memᴰ·not-nil}
 use Rattle.ledger.specs.Ledger.{TokenId, Tokens}
 use Rattle.records.proofs.KeyLaws.{clash}
-use Rattle.address_order.specs.declared.Order.{Order}
-use Rattle.address_order.specs.declared.Order.the-variants.{Less, Equal, Greater}
+use Rattle.index_types.specs.declared.Order.{Order}
+use Rattle.index_types.specs.declared.Order.the-variants.{Less, Equal, Greater}
 use Rattle.address_order.specs.Order.{of-ids, ascending}
 use Rattle.address_order.proofs.TokenOrder.{Token, Apart, ids-total, ascending-in, in-ascending, ascending-rises, rising-same}
 use Rattle.token_order.specs.Internal.{is-less, is-above}

@@ -1,5 +1,5 @@
 -- Two ids compared byte by byte.
-use mathlib.Core.Path.{_≡_, refl, sym, _∙_, ap}
+use mathlib.Core.Path.{_≡_, sym, _∙_, ap}
 use mathlib.Core.List.{List}
 use Prim.Native.Nat.{ℕ, _+_, _*_, _≤_, _<_}
 use native.Mathlib.Omega.{arith}
@@ -7,8 +7,8 @@ use lib.IntN.{ℤ}
 use lib.ListN.{length, getD, drop}
 use Rattle.balance_tokens.specs.Tokens.{id-at}
 use Rattle.balance_tokens.proofs.IdLaws.{id-length, id-byte}
-use Rattle.address_order.specs.declared.Order.{Order}
-use Rattle.address_order.specs.declared.Order.the-variants.{Less, Equal, Greater}
+use Rattle.index_types.specs.declared.Order.{Order}
+use Rattle.index_types.specs.declared.Order.the-variants.{Less, Equal, Greater}
 use Rattle.address_order.specs.Order.{or-else, of-numbers, of-signed, of-lists, of-ids, of-tokens}
 use Rattle.address_order.proofs.ListOrder.{list-decides, list-end}
 

@@ -8,10 +8,10 @@ use lib.Dec.{ltb, leb}
 use borrow.Author.Tests.{ltb-true, ltb-false, le-leb, lt-leb, leb-true, leb-false}
 use Rattle.balance_tokens.specs.Tokens.{id-at}
 use Rattle.records.proofs.KeyLaws.{clash}
-use Rattle.address_order.specs.declared.Order.{Order}
-use Rattle.address_order.specs.declared.Order.the-variants.{Less, Equal, Greater}
+use Rattle.index_types.specs.declared.Order.{Order}
+use Rattle.index_types.specs.declared.Order.the-variants.{Less, Equal, Greater}
 use Rattle.address_order.specs.Order.{reversed, of-ids}
-use Rattle.address_order.proofs.Comparisons.{less≢equal, less≢greater, greater≢equal}
+use Rattle.address_order.proofs.Comparisons.{greater≢equal}
 use Rattle.address_order.proofs.TokenOrder.{ids-total}
 use Rattle.token_order.specs.Internal.{is-less, is-above, better-place, Next}
 

@@ -1,7 +1,7 @@
 -- The places that the search picks, one after the other, give the tokens by ascending id.
 use mathlib.Core.Path.{_≡_, refl, sym, _∙_, ap, subst}
 use mathlib.Core.Bool.{Bool, true, false}
-use mathlib.Core.Logic.{_⊎_, inl, inr, ⊎-elim}
+use mathlib.Core.Logic.{_⊎_, ⊎-elim}
 use mathlib.Core.List.{List, [], _∷_, List·Memᴰ, List·Memᴰ·head, List·Memᴰ·tail, List·Memᴰ·cases-cons, List·Memᴰ·not-nil}
 use Prim.Native.Nat.{ℕ, zero, suc, _+_, _≤_, _<_}
 use native.Mathlib.Omega.{arith}
@@ -19,8 +19,8 @@ use Rattle.balance_tokens.specs.Tokens.{id-at}
 use Rattle.balance_laws.specs.Calls.{tokens-from}
 use Rattle.address_order.specs.Order.{or-else, of-ids, of-tokens, of-lists, ascending}
 use Rattle.address_order.proofs.TokenOrder.{Token, Apart}
-use Rattle.address_order.specs.declared.Order.{Order}
-use Rattle.address_order.specs.declared.Order.the-variants.{Less, Equal, Greater}
+use Rattle.index_types.specs.declared.Order.{Order}
+use Rattle.index_types.specs.declared.Order.the-variants.{Less, Equal, Greater}
 use Rattle.token_order.specs.Internal.{is-above, Next}
 use Rattle.token_order.proofs.AboveLaws.{above, above-none, above-all, least-first}
 

@@ -10,8 +10,8 @@ use Rattle.index_types.specs.Limits.{token-limit, token-id-bytes}
 use Rattle.records.specs.Records.{keys}
 use Rattle.records.specs.Find.{distinct}
 use Rattle.balance_tokens.specs.Tokens.{id-at}
-use Rattle.address_order.specs.declared.Order.{Order}
-use Rattle.address_order.specs.declared.Order.the-variants.{Less, Equal, Greater}
+use Rattle.index_types.specs.declared.Order.{Order}
+use Rattle.index_types.specs.declared.Order.the-variants.{Less, Equal, Greater}
 use Rattle.address_order.specs.Order.{of-ids}
 
 abbrev pub is-less : Order → Bool

@@ -7,7 +7,7 @@ ghost use Rattle.balance_tokens.specs.Tokens.{id-at};
 ghost use Rattle.balance_laws.specs.Calls.{tokens-from};
 ghost use Rattle.address_order.specs.Order.{of-numbers, of-signed, of-ids, of-tokens, of-lists, ascending};
 ghost use Rattle.token_order.specs.Internal.{is-less, better-place, Next, TokensReady};
-use address_order::Order;
+use index_types::Order;
 
 // How two bytes compare as unsigned numbers.
 fn compare_bytes(p: u8, q: u8) -> Order

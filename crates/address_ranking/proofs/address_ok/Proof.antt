@@ -3,7 +3,6 @@ use denote.Ref.{now}
 use borrow.Author.Needs.{needs}
 use borrow.Author.Tests.{not-true, not-false}
 use Rattle.address_ranking.proofs.CheckLaws.{ok-tokens, ok-boxes, ok-txs, ok-staged, ok-table}
-use borrow.Author.Needs.{needs}
 use Rattle.address_ranking.proofs.address_ok.Statement.{statement}
 use Rattle.address_ranking.proofs.address_ok.Tie as tie
 

@@ -11,7 +11,6 @@ use Rattle.spill_rows.specs.Internal.{read-of}
 use Rattle.side_order.specs.Side.{side-of}
 use borrow.Author.Needs.{needs}
 use Rattle.address_ranking.proofs.CheckLaws.{fault-first, fault-second}
-use borrow.Author.Needs.{needs}
 use Rattle.address_ranking.proofs.check_address.Statement.{statement}
 use Rattle.address_ranking.proofs.check_address.Tie as tie
 

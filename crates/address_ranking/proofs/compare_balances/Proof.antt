@@ -1,12 +1,11 @@
 -- One law for each way out.
-use mathlib.Core.Path.{_≡_, sym, _∙_}
+use mathlib.Core.Path.{sym, _∙_}
 use denote.Ref.{now}
 use borrow.Author.Needs.{needs}
 use borrow.Author.Tests.{not-true, not-false}
 use Rattle.signed.proofs.SignedLaws.{back64}
 use Rattle.address_order.specs.Order.{of-signed}
 use Rattle.address_ranking.proofs.CheckLaws.{none-before, none-both, one-after, both-held}
-use borrow.Author.Needs.{needs}
 use Rattle.address_ranking.proofs.compare_balances.Statement.{statement}
 use Rattle.address_ranking.proofs.compare_balances.Tie as tie
 

@@ -1,7 +1,6 @@
 -- What was read tells.
 use borrow.Author.Needs.{needs}
 use Rattle.side_order.proofs.TakenLaws.{row-good, row-bad}
-use borrow.Author.Needs.{needs}
 use Rattle.side_order.proofs.check_row.Statement.{statement}
 use Rattle.side_order.proofs.check_row.Tie as tie
 

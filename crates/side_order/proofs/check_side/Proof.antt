@@ -1,7 +1,5 @@
 -- The count is tested, then the rows.
-use Prim.Native.Nat.{_<_}
-use mathlib.Core.Path.{_≡_, sym, _∙_, ap}
-use native.Mathlib.Omega.{arith}
+use mathlib.Core.Path.{sym, _∙_, ap}
 use lib.IntN.{natAbs}
 use mir.Syntax.{w32}
 use denote.Ref.{now}
@@ -12,7 +10,6 @@ use Rattle.buffer_core.specs.Edition.{edition-of}
 use Rattle.buffer_core.specs.Spills.{sources}
 use Rattle.buffer_core.proofs.HeadLaws.{spills-below}
 use Rattle.side_order.proofs.SideLaws.{side-11, side-on}
-use borrow.Author.Needs.{needs}
 use Rattle.side_order.proofs.check_side.Statement.{statement}
 use Rattle.side_order.proofs.check_side.Tie as tie
 

@@ -1,13 +1,12 @@
 -- One law for each way that a cursor is filled.
-use Prim.Native.Nat.{_+_, _≤_, _<_}
-use mathlib.Core.Path.{_≡_, sym, _∙_, ap}
+use Prim.Native.Nat.{_≤_}
+use mathlib.Core.Path.{sym}
 use native.Mathlib.Omega.{arith}
 use lib.ListN.{length, take, length-take}
 use denote.Ref.{now}
 use borrow.Author.Needs.{needs}
 use Rattle.buffer_core.specs.Spills.{sources}
 use Rattle.side_order.proofs.FillLaws.{took, stays, to-row, not-refused, to-head, at-end}
-use borrow.Author.Needs.{needs}
 use Rattle.side_order.proofs.fill.Statement.{statement}
 use Rattle.side_order.proofs.fill.Tie as tie
 

@@ -4,10 +4,6 @@ use denote.Ref.{now}
 use Rattle.buffer_core.specs.Edition.{edition-of}
 use Rattle.buffer_core.specs.Spills.{sources, spill-read}
 use Rattle.side_order.proofs.TakenLaws.{taken-some, taken-none, taken-bad}
-use borrow.Author.Needs.{needs}
-use denote.Ref.{now}
-use Rattle.buffer_core.specs.Edition.{edition-of}
-use Rattle.buffer_core.specs.Spills.{sources, spill-read}
 use Rattle.side_order.proofs.read_taken.Statement.{statement}
 use Rattle.side_order.proofs.read_taken.Tie as tie
 

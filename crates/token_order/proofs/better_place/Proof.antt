@@ -3,7 +3,6 @@ use mathlib.Core.Path.{sym, _∙_}
 use denote.Ref.{now}
 use borrow.Author.Needs.{needs}
 use Rattle.token_order.proofs.NextLaws.{barred, first-found, lower-found, not-lower}
-use borrow.Author.Needs.{needs}
 use Rattle.token_order.proofs.better_place.Statement.{statement}
 use Rattle.token_order.proofs.better_place.Tie as tie
 

@@ -1,5 +1,4 @@
 -- The two tests are those of the comparison.
-use native.Mathlib.Omega.{arith}
 use Rattle.address_order.proofs.ListOrder.{number-below, number-above, number-equal}
 use Rattle.token_order.proofs.compare_bytes.Statement.{statement}
 use Rattle.token_order.proofs.compare_bytes.Tie as tie

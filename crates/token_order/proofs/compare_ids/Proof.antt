@@ -1,6 +1,6 @@
 -- What is left of the two ids, from byte k on, decides.
 use Prim.Native.Nat.{_≤_, _-_}
-use mathlib.Core.Path.{_≡_, refl, sym, _∙_, ap}
+use mathlib.Core.Path.{_≡_, refl, sym, _∙_}
 use lib.ListN.{drop}
 use borrow.Author.Needs.{needs}
 use Rattle.balance_tokens.specs.Tokens.{id-at}
@@ -8,9 +8,6 @@ use Rattle.address_order.specs.Order.{of-numbers, of-lists}
 use Rattle.token_order.proofs.IdOrder.{id-turn, id-end}
 use Rattle.token_order.proofs.compare_ids.Statement.{statement}
 use Rattle.token_order.proofs.compare_ids.Tie as tie
-use Rattle.token_order.proofs.compare_ids.Reads as reads
-use Rattle.token_order.proofs.compare_ids.Lts as lts
-use Rattle.token_order.proofs.compare_bytes.Reads as compare-bytes-reads
 
 abbrev Inv-loop : tie.InvT-loop
 Inv-loop a i b j p q k₀ k = (k ≤ 32) × (of-lists of-numbers (id-at a i) (id-at b j) ≡ of-lists of-numbers (drop k (id-at a i)) (drop k (id-at b j)))

@@ -1,6 +1,5 @@
 -- The two tests are those of the comparison.
-use mathlib.Core.Path.{_≡_, sym, _∙_}
-use mathlib.Core.Bool.{true, false}
+use mathlib.Core.Path.{sym, _∙_}
 use lib.Signed.{ltZ}
 use mir.Syntax.{w64}
 use borrow.Author.Needs.{needs}

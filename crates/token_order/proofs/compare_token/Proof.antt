@@ -1,5 +1,5 @@
 -- The ids decide, then the amounts.
-use mathlib.Core.Path.{_≡_, sym, _∙_}
+use mathlib.Core.Path.{sym, _∙_}
 use lib.IntN.{pos}
 use lib.ListN.{getD}
 use denote.Ref.{now}
@@ -7,7 +7,6 @@ use borrow.Author.Needs.{needs}
 use Rattle.signed.proofs.SignedLaws.{back64}
 use Rattle.address_order.specs.Order.{of-signed}
 use Rattle.token_order.proofs.IdOrder.{by-less, by-greater, by-amount}
-use borrow.Author.Needs.{needs}
 use Rattle.token_order.proofs.compare_token.Statement.{statement}
 use Rattle.token_order.proofs.compare_token.Tie as tie
 

@@ -1,7 +1,6 @@
 -- What is left of both lists of tokens, above the ids taken last, decides.
-use Prim.Native.Nat.{_≤_, _<_, _*_, _+_}
-use mathlib.Core.Path.{_≡_, refl, sym, _∙_}
-use mathlib.Core.Bool.{true, false}
+use Prim.Native.Nat.{_<_}
+use mathlib.Core.Path.{_≡_, sym, _∙_}
 use native.Mathlib.Omega.{arith}
 use lib.ListN.{length}
 use denote.Ref.{now}

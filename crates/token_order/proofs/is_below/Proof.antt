@@ -2,7 +2,6 @@
 use mathlib.Core.Path.{sym, ap, _∙_}
 use borrow.Author.Needs.{needs}
 use Rattle.token_order.specs.Internal.{is-less}
-use borrow.Author.Needs.{needs}
 use Rattle.token_order.proofs.is_below.Statement.{statement}
 use Rattle.token_order.proofs.is_below.Tie as tie
 

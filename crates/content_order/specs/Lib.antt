@@ -1,0 +1,2 @@
+-- What the functions of `content_order` ask of their callers.
+pub mod Internal

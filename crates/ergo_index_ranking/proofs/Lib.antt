@@ -1,0 +1,2 @@
+-- What the export tells.
+pub mod RankingLaws
