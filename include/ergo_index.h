@@ -204,7 +204,7 @@ uint8_t ergo_index_go_on(uint64_t *state, uint64_t *boxes, uint64_t *txs, uint64
 
 /* Runs the steps: n is a block of n calls of the load from `state`, -d a fork of d blocks, which undoes their standing calls, newest first. A flush is made at
  * every change between calls and undos. *most_staged and *most_deleted are the largest numbers of staged rows and of deleted keys at any one time: with at least
- * that room the same steps give the same answers and never 16 or 21, with less they give no figures. standing holds ERGO_INDEX_STANDING_NUMBERS numbers for each
+ * that room the same steps give the same answers and never 16 or 21, with less they end by 16 or 21. standing holds ERGO_INDEX_STANDING_NUMBERS numbers for each
  * call that stands.
  * Refusals, in order: 25 (more than 4,096 steps, a buffer shorter than its capacity), 38; then what ends the run: 16, 21, 22, 39, 40, or any refusal of an undo.
  * Changes: table, staged, deleted and standing are zeroed to their capacities, refused or not, unless by 25 or 38: the one call that changes something when it is

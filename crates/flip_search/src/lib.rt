@@ -16,7 +16,7 @@ use index_types::SEGMENT_THRESHOLD;
 use spill_rows::Read;
 
 // The absolute value of the first number of a row.
-fn lead_of<'a>(
+pub fn lead_of<'a>(
     edition: RowEdition,
     parent: &[u8; 32],
     number: usize,

@@ -48,7 +48,7 @@ fn look_in(row: &[i64], target: u64, spend: bool) -> Look
 }
 
 // What the row of a spill number shows.
-fn look_at<'a>(
+pub fn look_at<'a>(
     edition: RowEdition,
     parent: &[u8; 32],
     number: usize,

@@ -5,10 +5,10 @@ ghost use Rattle.fork_trials.specs.Tries.{Tries};
 ghost use Rattle.fork_trials.specs.Internal.{Zeroed, Sized, RunsSized, start-run, told};
 use index_types::ListCounts;
 use index_types::SpillCounts;
+use index_types::TriedForks;
 use load_core::Source;
 use standing_calls::Side;
 use standing_calls::TrialState;
-use index_types::TriedForks;
 use trial_runs::TrialRun;
 
 // Where a trial starts.

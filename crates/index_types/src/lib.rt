@@ -185,3 +185,9 @@ pub enum Ranked {
     Ranks(Order),
     Refused(u8),
 }
+
+// Nothing is missing, or the row of a spill number, whose key is `segment_id::row_key` of it.
+pub enum Missing {
+    Nothing,
+    Spill(usize),
+}

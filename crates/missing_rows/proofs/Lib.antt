@@ -1,0 +1,3 @@
+-- What a call reads, refused or not before its first row.
+pub mod CallLaws
+pub mod FlipCallLaws

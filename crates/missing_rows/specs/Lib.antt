@@ -1,0 +1,2 @@
+-- The definitions that the contracts of `missing_rows` cite.
+pub mod Missing

@@ -1,0 +1,3 @@
+-- The definitions that the contracts of `row_seeking` cite.
+pub mod Seeking
+pub mod Internal
