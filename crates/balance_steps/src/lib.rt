@@ -17,7 +17,7 @@ use index_types::TOKEN_LIMIT;
 use refusal::Answer;
 
 // The balance of a parent, from its places.
-fn read_balance(p: usize, ids: &[u8], numbers: &[i64], lengths: &[usize]) -> Balance
+pub fn read_balance(p: usize, ids: &[u8], numbers: &[i64], lengths: &[usize]) -> Balance
     requires { ⌜ (p * parent-ids + parent-ids ≤ length (now ids)) × (p * parent-numbers + parent-numbers ≤ length (now numbers)) × (p * 3 + 3 ≤ length (now lengths)) ⌝ }
     ensures { λ r. ⌜ r ≡ balance-of p (now (ids .entry)) (now (numbers .entry)) (now (lengths .entry)) ⌝ }
 {
@@ -40,7 +40,7 @@ fn read_balance(p: usize, ids: &[u8], numbers: &[i64], lengths: &[usize]) -> Bal
 }
 
 // The balance takes its places.
-fn write_balance(
+pub fn write_balance(
     p: usize,
     balance: Balance,
     ids: &mut [u8],
@@ -75,7 +75,7 @@ fn change(adding: bool, balance: Balance, nanos: i64, id: &[u8], amount: &[i64])
 }
 
 // What a change of a balance says.
-fn said_by(answer: Answer) -> Said
+pub fn said_by(answer: Answer) -> Said
     ensures { λ r. ⌜ r ≡ said-by answer ⌝ }
 {
     match answer {

@@ -38,7 +38,7 @@ fn signed_of(u: u64) -> i64
 }
 
 // The signed number in the eight bytes at a position.
-fn number_at(s: &[u8], at: usize) -> i64
+pub fn number_at(s: &[u8], at: usize) -> i64
     requires { ⌜ at + 8 ≤ length (now s) ⌝ }
     ensures { λ r. ⌜ r ≡ number-at (now (s .entry)) at ⌝ }
 {

@@ -52,9 +52,12 @@ apply-turns parents s zero r = r
 apply-turns parents s (suc n) r =
     cond (eqb (r .ended) 0 && ltb (r .made) (length (r .answers))) (apply-turns parents s n (on-item s (item-at parents s (r .at)) r)) r
 
--- 25: the state, and a journal that says more bytes than it has
+-- 25: the state, and a journal that says more bytes than it has or more calls than bytes
+abbrev pub journal-ok : Journal → Bool
+journal-ok j = leb (j .used) (length (j .bytes)) && leb (j .count) (j .used)
+
 abbrev pub driver-ok : (parents : ℕ) → State → Journal → Bool
-driver-ok parents s j = state-ok edition-1 parents s && leb (j .used) (length (j .bytes))
+driver-ok parents s j = state-ok edition-1 parents s && journal-ok j
 
 unfoldable pub apply-of : (parents : ℕ) → List ℕ → State → Journal → List ℕ → Applying
 apply-of parents input s j answers =

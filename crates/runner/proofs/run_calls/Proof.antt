@@ -4,7 +4,8 @@ use lib.ListN.{length}
 use denote.Ref.{now}
 use Rattle.call_steps.specs.State.{state}
 use Rattle.call_steps.specs.Steps.{lists-with}
-use Rattle.runner.proofs.RunLaws.{ready-when, run-passed, run-refused, told-end}
+use Rattle.run_checks.proofs.ReadyLaws.{ready-when}
+use Rattle.runner.proofs.RunLaws.{run-passed, run-refused, told-end}
 use borrow.Author.Needs.{needs}
 use Rattle.runner.proofs.run_calls.Statement.{statement}
 use Rattle.runner.proofs.run_calls.Tie as tie

@@ -1,0 +1,19 @@
+-- What the functions of `driver_batch` ask of each other.
+use Prim.Native.Nat.{ℕ, _≤_, _<_}
+use mathlib.Core.List.{List}
+use lib.ListN.{length}
+use Rattle.call_steps.specs.State.{Ready}
+use Rattle.driver_core.specs.Bytes.{item-at}
+use Rattle.driver_core.specs.Apply.{Applying, on-item}
+use Rattle.driver_journal.specs.Journals.{JournalReady}
+
+-- the item at the next byte
+unfoldable pub turn-of : (parents : ℕ) → List ℕ → Applying → Applying
+turn-of parents s r = on-item s (item-at parents s (r .at)) r
+
+-- what a turn asks once 25 is tested
+pub record TurnReady (parents : ℕ) (s : List ℕ) (r : Applying) : Type 0 where
+  pub ready : Ready parents (r .now)
+  pub entries : JournalReady (r .kept)
+  pub within : r .at ≤ length s
+  pub room : r .made < length (r .answers)

@@ -1,0 +1,2 @@
+-- The definitions that the contracts of `driver_changes` cite beside those of `driver_core`.
+pub mod Internal

@@ -1,0 +1,2 @@
+-- The definitions that the contracts of `driver_journal` cite beside those of `driver_core`.
+pub mod Journals

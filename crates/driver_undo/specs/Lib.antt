@@ -1,0 +1,3 @@
+-- The definitions that the contracts of `driver_undo` cite beside those of `driver_core`.
+pub mod Undos
+pub mod Internal
