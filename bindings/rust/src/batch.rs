@@ -258,6 +258,22 @@ impl Batch {
         balance
     }
 
+    /// The parents with their segments and balances, and the lists, as the calls that were made left them. Calls that wait are dropped.
+    ///
+    /// ```
+    /// use ergo_index::{Balance, Batch, BoxNumber, DeletedSpills, Refusal, Segment, SegmentTable, StagedSpills};
+    /// let lists = (StagedSpills::with_capacity(2), SegmentTable::with_capacity(2), DeletedSpills::with_capacity(2));
+    /// let mut batch = Batch::new([(Segment::new([7; 32]), Balance::new())], lists.0, lists.1, lists.2);
+    /// batch.append_box(0, BoxNumber(5)).run()?;
+    /// let (parents, staged, table, deleted) = batch.into_parts();
+    /// assert_eq!((parents[0].0.boxes(), staged.len(), table.capacity(), deleted.len()), (&[5][..], 0, 2, 0));
+    /// # Ok::<(), Refusal>(())
+    /// ```
+    pub fn into_parts(self) -> (Vec<(Segment, Balance)>, StagedSpills, SegmentTable, DeletedSpills) {
+        let parents = (0..self.parents).map(|parent| (self.segment(parent), self.balance(parent))).collect();
+        (parents, self.staged, self.table, self.deleted)
+    }
+
     /// The staged spills.
     pub fn staged(&self) -> &StagedSpills {
         &self.staged

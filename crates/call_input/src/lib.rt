@@ -24,6 +24,7 @@ pub struct Place {
     pub next: Next,
 }
 
+// Nothing read yet.
 pub fn start() -> Place
     ensures { λ r. ⌜ r ≡ at-start ⌝ }
 {
@@ -35,6 +36,7 @@ pub fn start() -> Place
     }
 }
 
+// Whether there is more to do.
 pub fn goes_on(next: Next) -> bool
     ensures { λ r. ⌜ r ≡ goes-on next ⌝ }
 {

@@ -70,6 +70,7 @@ fn lists_ok(staged: &[u8], table: &[u8], deleted: &[u8], counts: SpillCounts) ->
     )
 }
 
+// Refusal 25 of the whole state: the places of all parents, their heads, and the three lists.
 pub fn state_ok(
     parents: usize,
     ids: &[u8],

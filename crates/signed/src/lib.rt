@@ -45,6 +45,7 @@ pub enum Checked {
     Out,
 }
 
+// The sum of two numbers.
 pub fn checked_add(a: i64, b: i64) -> Checked
     ensures { λ r. ⌜ r ≡ checked (a +ℤ b) ⌝ }
 {
@@ -63,6 +64,7 @@ pub fn checked_add(a: i64, b: i64) -> Checked
     }
 }
 
+// The difference of two numbers.
 pub fn checked_sub(a: i64, b: i64) -> Checked
     ensures { λ r. ⌜ r ≡ checked (a -ℤ b) ⌝ }
 {
@@ -88,6 +90,7 @@ pub fn is_wanted(spend: bool, x: i64) -> bool
     if spend { 0 <= x } else { x <= 0 }
 }
 
+// A number below 2^63, with a sign.
 pub fn i64_from_u64(u: u64) -> i64
     requires { ⌜ u < 9223372036854775808 ⌝ }
     ensures { λ r. ⌜ r ≡ pos u ⌝ }
@@ -95,6 +98,7 @@ pub fn i64_from_u64(u: u64) -> i64
     u as i64
 }
 
+// A size below 2^63, with a sign.
 pub fn i64_from_usize(n: usize) -> i64
     requires { ⌜ n < 9223372036854775808 ⌝ }
     ensures { λ r. ⌜ r ≡ pos n ⌝ }
@@ -102,12 +106,14 @@ pub fn i64_from_usize(n: usize) -> i64
     n as i64
 }
 
+// A signed number of 32 bits in 64.
 pub fn i64_from_i32(x: i32) -> i64
     ensures { λ r. ⌜ r ≡ x ⌝ }
 {
     x as i64
 }
 
+// A size below 2^31, with a sign.
 pub fn i32_from_usize(n: usize) -> i32
     requires { ⌜ n < 2147483648 ⌝ }
     ensures { λ r. ⌜ r ≡ pos n ⌝ }
@@ -115,6 +121,7 @@ pub fn i32_from_usize(n: usize) -> i32
     n as i32
 }
 
+// The size of a number that is not negative.
 pub fn usize_from_i32(x: i32) -> usize
     requires { ⌜ is-negative x ≡ false ⌝ }
     ensures { λ r. ⌜ r ≡ natAbs x ⌝ }

@@ -62,6 +62,7 @@ fn paged<'a>(
     show::paged(name, answer, places);
 }
 
+// Replays a call that changes nothing: a tally, a page, the test of the lists, or where a row stands.
 pub fn ask<'a>(
     name: &[u8],
     call: Call,

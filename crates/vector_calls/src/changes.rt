@@ -4,6 +4,7 @@ use super::show;
 use index_types::BoxNumber;
 use index_types::TxNumber;
 
+// Replays an append of a box.
 pub fn append_box(
     name: &[u8],
     parent: &[u8; 32],
@@ -27,6 +28,7 @@ pub fn append_box(
     show::appended(name, answer, head, staged);
 }
 
+// Replays an append of a transaction.
 pub fn append_tx(
     name: &[u8],
     parent: &[u8; 32],
@@ -50,6 +52,7 @@ pub fn append_tx(
     show::appended(name, answer, head, staged);
 }
 
+// Replays a pop of a box.
 pub fn pop_box(
     name: &[u8],
     parent: &[u8; 32],
@@ -79,6 +82,7 @@ pub fn pop_box(
     show::popped_box(name, answer, head, staged, deleted);
 }
 
+// Replays a pop of a transaction.
 pub fn pop_tx(
     name: &[u8],
     parent: &[u8; 32],
@@ -108,6 +112,7 @@ pub fn pop_tx(
     show::popped_tx(name, answer, head, staged, deleted);
 }
 
+// Replays a spend.
 pub fn spend(
     name: &[u8],
     parent: &[u8; 32],
@@ -135,6 +140,7 @@ pub fn spend(
     show::flipped(name, answer, head, counts.len, staged);
 }
 
+// Replays an unspend.
 pub fn unspend(
     name: &[u8],
     parent: &[u8; 32],
@@ -162,6 +168,7 @@ pub fn unspend(
     show::flipped(name, answer, head, counts.len, staged);
 }
 
+// Replays a flush.
 pub fn flush(name: &[u8], given: Given, staged: &mut [u8], table: &mut [u8], deleted: &mut [u8]) {
     let edition = given.edition;
     let staged_counts = given.staged;

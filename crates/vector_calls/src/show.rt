@@ -60,6 +60,7 @@ fn popped(
     vector_line::end();
 }
 
+// The answer of a pop of a box.
 pub fn popped_box(name: &[u8], answer: PoppedBox, head: &[i64], staged: &[u8], deleted: &[u8]) {
     match answer {
         PoppedBox::Number(number, counts, rows, keys) => {
@@ -69,6 +70,7 @@ pub fn popped_box(name: &[u8], answer: PoppedBox, head: &[i64], staged: &[u8], d
     }
 }
 
+// The answer of a pop of a transaction.
 pub fn popped_tx(name: &[u8], answer: PoppedTx, head: &[i64], staged: &[u8], deleted: &[u8]) {
     match answer {
         PoppedTx::Number(number, counts, rows, keys) => {
@@ -165,6 +167,7 @@ pub fn located(name: &[u8], place: Located) {
     }
 }
 
+// The answer of a summary made afresh.
 pub fn summarized(name: &[u8], answer: Summarized) {
     match answer {
         Summarized::Done => vector_line::code_line(name, 0),

@@ -29,6 +29,7 @@ fn put_int(name: &[u8], n: i32, at: usize, out: &mut [u8]) {
     written(name, wrote, out);
 }
 
+// Writes a number of 64 bits.
 pub fn long(name: &[u8], s: &[u8]) {
     let mut out = [0u8; 64];
     let number = vector_fields::number_at(s, 0);
@@ -38,6 +39,7 @@ pub fn long(name: &[u8], s: &[u8]) {
     put_long(name, number.n, at.n, &mut out[0..len]);
 }
 
+// Writes a number of 32 bits.
 pub fn int(name: &[u8], s: &[u8]) {
     let mut out = [0u8; 64];
     let number = vector_fields::count_at(s, 0);
