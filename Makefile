@@ -15,6 +15,12 @@
 # make flat-view     one account of the sample history (PARENT, CALLS_FILE) as a flat list beside the index, and where the two differ
 # make sorted-accounts  the accounts of two servers, one of each edition, in one sequence (ACCOUNTS, ACCOUNT_CALLS)
 # make copies        two servers over different forks of one load (HISTORIES, HISTORY_CALLS): whether every answer of the two is the same
+# make setup       installs LMDB (Debian's liblmdb-dev) for the store; without it the store is in memory
+# make indexer     a small indexer on a sample of blocks and a fork
+# make store-demo  indexes a generated chain with forks on disk (BOXES, STORE_PARENTS, STORE), opens it again and shows an account
+# make store-check reads the store of store-demo back and compares tallies and summaries
+# make crash-test  kills an indexer at random moments (KILLS), opens its store again and compares it with a replay
+# make store-bench the index and the reference over the same LMDB (BOXES, STORE_PARENTS)
 # make fmt    the layout of all Rattle and antt files
 # make times  the seconds of the last gate, crate by crate
 
@@ -27,8 +33,10 @@ export MIMALLOC_PURGE_DELAY ?= -1
 RT := $(shell command -v rt 2>/dev/null)
 NO_RT := the Rattle kit is missing: no command 'rt' on PATH (expected in /opt/rattle/bin)
 ARCHIVE := target/staticlib/libergo_index.a
+# What cargo is told of it.
+WITH_ARCHIVE := ERGO_INDEX_LIB_DIR=$(CURDIR)/target/staticlib
 
-.PHONY: run load histories fork-trial test times c-test bindings convert flat-view copies sorted-accounts compare compare-full compare-sample compare-build vectors bench all-checks fmt
+.PHONY: setup indexer store-demo store-check crash-test store-bench run load histories fork-trial test times c-test bindings convert flat-view copies sorted-accounts compare compare-full compare-sample compare-build vectors bench all-checks fmt
 
 run:
 ifeq ($(RT),)
@@ -54,12 +62,12 @@ endif
 STEPS := 2000 2000 2000 -2 2000
 
 fork-trial: $(ARCHIVE)
-	@cd bindings/rust && ERGO_INDEX_LIB_DIR=$(CURDIR)/target/staticlib cargo run --offline --locked --quiet --release --example fork_trial -- $(STATE) $(STEPS)
+	@cd bindings/rust && $(WITH_ARCHIVE) cargo run --offline --locked --quiet --release --example fork_trial -- $(STATE) $(STEPS)
 
 histories: $(ARCHIVE)
 	@mkdir -p target; rt check history_printer >target/histories.log 2>&1 || { tail -n 20 target/histories.log >&2; exit 1; }
 	@target/bin/history_printer
-	@cd bindings/rust && ERGO_INDEX_LIB_DIR=$(CURDIR)/target/staticlib cargo run --offline --locked --quiet --release --example short_histories
+	@cd bindings/rust && $(WITH_ARCHIVE) cargo run --offline --locked --quiet --release --example short_histories
 
 test:
 ifeq ($(RT),)
@@ -80,9 +88,33 @@ c-test: $(ARCHIVE)
 	@echo "c-test: ok"
 
 bindings: $(ARCHIVE)
-	@cd bindings/rust && ERGO_INDEX_LIB_DIR=$(CURDIR)/target/staticlib cargo test --offline --locked --quiet
+	@cd bindings/rust && $(WITH_ARCHIVE) cargo test --offline --locked --quiet
+	@cd bindings/store && $(WITH_ARCHIVE) cargo test --offline --locked --quiet
 
-CONVERT = cd bindings/rust && ERGO_INDEX_LIB_DIR=$(CURDIR)/target/staticlib cargo run --offline --locked --quiet --example convert --
+indexer: $(ARCHIVE)
+	@cd bindings/rust && $(WITH_ARCHIVE) cargo run --offline --locked --quiet --release --example indexer < /dev/null
+
+setup:
+	@apt-get update -qq && apt-get install -y -qq liblmdb-dev
+
+BOXES := 50000
+STORE_PARENTS := 1000
+STORE := target/store
+KILLS := 40
+
+store-demo: $(ARCHIVE)
+	@cd bindings/store && $(WITH_ARCHIVE) cargo run --offline --locked --quiet --release --example store_demo -- $(CURDIR)/$(STORE) $(BOXES) $(STORE_PARENTS)
+
+store-check: $(ARCHIVE)
+	@cd bindings/store && $(WITH_ARCHIVE) cargo run --offline --locked --quiet --release --example store_check -- $(CURDIR)/$(STORE)
+
+crash-test: $(ARCHIVE)
+	@cd bindings/store && $(WITH_ARCHIVE) cargo run --offline --locked --quiet --release --example crash_test -- $(CURDIR)/target/crash $(KILLS)
+
+store-bench: compare-build
+	@compare/target/release/store_bench target/store-bench $(BOXES) $(STORE_PARENTS)
+
+CONVERT = cd bindings/rust && $(WITH_ARCHIVE) cargo run --offline --locked --quiet --example convert --
 
 convert: $(ARCHIVE)
 	@mkdir -p target/convert
@@ -96,20 +128,20 @@ PARENT := 0
 CALLS_FILE := sample/fork.calls
 
 flat-view: $(ARCHIVE)
-	@cd bindings/rust && ERGO_INDEX_LIB_DIR=$(CURDIR)/target/staticlib cargo build --offline --locked --quiet --release --example flat_view
+	@cd bindings/rust && $(WITH_ARCHIVE) cargo build --offline --locked --quiet --release --example flat_view
 	@bindings/rust/target/release/examples/flat_view $(PARENT) < $(CALLS_FILE)
 
 ACCOUNTS := 6
 ACCOUNT_CALLS := 2000
 
 sorted-accounts: $(ARCHIVE)
-	@cd bindings/rust && ERGO_INDEX_LIB_DIR=$(CURDIR)/target/staticlib cargo run --offline --locked --quiet --release --example sorted_accounts -- $(ACCOUNTS) $(ACCOUNT_CALLS)
+	@cd bindings/rust && $(WITH_ARCHIVE) cargo run --offline --locked --quiet --release --example sorted_accounts -- $(ACCOUNTS) $(ACCOUNT_CALLS)
 
 HISTORIES := 24
 HISTORY_CALLS := 3000
 
 copies: $(ARCHIVE)
-	@cd bindings/rust && ERGO_INDEX_LIB_DIR=$(CURDIR)/target/staticlib cargo build --offline --locked --quiet --release --example copies
+	@cd bindings/rust && $(WITH_ARCHIVE) cargo build --offline --locked --quiet --release --example copies
 	@bindings/rust/target/release/examples/copies $(HISTORIES) $(HISTORY_CALLS)
 
 times:

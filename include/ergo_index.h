@@ -3,7 +3,7 @@
  * Conventions, the same for every function:
  * - The result is a code: 0 where the call was accepted, otherwise the number of its refusal (ERGO_INDEX_*). Functions that refuse nothing return
  *   what their comment says.
- * - A refused call changes nothing: every out and every byte and number behind a pointer is as it was.
+ * - A refused call changes nothing: every out and every byte and number behind a pointer is as it was, unless its comment says what.
  * - A slice is a pointer and a number of elements. Pointers are never null, also those of empty slices. What a call may change must not overlap
  *   anything else that the call is given.
  * - A head is a list of at least 512 numbers beside a length (0 to 512) and a spill count. The places behind its length may hold anything.
@@ -14,7 +14,7 @@
  *   more than 128 tokens, a row or record above its limit.
  *
  * The functions keep no state and allocate nothing, so they may be called from any thread. They call memcpy, memmove and memset of the C library and
- * nothing else. A call needs less than 128 KiB of stack, ergo_index_run_calls less than 256 KiB. */
+ * nothing else. A call needs less than 128 KiB of stack, one of a batch or of its undo less than 256 KiB. */
 #ifndef ERGO_INDEX_H
 #define ERGO_INDEX_H
 
@@ -182,6 +182,68 @@ uint8_t ergo_index_run_calls(const uint8_t *input, size_t input_len, size_t pare
                              size_t *deleted_count, size_t deleted_capacity, uint8_t *deleted, size_t deleted_len,
                              uint8_t *answers, size_t answers_len, int64_t *popped, size_t popped_len, size_t *at, size_t *made, uint8_t *end);
 
+/* ---- a driver's calls: parents by a number of 32 bits, any token ids, a journal of the accepted calls, and undo to a mark */
+
+#define ERGO_INDEX_CALL_HEADER 17 /* bytes of a call without its tokens */
+#define ERGO_INDEX_CALL_TOKEN 40  /* bytes of each token: 32 of id, 8 of amount */
+
+/* the kinds of calls */
+#define ERGO_INDEX_KIND_APPEND_BOX 1
+#define ERGO_INDEX_KIND_APPEND_TRANSACTION 2
+#define ERGO_INDEX_KIND_SPEND 3
+#define ERGO_INDEX_KIND_UNSPEND 4
+#define ERGO_INDEX_KIND_POP_BOX 5
+#define ERGO_INDEX_KIND_POP_TRANSACTION 6
+#define ERGO_INDEX_KIND_FLUSH 7
+#define ERGO_INDEX_KIND_CREDIT 8
+#define ERGO_INDEX_KIND_DEBIT 9
+
+/* why a driver's batch made no further call: ERGO_INDEX_END_* of the batch above, this one, or 12, 16, 21 or 22, which the call at *at said */
+#define ERGO_INDEX_END_JOURNAL_FULL 3 /* the journal has no room for the call at *at */
+
+/* Tests 25 once, then makes the calls of the input from its front, over the state of so many parents, as ergo_index_run_calls has it in blocks.
+ * A call has a kind (1 byte), a parent (4), a number (8) and how many tokens it has (4); then the 32 bytes of each token's id, then the 8 bytes of each
+ * token's amount. Numbers have their high byte first; parent and how many tokens are unsigned, number and amounts signed. The number is the appended number,
+ * the target of a spend, or nanoErgs. Only a credit or a debit has tokens, any number of them.
+ * Call i answers its refusal or 0 at answers[i]. A call that is refused changes nothing else, and the next one is made; but 12, 16, 21 and 22 have no answer:
+ * the batch ends in front of such a call, and goes on there once its row is fetched (12), the lists are flushed (16, 21) or a longer table is lent (22).
+ * An accepted call becomes the newest entry of the journal, whose first *used bytes are its entries, *standing of them; an entry has the bytes of its call. A
+ * call is made only where its entry has room. A flush is no entry. Kinds 4 to 6 are no calls here: ergo_index_undo_to makes them.
+ * *at is the byte behind the last call that was made, *made the number of calls made, *end why there was no further one.
+ * Refusals: 25 (as ergo_index_run_calls; *used above the journal's bytes, *standing above *used). The result is 0 or 25: what stands behind the last call is
+ * told by *end alone, and the calls before it were made.
+ * Changes: ids, numbers, lengths, spills, all three counts and lists, entries, *used, *standing, answers, *at, *made, *end. */
+uint8_t ergo_index_apply_calls(const uint8_t *input, size_t input_len, size_t parents, uint8_t *ids, size_t ids_len, int64_t *numbers, size_t numbers_len,
+                               size_t *lengths, size_t lengths_len, int32_t *spills, size_t spills_len,
+                               size_t *staged_count, size_t staged_capacity, uint8_t *staged, size_t staged_len,
+                               size_t *table_count, size_t table_capacity, uint8_t *table, size_t table_len,
+                               size_t *deleted_count, size_t deleted_capacity, uint8_t *deleted, size_t deleted_len,
+                               uint8_t *entries, size_t entries_len, size_t *used, size_t *standing,
+                               uint8_t *answers, size_t answers_len, size_t *at, size_t *made, uint8_t *end);
+
+/* The same without a journal, and with all kinds: 4 unspend (the number is the target), 5 pop box, 6 pop transaction. The number that call i popped, or 0, is at
+ * popped[i], where it has that place.
+ * Refusals: 25 (as ergo_index_run_calls).
+ * Changes: ids, numbers, lengths, spills, all three counts and lists, answers, popped, *at, *made, *end. */
+uint8_t ergo_index_make_calls(const uint8_t *input, size_t input_len, size_t parents, uint8_t *ids, size_t ids_len, int64_t *numbers, size_t numbers_len,
+                              size_t *lengths, size_t lengths_len, int32_t *spills, size_t spills_len,
+                              size_t *staged_count, size_t staged_capacity, uint8_t *staged, size_t staged_len,
+                              size_t *table_count, size_t table_capacity, uint8_t *table, size_t table_len,
+                              size_t *deleted_count, size_t deleted_capacity, uint8_t *deleted, size_t deleted_len,
+                              uint8_t *answers, size_t answers_len, int64_t *popped, size_t popped_len, size_t *at, size_t *made, uint8_t *end);
+
+/* Undoes the newest standing calls of a journal until `mark` of them stand: a pop of an append, an unspend of a spend, a debit of a credit, a credit of a debit,
+ * with a flush before, behind, and wherever an undo says 16 or 21 with undos accepted since the last one. A mark at or above *standing changes nothing.
+ * Refusals: 25 (as ergo_index_apply_calls), and nothing changes; then what ends it: the refusal of an undo or of a flush, or 31 where the newest entry is no call.
+ * The undos before it were made, and *used and *standing are what still stands: it may go on from there once the refusal is lifted.
+ * Changes: ids, numbers, lengths, spills, all three counts and lists, *used, *standing. */
+uint8_t ergo_index_undo_to(size_t parents, size_t mark, uint8_t *ids, size_t ids_len, int64_t *numbers, size_t numbers_len,
+                           size_t *lengths, size_t lengths_len, int32_t *spills, size_t spills_len,
+                           size_t *staged_count, size_t staged_capacity, uint8_t *staged, size_t staged_len,
+                           size_t *table_count, size_t table_capacity, uint8_t *table, size_t table_len,
+                           size_t *deleted_count, size_t deleted_capacity, uint8_t *deleted, size_t deleted_len,
+                           const uint8_t *entries, size_t entries_len, size_t *used, size_t *standing);
+
 /* ---- loads: calls for ergo_index_run_calls, drawn one after the other from a state of 64 bits, so that equal states give equal calls */
 
 /* Writes `count` calls at the front of out, drawn from the state `from`, all to parent 0: boxes and transactions appended, numbered from 0, spends of boxes
@@ -307,6 +369,55 @@ uint8_t ergo_index_row_to_second(const uint8_t *row, size_t row_len, const uint8
 uint8_t ergo_index_row_to_first(const uint8_t *row, size_t row_len, const uint8_t parent[32], uint8_t kind, int32_t number, uint8_t *out,
                                 size_t out_len, size_t *written);
 
+/* ---- a working set of the table
+ *
+ * Any part of the segments table, with the same rows under the same keys, may be given as the table: a call that is not refused by 12 answers, and leaves every
+ * out and list, as with the whole table. At a 12, ask which row the call needs next, fetch it from where the whole table is kept, put it into the part by
+ * ergo_index_put_row, and make the call again: that ends after at most as many rows as the call reads.
+ *
+ * Each of these functions takes what the call takes (second_edition as in the functions _in_edition) and refuses nothing. The result is 12 where the call reads a
+ * row that is neither staged nor in the table given: *number is then the spill number of the first such row, and key its key. The result is 0 where no row is
+ * missing, also where the call would be refused before it reads one, by 25 too; *number and key are then as they were. */
+uint8_t ergo_index_missing_for_spend(bool second_edition, const uint8_t parent[32], size_t len, int32_t spills, const int64_t *head,
+                                     size_t head_len, int64_t target,
+                                     size_t staged_count, size_t staged_capacity, const uint8_t *staged, size_t staged_len,
+                                     size_t table_count, size_t table_capacity, const uint8_t *table, size_t table_len,
+                                     int32_t *number, uint8_t key[32]);
+uint8_t ergo_index_missing_for_unspend(bool second_edition, const uint8_t parent[32], size_t len, int32_t spills, const int64_t *head,
+                                       size_t head_len, int64_t target,
+                                       size_t staged_count, size_t staged_capacity, const uint8_t *staged, size_t staged_len,
+                                       size_t table_count, size_t table_capacity, const uint8_t *table, size_t table_len,
+                                       int32_t *number, uint8_t key[32]);
+uint8_t ergo_index_missing_for_pop_box(bool second_edition, const uint8_t parent[32], size_t len, int32_t spills, const int64_t *head,
+                                       size_t head_len,
+                                       size_t staged_count, size_t staged_capacity, const uint8_t *staged, size_t staged_len,
+                                       size_t table_count, size_t table_capacity, const uint8_t *table, size_t table_len,
+                                       size_t deleted_count, size_t deleted_capacity, const uint8_t *deleted, size_t deleted_len,
+                                       int32_t *number, uint8_t key[32]);
+uint8_t ergo_index_missing_for_pop_tx(bool second_edition, const uint8_t parent[32], size_t len, int32_t spills, const int64_t *head,
+                                      size_t head_len,
+                                      size_t staged_count, size_t staged_capacity, const uint8_t *staged, size_t staged_len,
+                                      size_t table_count, size_t table_capacity, const uint8_t *table, size_t table_len,
+                                      size_t deleted_count, size_t deleted_capacity, const uint8_t *deleted, size_t deleted_len,
+                                      int32_t *number, uint8_t key[32]);
+uint8_t ergo_index_missing_for_tally(bool second_edition, const uint8_t parent[32], size_t len, int32_t spills, const int64_t *head,
+                                     size_t head_len,
+                                     size_t staged_count, size_t staged_capacity, const uint8_t *staged, size_t staged_len,
+                                     size_t table_count, size_t table_capacity, const uint8_t *table, size_t table_len,
+                                     int32_t *number, uint8_t key[32]);
+/* page and length as for ergo_index_unspent_page; the page is not changed */
+uint8_t ergo_index_missing_for_page(bool second_edition, const uint8_t parent[32], size_t len, int32_t spills, const int64_t *head,
+                                    size_t head_len,
+                                    size_t staged_count, size_t staged_capacity, const uint8_t *staged, size_t staged_len,
+                                    size_t table_count, size_t table_capacity, const uint8_t *table, size_t table_len,
+                                    size_t length, const int64_t *page, size_t page_len, int32_t *number, uint8_t key[32]);
+
+/* Puts a row under its key into the table, whose count grows by 1 where the key is new: a row that was fetched, into the part that is given as the table.
+ * Refusals, in order: 25 (the table, a row above the limit of its edition), 22.
+ * Changes: *table_count, table. */
+uint8_t ergo_index_put_row(bool second_edition, const uint8_t key[32], const uint8_t *row, size_t row_len,
+                           size_t *table_count, size_t table_capacity, uint8_t *table, size_t table_len);
+
 /* ---- addresses in a fixed order */
 
 /* How two whole addresses rank: *order is -1 where the first is before the second, 0 where they are equal, 1 where it is behind. An address is its hash, its
@@ -390,6 +501,20 @@ uint8_t ergo_index_unflip_box_segment_entry_with_summary(bool second_edition, co
                                                          uint8_t *staged, size_t staged_len, size_t table_count, size_t table_capacity,
                                                          const uint8_t *table, size_t table_len, size_t lines, uint64_t *summary,
                                                          size_t summary_len);
+
+/* Which row a spend or an unspend with a summary needs next of a working set of the table (see there): 12 with *number and key, or 0. With a summary
+ * whose first values do not fall it reads at most one row, unless the target is the first number of that row. For a pop with a summary ask ergo_index_missing_for_pop_box, for
+ * ergo_index_summarize_boxes ask ergo_index_missing_for_tally: they name the same row. */
+uint8_t ergo_index_missing_for_spend_with_summary(bool second_edition, const uint8_t parent[32], size_t len, int32_t spills, const int64_t *head,
+                                                  size_t head_len, int64_t target,
+                                                  size_t staged_count, size_t staged_capacity, const uint8_t *staged, size_t staged_len,
+                                                  size_t table_count, size_t table_capacity, const uint8_t *table, size_t table_len,
+                                                  size_t lines, const uint64_t *summary, size_t summary_len, int32_t *number, uint8_t key[32]);
+uint8_t ergo_index_missing_for_unspend_with_summary(bool second_edition, const uint8_t parent[32], size_t len, int32_t spills, const int64_t *head,
+                                                    size_t head_len, int64_t target,
+                                                    size_t staged_count, size_t staged_capacity, const uint8_t *staged, size_t staged_len,
+                                                    size_t table_count, size_t table_capacity, const uint8_t *table, size_t table_len,
+                                                    size_t lines, const uint64_t *summary, size_t summary_len, int32_t *number, uint8_t key[32]);
 
 /* ---- digests and row keys; these refuse nothing */
 

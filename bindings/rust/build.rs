@@ -1,9 +1,10 @@
 //! Links libergo_index.a: from `ERGO_INDEX_LIB_DIR`, or else from the repository's target/staticlib, where include/archive.sh proves and builds it first if
-//! it is missing and the Rattle kit's `rt` is on PATH.
+//! it is missing or older than a source and the Rattle kit's `rt` is on PATH.
 
 use std::env;
 use std::path::{Path, PathBuf};
 use std::process::{exit, Command};
+use std::time::SystemTime;
 
 const ARCHIVE: &str = "libergo_index.a";
 
@@ -33,10 +34,28 @@ fn archive_folder() -> PathBuf {
     let here = PathBuf::from(env::var_os("CARGO_MANIFEST_DIR").expect("cargo sets CARGO_MANIFEST_DIR"));
     let repository = here.join("../..");
     let folder = repository.join("target/staticlib");
-    if !folder.join(ARCHIVE).is_file() {
+    for source in ["crates", "crates.txt", "include/archive.sh"] {
+        println!("cargo:rerun-if-changed={}", repository.join(source).display());
+    }
+    let built = folder.join(ARCHIVE).metadata().and_then(|archive| archive.modified());
+    if !built.is_ok_and(|built| newest_source(&repository) <= built) {
         build_archive(&repository);
     }
     folder
+}
+
+/// When a source of the archive was changed last.
+fn newest_source(repository: &Path) -> SystemTime {
+    let mut newest = SystemTime::UNIX_EPOCH;
+    let mut open = vec![repository.join("crates"), repository.join("crates.txt"), repository.join("include/archive.sh")];
+    while let Some(path) = open.pop() {
+        if path.is_dir() {
+            open.extend(path.read_dir().into_iter().flatten().flatten().map(|entry| entry.path()));
+        } else if let Ok(changed) = path.metadata().and_then(|file| file.modified()) {
+            newest = newest.max(changed);
+        }
+    }
+    newest
 }
 
 fn main() {

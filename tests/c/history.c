@@ -1,5 +1,5 @@
 /* One parent's history over the C interface: 513 appends, a spend in the row that spilled, a flush, the unspend, and pops across the row; then a
- * balance, an address record, a batch, two rows with a summary and an undo entry. Every answer is asserted; the lines that are printed are compared
+ * balance, an address record, two batches, two rows with a summary and an undo entry. Every answer is asserted; the lines that are printed are compared
  * with tests/c/history.stdout. */
 #include "ergo_index.h"
 
@@ -264,6 +264,70 @@ static void batch(void) {
     EXPECT(RUN(sizeof calls - 3, sizeof calls - 2, 7) == ERGO_INDEX_ACCEPTED && at == 1 && made == 1 && end == ERGO_INDEX_END_OF_INPUT);
     printf("batch: ok\n");
 #undef RUN
+}
+
+/* A call of a driver at a place; the number and the amount are small. The place behind it. */
+static size_t put_call(uint8_t *at, uint8_t kind, uint8_t p, uint8_t number, uint8_t tokens) {
+    memset(at, 0, ERGO_INDEX_CALL_HEADER);
+    at[0] = kind;
+    at[4] = p;
+    at[12] = number;
+    at[16] = tokens;
+    return ERGO_INDEX_CALL_HEADER;
+}
+
+/* A driver's batch with a token beside a journal, undone to a mark; then without a journal, with an unspend and pops; and a batch that stops for a flush. */
+static void driver(void) {
+    static uint8_t ids[ERGO_INDEX_PARENT_IDS];
+    static int64_t numbers[ERGO_INDEX_PARENT_NUMBERS];
+    static size_t lengths[ERGO_INDEX_PARENT_LENGTHS];
+    static int32_t spills[ERGO_INDEX_PARENT_SPILLS];
+    uint8_t calls[200], entries[100], answers[5] = {9, 9, 9, 9, 9}, end = 9;
+    int64_t popped[5] = {9, 9, 9, 9, 9};
+    size_t used = 0, standing = 0, at = 99, made = 99, len = 0;
+
+#define STATE(staged_room)                                                                                                         \
+    ids, sizeof ids, numbers, ERGO_INDEX_PARENT_NUMBERS, lengths, ERGO_INDEX_PARENT_LENGTHS, spills, ERGO_INDEX_PARENT_SPILLS,     \
+        &staged.count, (staged_room), staged.bytes, sizeof staged.bytes, &table.count, CAPACITY, table.bytes, sizeof table.bytes,  \
+        &deleted.count, CAPACITY, deleted.bytes, sizeof deleted.bytes
+
+    EXPECT(staged.count == 0 && table.count == 0 && deleted.count == 0);
+    len += put_call(calls + len, ERGO_INDEX_KIND_APPEND_BOX, 0, 7, 0);
+    len += put_call(calls + len, ERGO_INDEX_KIND_CREDIT, 0, 10, 1);
+    memset(calls + len, 0, ERGO_INDEX_CALL_TOKEN);
+    calls[len] = 1;
+    calls[len + 31] = 2;
+    calls[len + 39] = 3;
+    len += ERGO_INDEX_CALL_TOKEN;
+    len += put_call(calls + len, ERGO_INDEX_KIND_SPEND, 0, 8, 0);
+    len += put_call(calls + len, ERGO_INDEX_KIND_SPEND, 0, 7, 0);
+    len += put_call(calls + len, ERGO_INDEX_KIND_POP_BOX, 0, 0, 0);
+    EXPECT(ergo_index_apply_calls(calls, len, 1, STATE(CAPACITY), entries, sizeof entries, &used, &standing, answers, 5, &at, &made, &end) == ERGO_INDEX_ACCEPTED);
+    EXPECT(end == ERGO_INDEX_END_NO_CALL && made == 4 && at == len - 17 && used == 91 && standing == 3);
+    EXPECT(answers[0] == 0 && answers[1] == 0 && answers[2] == ERGO_INDEX_TARGET_NOT_SEEN && answers[3] == 0 && answers[4] == 9);
+    EXPECT(numbers[0] == -7 && lengths[2] == 1 && numbers[1024] == 3 && numbers[1152] == 10 && ids[32] == 1 && ids[63] == 2);
+    EXPECT(ergo_index_apply_calls(calls, 17, 1, STATE(CAPACITY), entries, sizeof entries, &used, &standing, answers, 5, &at, &made, &end) == ERGO_INDEX_ACCEPTED);
+    EXPECT(end == ERGO_INDEX_END_JOURNAL_FULL && made == 0 && at == 0 && used == 91 && lengths[0] == 1);
+    EXPECT(ergo_index_undo_to(1, 1, STATE(CAPACITY), entries, 90, &used, &standing) == ERGO_INDEX_BUFFERS && used == 91 && standing == 3);
+    EXPECT(ergo_index_undo_to(1, 1, STATE(CAPACITY), entries, sizeof entries, &used, &standing) == ERGO_INDEX_ACCEPTED);
+    EXPECT(used == 17 && standing == 1 && numbers[0] == 7 && lengths[2] == 0 && numbers[1152] == 0 && ids[32] == 0);
+    EXPECT(ergo_index_undo_to(1, 0, STATE(CAPACITY), entries, sizeof entries, &used, &standing) == ERGO_INDEX_ACCEPTED && used == 0 && lengths[0] == 0);
+
+    len = put_call(calls, ERGO_INDEX_KIND_APPEND_BOX, 0, 7, 0);
+    len += put_call(calls + len, ERGO_INDEX_KIND_SPEND, 0, 7, 0);
+    len += put_call(calls + len, ERGO_INDEX_KIND_UNSPEND, 0, 7, 0);
+    len += put_call(calls + len, ERGO_INDEX_KIND_POP_BOX, 0, 0, 0);
+    len += put_call(calls + len, ERGO_INDEX_KIND_POP_BOX, 0, 0, 0);
+    EXPECT(ergo_index_make_calls(calls, len, 1, STATE(CAPACITY), answers, 5, popped, 4, &at, &made, &end) == ERGO_INDEX_ACCEPTED);
+    EXPECT(made == 5 && at == len && answers[3] == 0 && popped[3] == 7 && popped[0] == 0 && answers[4] == ERGO_INDEX_NOTHING_TO_POP && popped[4] == 9);
+    EXPECT(end == ERGO_INDEX_END_NO_ROOM && lengths[0] == 0);
+
+    lengths[0] = 512;
+    EXPECT(ergo_index_make_calls(calls, 17, 1, STATE(0), answers, 5, popped, 5, &at, &made, &end) == ERGO_INDEX_ACCEPTED);
+    EXPECT(end == ERGO_INDEX_STAGING_FULL && made == 0 && at == 0 && lengths[0] == 512);
+    lengths[0] = 0;
+    printf("driver: ok\n");
+#undef STATE
 }
 
 /* Nine calls from state 1 and then six are the fifteen calls of one load; each refusal changes nothing. */
@@ -666,10 +730,110 @@ static void ranks(void) {
     printf("ranks: ok\n");
 }
 
+/* Three rows of 512 in a table, and parts of it given instead: a call is made on the part as on the table, or names the row that is to be fetched. */
+#define WORK 3
+
+static bool second_rows;
+static struct head work_boxes;
+static struct {
+    size_t count, capacity;
+    uint8_t bytes[WORK * ERGO_INDEX_SECOND_RECORD_SIZE];
+} work_staged, whole, part;
+static int32_t fetch_number;
+static uint8_t fetch_key[32];
+
+#define WORK_HEAD work_boxes.len, work_boxes.spills, work_boxes.numbers, ERGO_INDEX_HEAD_LENGTH
+#define WORK_STAGED work_staged.count, WORK, work_staged.bytes, sizeof work_staged.bytes
+#define WORK_PART part.count, part.capacity, part.bytes, sizeof part.bytes
+
+/* puts the row that was asked for, taken from the whole table */
+static uint8_t fetch(void) {
+    uint8_t list = 0, key[32];
+    size_t offset = 0, length = 0;
+    ergo_index_box_segment_id(parent, fetch_number, key);
+    EXPECT(memcmp(key, fetch_key, sizeof key) == 0);
+    EXPECT(ergo_index_inspect_spill_in_edition(second_rows, 0, 0, part.bytes, 0, whole.count, WORK, whole.bytes, sizeof whole.bytes, key, &list, &offset,
+                                               &length) == ERGO_INDEX_ACCEPTED && list == 2);
+    return ergo_index_put_row(second_rows, key, whole.bytes + offset, length, &part.count, part.capacity, part.bytes, sizeof part.bytes);
+}
+
+static uint8_t work_spend(int64_t target) {
+    return ergo_index_flip_box_segment_entry_in_edition(second_rows, parent, WORK_HEAD, target, &work_staged.count, WORK, work_staged.bytes,
+                                                        sizeof work_staged.bytes, WORK_PART);
+}
+
+static uint8_t asks_for_spend(int64_t target) {
+    return ergo_index_missing_for_spend(second_rows, parent, WORK_HEAD, target, WORK_STAGED, WORK_PART, &fetch_number, fetch_key);
+}
+
+static void working_sets(bool second) {
+    static uint64_t summary[WORK * ERGO_INDEX_SUMMARY_LINE];
+    static uint8_t key_list[ERGO_INDEX_KEY_SIZE], long_row[ERGO_INDEX_SECOND_ROW_LIMIT + 1];
+    int64_t page[ERGO_INDEX_PAGE_LENGTH] = {0};
+    size_t keys_count = 0, unspent = 0, spent = 0, unknown = 0;
+    second_rows = second;
+    memset(&work_boxes, 0, sizeof work_boxes);
+    memset(&work_staged, 0, sizeof work_staged);
+    memset(&whole, 0, sizeof whole);
+    memset(&part, 0, sizeof part);
+    part.capacity = 2;
+    for (int64_t n = 1; n <= 3 * 512 + 1; n++)
+        EXPECT(ergo_index_append_box_entry_in_edition(second, parent, &work_boxes.len, &work_boxes.spills, work_boxes.numbers, ERGO_INDEX_HEAD_LENGTH, n,
+                                                      &work_staged.count, WORK, work_staged.bytes, sizeof work_staged.bytes) == ERGO_INDEX_ACCEPTED);
+    EXPECT(ergo_index_flush_staged_spills_in_edition(second, &work_staged.count, WORK, work_staged.bytes, sizeof work_staged.bytes, &whole.count, WORK,
+                                                     whole.bytes, sizeof whole.bytes, &keys_count, 1, key_list, sizeof key_list) == ERGO_INDEX_ACCEPTED);
+    EXPECT(work_boxes.len == 1 && work_boxes.spills == 3 && whole.count == 3);
+    EXPECT(ergo_index_summarize_boxes(second, parent, WORK_HEAD, WORK_STAGED, whole.count, WORK, whole.bytes, sizeof whole.bytes, WORK, summary,
+                                      WORK * ERGO_INDEX_SUMMARY_LINE) == ERGO_INDEX_ACCEPTED);
+
+    /* with a summary one row; without, the halving reads rows 1 and 2 */
+    fetch_number = 9;
+    EXPECT(ergo_index_missing_for_unspend_with_summary(second, parent, WORK_HEAD, 1537, WORK_STAGED, WORK_PART, WORK, summary,
+                                                       WORK * ERGO_INDEX_SUMMARY_LINE, &fetch_number, fetch_key) == ERGO_INDEX_ACCEPTED && fetch_number == 9);
+    EXPECT(ergo_index_missing_for_spend_with_summary(second, parent, WORK_HEAD, 700, WORK_STAGED, WORK_PART, WORK, summary,
+                                                     WORK * ERGO_INDEX_SUMMARY_LINE, &fetch_number, fetch_key) == ERGO_INDEX_ROW_MISSING && fetch_number == 1);
+    EXPECT(asks_for_spend(1537) == ERGO_INDEX_ACCEPTED && asks_for_spend(INT64_MIN) == ERGO_INDEX_ACCEPTED);
+    EXPECT(work_spend(700) == ERGO_INDEX_ROW_MISSING && asks_for_spend(700) == ERGO_INDEX_ROW_MISSING && fetch_number == 1);
+    EXPECT(fetch() == ERGO_INDEX_ACCEPTED && part.count == 1);
+    EXPECT(ergo_index_missing_for_spend_with_summary(second, parent, WORK_HEAD, 700, WORK_STAGED, WORK_PART, WORK, summary,
+                                                     WORK * ERGO_INDEX_SUMMARY_LINE, &fetch_number, fetch_key) == ERGO_INDEX_ACCEPTED);
+    EXPECT(work_spend(700) == ERGO_INDEX_ROW_MISSING && asks_for_spend(700) == ERGO_INDEX_ROW_MISSING && fetch_number == 2);
+    EXPECT(fetch() == ERGO_INDEX_ACCEPTED && part.count == 2 && fetch() == ERGO_INDEX_ACCEPTED && part.count == 2);
+    EXPECT(asks_for_spend(700) == ERGO_INDEX_ACCEPTED && work_spend(700) == ERGO_INDEX_ACCEPTED && work_staged.count == 1);
+    EXPECT(ergo_index_missing_for_unspend(second, parent, WORK_HEAD, 700, WORK_STAGED, WORK_PART, &fetch_number, fetch_key) == ERGO_INDEX_ACCEPTED);
+
+    /* row 0 has no room until a row is dropped */
+    EXPECT(ergo_index_missing_for_page(second, parent, WORK_HEAD, WORK_STAGED, WORK_PART, 64, page, 64, &fetch_number, fetch_key) == ERGO_INDEX_ROW_MISSING
+           && fetch_number == 0);
+    EXPECT(ergo_index_missing_for_tally(second, parent, WORK_HEAD, WORK_STAGED, WORK_PART, &fetch_number, fetch_key) == ERGO_INDEX_ROW_MISSING);
+    EXPECT(fetch_number == 0 && fetch() == ERGO_INDEX_TABLE_FULL && part.count == 2);
+    part.capacity = 3;
+    EXPECT(ergo_index_put_row(second, fetch_key, long_row, (second ? ERGO_INDEX_SECOND_ROW_LIMIT : ERGO_INDEX_ROW_LIMIT) + 1, &part.count, part.capacity,
+                              part.bytes, sizeof part.bytes) == ERGO_INDEX_BUFFERS && part.count == 2);
+    EXPECT(fetch() == ERGO_INDEX_ACCEPTED && part.count == 3);
+    EXPECT(ergo_index_missing_for_tally(second, parent, WORK_HEAD, WORK_STAGED, WORK_PART, &fetch_number, fetch_key) == ERGO_INDEX_ACCEPTED);
+    EXPECT(ergo_index_tally_in_edition(second, parent, WORK_HEAD, WORK_STAGED, WORK_PART, &unspent, &spent, &unknown) == ERGO_INDEX_ACCEPTED);
+    EXPECT(unspent == 1536 && spent == 1 && unknown == 0);
+
+    /* a pop needs the newest row once the head is empty; the same of transactions has another key */
+    part.count = 0;
+    EXPECT(ergo_index_missing_for_pop_box(second, parent, WORK_HEAD, WORK_STAGED, WORK_PART, 0, 1, key_list, sizeof key_list, &fetch_number, fetch_key)
+           == ERGO_INDEX_ACCEPTED);
+    work_boxes.len = 0;
+    EXPECT(ergo_index_missing_for_pop_tx(second, parent, WORK_HEAD, WORK_STAGED, WORK_PART, 0, 1, key_list, sizeof key_list, &fetch_number, fetch_key)
+           == ERGO_INDEX_ROW_MISSING && fetch_number == 2);
+    ergo_index_tx_segment_id(parent, 2, key_list);
+    EXPECT(memcmp(key_list, fetch_key, sizeof key_list) == 0);
+    EXPECT(ergo_index_missing_for_pop_box(second, parent, WORK_HEAD, WORK_STAGED, WORK_PART, 0, 1, key_list, sizeof key_list, &fetch_number, fetch_key)
+           == ERGO_INDEX_ROW_MISSING && fetch_number == 2 && fetch() == ERGO_INDEX_ACCEPTED);
+    printf("working set, edition %d: ok\n", second ? 2 : 1);
+}
+
 int main(void) {
     history();
     balances_and_records();
     batch();
+    driver();
     loads();
     trials();
     short_histories();
@@ -679,6 +843,8 @@ int main(void) {
     codecs();
     flat_lists();
     ranks();
+    working_sets(false);
+    working_sets(true);
     printf("ok\n");
     return 0;
 }

@@ -131,7 +131,7 @@ impl<E: Edition> Server<E> {
         let (segment, balance) = &mut self.accounts[parent];
         self.made += 1;
         match call {
-            Call::Box(n) => assert_eq!(segment.pop_box_entry(&mut self.staged, &self.table, &mut self.deleted)?, BoxNumber(n)),
+            Call::Box(n) => assert_eq!(segment.pop_box_entry(&mut self.staged, &self.table, &mut self.deleted)?, BoxEntry(n)),
             Call::Tx(n) => assert_eq!(segment.pop_tx_entry(&mut self.staged, &self.table, &mut self.deleted)?, TxNumber(n)),
             Call::Spend(n) => segment.unflip_box_segment_entry(BoxNumber(n), &mut self.staged, &self.table)?,
             Call::Credit(nanos, token) => balance.subtract_box(nanos, &[token])?,

@@ -54,9 +54,9 @@ impl Index {
         for spill in 0..segment.box_spills() {
             let key = box_segment_id(segment.parent(), spill);
             let row = Segment::from_row(*segment.parent(), inspect_spill(&self.staged, &self.table, &key)?.row())?;
-            all.extend(row.boxes().iter().enumerate().map(|(i, n)| (*n, format!("row {spill}, place {i}"))));
+            all.extend(row.boxes().iter().enumerate().map(|(i, n)| (n.0, format!("row {spill}, place {i}"))));
         }
-        all.extend(segment.boxes().iter().enumerate().map(|(i, n)| (*n, format!("head, place {i}"))));
+        all.extend(segment.boxes().iter().enumerate().map(|(i, n)| (n.0, format!("head, place {i}"))));
         Ok(all)
     }
 }
@@ -116,8 +116,8 @@ fn view(input: &[u8], parent: u8, rows: usize, out: &mut impl Write) -> io::Resu
         }
     };
     let spent = |all: &mut dyn Iterator<Item = i64>| all.filter(|n| *n < 0).count();
-    for (place, (flatly, (entry, place_there))) in flat.entries().iter().zip(&entries).enumerate() {
-        let differs = if flatly == entry {
+    for (place, (flatly, (entry, place_there))) in flat.entries().iter().map(|entry| entry.0).zip(&entries).enumerate() {
+        let differs = if flatly == *entry {
             ""
         } else if flatly.unsigned_abs() == entry.unsigned_abs() {
             "  the mark stands at another copy"
@@ -127,7 +127,7 @@ fn view(input: &[u8], parent: u8, rows: usize, out: &mut impl Write) -> io::Resu
         };
         writeln!(out, "{place} {flatly} {entry} {place_there}{differs}")?;
     }
-    let (ours, theirs) = (spent(&mut flat.entries().iter().copied()), spent(&mut entries.iter().map(|(n, _)| *n)));
+    let (ours, theirs) = (spent(&mut flat.entries().iter().map(|entry| entry.0)), spent(&mut entries.iter().map(|(n, _)| *n)));
     same &= (flat.len(), ours) == (entries.len(), theirs);
     writeln!(
         out,

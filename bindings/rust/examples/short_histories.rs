@@ -28,9 +28,9 @@ impl Ledger {
     }
 
     /// What entries show: absolute values in order, and how many copies of 1 and of 2 are spent.
-    fn shown_by(&self, entries: &[i64]) -> bool {
+    fn shown_by(&self, entries: &[BoxEntry]) -> bool {
         let spent = [1, 2].map(|number| entries.iter().filter(|entry| **entry == -number).count());
-        entries.iter().map(|entry| entry.unsigned_abs()).eq(self.numbers()) && spent == self.spent()
+        entries.iter().map(|entry| entry.0.unsigned_abs()).eq(self.numbers()) && spent == self.spent()
     }
 }
 
@@ -39,10 +39,10 @@ trait Account {
     fn append(&mut self, number: BoxNumber) -> Result<(), Refusal>;
     fn spend(&mut self, number: BoxNumber) -> Result<(), Refusal>;
     fn unspend(&mut self, number: BoxNumber) -> Result<(), Refusal>;
-    fn pop(&mut self) -> Result<BoxNumber, Refusal>;
+    fn pop(&mut self) -> Result<BoxEntry, Refusal>;
     fn flush(&mut self) -> Result<(), Refusal>;
     /// Every entry, oldest first.
-    fn entries(&self) -> &[i64];
+    fn entries(&self) -> &[BoxEntry];
 }
 
 struct Index<E: Edition> {
@@ -76,7 +76,7 @@ impl<E: Edition> Account for Index<E> {
         self.segment.unflip_box_segment_entry(number, &mut self.staged, &self.table)
     }
 
-    fn pop(&mut self) -> Result<BoxNumber, Refusal> {
+    fn pop(&mut self) -> Result<BoxEntry, Refusal> {
         self.segment.pop_box_entry(&mut self.staged, &self.table, &mut self.deleted)
     }
 
@@ -85,7 +85,7 @@ impl<E: Edition> Account for Index<E> {
     }
 
     /// Five numbers do not spill: all of them stand in the head.
-    fn entries(&self) -> &[i64] {
+    fn entries(&self) -> &[BoxEntry] {
         self.segment.boxes()
     }
 }
@@ -103,7 +103,7 @@ impl Account for FlatAccount {
         self.unspend_box(number)
     }
 
-    fn pop(&mut self) -> Result<BoxNumber, Refusal> {
+    fn pop(&mut self) -> Result<BoxEntry, Refusal> {
         self.pop_box()
     }
 
@@ -112,7 +112,7 @@ impl Account for FlatAccount {
         Ok(())
     }
 
-    fn entries(&self) -> &[i64] {
+    fn entries(&self) -> &[BoxEntry] {
         FlatAccount::entries(self)
     }
 }
@@ -125,8 +125,8 @@ fn answer(account: &mut dyn Account, ledger: &Ledger, call: HistoryCall) -> Resu
         (HistoryCall::Spend1 | HistoryCall::Spend2, Some(number)) => account.spend(number).map_err(said),
         (HistoryCall::Undo, _) => match ledger.standing.last() {
             Some(newest @ (HistoryCall::Append1 | HistoryCall::Append2)) => match account.pop().map_err(said)? {
-                number if Some(number) == newest.number() => Ok(()),
-                number => Err(format!("popped {}", number.0)),
+                entry if entry.state() == BoxState::Unspent && Some(entry.number()) == newest.number() => Ok(()),
+                entry => Err(format!("popped {entry:?}")),
             },
             Some(newest) => account.unspend(newest.number().expect("a spend")).map_err(said),
             None => Err("no call stands".into()),

@@ -1,11 +1,13 @@
 //! Many calls at once: refusal 25 is tested once, then every call is made.
 
-use crate::balance::{Balance, MAX_TOKENS};
+use crate::balance::Balance;
+use crate::entry::{BoxNumber, TxNumber};
 use crate::ffi;
 use crate::lists::{DeletedSpills, SegmentTable, StagedSpills};
 use crate::load::Load;
+use crate::parents::Parents;
 use crate::refusal::{accepted, Refusal};
-use crate::segment::{BoxNumber, Head, Segment, TxNumber, SEGMENT_THRESHOLD};
+use crate::segment::Segment;
 
 /// The most parents of a batch: a queued call names its parent by one byte.
 pub const MAX_PARENTS: usize = 256;
@@ -18,14 +20,6 @@ pub const END_OF_INPUT: u8 = 1;
 pub const END_CUT_CALL: u8 = 2;
 /// Why a batch made no further call: what stands there is none, as its kind or its parent is unknown.
 pub const END_NO_CALL: u8 = 31;
-
-// A parent's block in each of the four buffers.
-const IDS: usize = 32 + 32 * MAX_TOKENS;
-const NUMBERS: usize = 2 * SEGMENT_THRESHOLD + MAX_TOKENS + 1;
-const LENGTHS: usize = 3;
-const SPILLS: usize = 2;
-const AMOUNTS: usize = 2 * SEGMENT_THRESHOLD;
-const NANOS: usize = NUMBERS - 1;
 
 /// What a call of a batch answers: a popped number, nothing, or a refusal.
 pub type BatchAnswer = Result<Option<i64>, Refusal>;
@@ -48,16 +42,12 @@ pub type BatchAnswer = Result<Option<i64>, Refusal>;
 /// let answers = batch.run()?;
 /// assert_eq!(answers[..4], [Ok(None), Ok(None), Err(Refusal::TargetNotSeen), Ok(Some(-5))]);
 /// assert_eq!(answers[4..], [Ok(None); 3]);
-/// assert_eq!((batch.segment(1).txs(), batch.balance(1).amount_of(&[3; 32])), (&[9][..], Some(10)));
+/// assert_eq!((batch.segment(1).txs(), batch.balance(1).amount_of(&[3; 32])), (&[TxNumber(9)][..], Some(10)));
 /// # Ok::<(), Refusal>(())
 /// ```
-#[derive(Clone, Debug)]
+#[derive(Clone)]
 pub struct Batch {
-    parents: usize,
-    ids: Box<[u8]>,
-    numbers: Box<[i64]>,
-    lengths: Box<[usize]>,
-    spills: Box<[i32]>,
+    parents: Parents,
     staged: StagedSpills,
     table: SegmentTable,
     deleted: DeletedSpills,
@@ -71,36 +61,17 @@ impl Batch {
     /// # Panics
     /// If there are more than 256 parents.
     pub fn new(parents: impl IntoIterator<Item = (Segment, Balance)>, staged: StagedSpills, table: SegmentTable, deleted: DeletedSpills) -> Self {
-        let (mut ids, mut numbers, mut lengths, mut spills) = (Vec::new(), Vec::new(), Vec::new(), Vec::new());
+        let mut blocks = Parents::default();
         for (segment, balance) in parents {
-            ids.extend(segment.parent);
-            ids.extend(*balance.ids);
-            numbers.extend(*segment.boxes.numbers);
-            numbers.extend(*segment.txs.numbers);
-            numbers.extend(*balance.amounts);
-            numbers.push(balance.nanos);
-            lengths.extend([segment.boxes.len, segment.txs.len, balance.count]);
-            spills.extend([segment.boxes.spills, segment.txs.spills]);
+            blocks.push(&segment, &balance);
         }
-        let parents = lengths.len() / LENGTHS;
-        assert!(parents <= MAX_PARENTS, "a batch of {parents} parents, of at most {MAX_PARENTS}");
-        Batch {
-            parents,
-            ids: ids.into_boxed_slice(),
-            numbers: numbers.into_boxed_slice(),
-            lengths: lengths.into_boxed_slice(),
-            spills: spills.into_boxed_slice(),
-            staged,
-            table,
-            deleted,
-            input: Vec::new(),
-            calls: 0,
-        }
+        assert!(blocks.count <= MAX_PARENTS, "a batch of {} parents, of at most {MAX_PARENTS}", blocks.count);
+        Batch { parents: blocks, staged, table, deleted, input: Vec::new(), calls: 0 }
     }
 
     /// How many parents there are.
     pub fn parents(&self) -> usize {
-        self.parents
+        self.parents.count
     }
 
     /// How many calls wait.
@@ -109,7 +80,7 @@ impl Batch {
     }
 
     fn queue(&mut self, kind: u8, parent: usize) {
-        assert!(parent < self.parents, "parent {parent} of {}", self.parents);
+        assert!(parent < self.parents.count, "parent {parent} of {}", self.parents.count);
         self.input.extend([kind, parent as u8]);
         self.calls += 1;
     }
@@ -178,7 +149,7 @@ impl Batch {
 
     /// Queues the next calls of a load, all to parent 0. Panics if there is no parent, and is refused as [`Load::next_bytes`] is.
     pub fn load(&mut self, load: &mut Load, calls: usize) -> Result<&mut Self, Refusal> {
-        assert!(0 < self.parents, "a load without a parent");
+        assert!(0 < self.parents.count, "a load without a parent");
         self.input.extend(load.next_bytes(calls)?);
         self.calls += calls;
         Ok(self)
@@ -188,6 +159,7 @@ impl Batch {
     pub fn run(&mut self) -> Result<Vec<BatchAnswer>, Refusal> {
         let (s, t, d) = (&mut self.staged.list, &mut self.table.list, &mut self.deleted.list);
         let (s_capacity, t_capacity, d_capacity) = (s.capacity(), t.capacity(), d.capacity());
+        let p = &mut self.parents;
         let (mut answers, mut popped) = (vec![0; 2 * self.calls], vec![0; self.calls]);
         let (mut at, mut made, mut end) = (0, 0, 0);
         // SAFETY: each pointer comes from a live borrow, each length is that of its slice, and nothing that is written overlaps anything else.
@@ -195,15 +167,15 @@ impl Batch {
             ffi::ergo_index_run_calls(
                 self.input.as_ptr(),
                 self.input.len(),
-                self.parents,
-                self.ids.as_mut_ptr(),
-                self.ids.len(),
-                self.numbers.as_mut_ptr(),
-                self.numbers.len(),
-                self.lengths.as_mut_ptr(),
-                self.lengths.len(),
-                self.spills.as_mut_ptr(),
-                self.spills.len(),
+                p.count,
+                p.ids.as_mut_ptr(),
+                p.ids.len(),
+                p.numbers.as_mut_ptr(),
+                p.numbers.len(),
+                p.lengths.as_mut_ptr(),
+                p.lengths.len(),
+                p.spills.as_mut_ptr(),
+                p.spills.len(),
                 &mut s.count,
                 s_capacity,
                 s.bytes.as_mut_ptr(),
@@ -233,45 +205,29 @@ impl Batch {
         Ok(answers.chunks_exact(2).zip(popped).map(answer).collect())
     }
 
-    fn head(&self, parent: usize, kind: usize) -> Head {
-        let at = parent * NUMBERS + kind * SEGMENT_THRESHOLD;
-        let mut numbers = Box::new([0; SEGMENT_THRESHOLD]);
-        numbers.copy_from_slice(&self.numbers[at..at + SEGMENT_THRESHOLD]);
-        Head { len: self.lengths[parent * LENGTHS + kind], spills: self.spills[parent * SPILLS + kind], numbers }
-    }
-
     /// A parent's segment, as the calls that were made left it. Panics if there is no such parent.
     pub fn segment(&self, parent: usize) -> Segment {
-        let mut id = [0; 32];
-        id.copy_from_slice(&self.ids[parent * IDS..parent * IDS + 32]);
-        Segment { parent: id, boxes: self.head(parent, 0), txs: self.head(parent, 1), summary: None }
+        self.parents.segment(parent)
     }
 
     /// A parent's balance, as the calls that were made left it. Panics if there is no such parent.
     pub fn balance(&self, parent: usize) -> Balance {
-        let mut balance = Balance::new();
-        let numbers = &self.numbers[parent * NUMBERS..(parent + 1) * NUMBERS];
-        balance.ids.copy_from_slice(&self.ids[parent * IDS + 32..(parent + 1) * IDS]);
-        balance.amounts.copy_from_slice(&numbers[AMOUNTS..NANOS]);
-        balance.count = self.lengths[parent * LENGTHS + 2];
-        balance.nanos = numbers[NANOS];
-        balance
+        self.parents.balance(parent)
     }
 
     /// The parents with their segments and balances, and the lists, as the calls that were made left them. Calls that wait are dropped.
     ///
     /// ```
-    /// use ergo_index::{Balance, Batch, BoxNumber, DeletedSpills, Refusal, Segment, SegmentTable, StagedSpills};
+    /// use ergo_index::{Balance, Batch, BoxEntry, BoxNumber, DeletedSpills, Refusal, Segment, SegmentTable, StagedSpills};
     /// let lists = (StagedSpills::with_capacity(2), SegmentTable::with_capacity(2), DeletedSpills::with_capacity(2));
     /// let mut batch = Batch::new([(Segment::new([7; 32]), Balance::new())], lists.0, lists.1, lists.2);
     /// batch.append_box(0, BoxNumber(5)).run()?;
     /// let (parents, staged, table, deleted) = batch.into_parts();
-    /// assert_eq!((parents[0].0.boxes(), staged.len(), table.capacity(), deleted.len()), (&[5][..], 0, 2, 0));
+    /// assert_eq!((parents[0].0.boxes(), staged.len(), table.capacity(), deleted.len()), (&[BoxEntry(5)][..], 0, 2, 0));
     /// # Ok::<(), Refusal>(())
     /// ```
     pub fn into_parts(self) -> (Vec<(Segment, Balance)>, StagedSpills, SegmentTable, DeletedSpills) {
-        let parents = (0..self.parents).map(|parent| (self.segment(parent), self.balance(parent))).collect();
-        (parents, self.staged, self.table, self.deleted)
+        (self.parents.to_vec(), self.staged, self.table, self.deleted)
     }
 
     /// The staged spills.
@@ -287,5 +243,11 @@ impl Batch {
     /// The deleted spills.
     pub fn deleted(&self) -> &DeletedSpills {
         &self.deleted
+    }
+}
+
+impl std::fmt::Debug for Batch {
+    fn fmt(&self, f: &mut std::fmt::Formatter<'_>) -> std::fmt::Result {
+        write!(f, "Batch of {} parents, {} calls waiting", self.parents.count, self.calls)
     }
 }

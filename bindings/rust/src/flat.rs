@@ -1,8 +1,8 @@
 //! One parent's boxes as one flat list, without rows, keys or staged spills.
 
+use crate::entry::{BoxEntry, BoxNumber};
 use crate::ffi;
 use crate::refusal::{accepted, Refusal};
-use crate::segment::BoxNumber;
 
 /// The most boxes of a [`FlatAccount`].
 pub const FLAT_LIMIT: usize = 4096;
@@ -20,11 +20,11 @@ pub const FLAT_LIMIT: usize = 4096;
 ///     account.append_box(BoxNumber(n))?;
 /// }
 /// account.spend_box(BoxNumber(7))?;
-/// assert_eq!((account.len(), account.entries()[6]), (600, -7));
+/// assert_eq!((account.len(), account.entries()[6]), (600, BoxEntry(-7)));
 /// assert_eq!(account.spend_box(BoxNumber(7)), Err(Refusal::NoCopyOfThatSign));
 /// assert_eq!(account.spend_box(BoxNumber(700)), Err(Refusal::TargetNotSeen));
 /// account.unspend_box(BoxNumber(7))?;
-/// assert_eq!(account.pop_box()?, BoxNumber(600));
+/// assert_eq!(account.pop_box()?, BoxEntry(600));
 ///
 /// // a list of 4,096 is full
 /// for n in 600..4097 {
@@ -62,9 +62,9 @@ impl FlatAccount {
         self.count == 0
     }
 
-    /// The entries, oldest first; a spent box is negative.
-    pub fn entries(&self) -> &[i64] {
-        &self.list[..self.count]
+    /// The entries, oldest first.
+    pub fn entries(&self) -> &[BoxEntry] {
+        BoxEntry::of(&self.list[..self.count])
     }
 
     /// Puts a box number at the end. Refused by 17 or 37.
@@ -85,11 +85,11 @@ impl FlatAccount {
         accepted(unsafe { ffi::ergo_index_flat_unspend_box(&mut self.count, self.list.as_mut_ptr(), self.list.len(), target.0) })
     }
 
-    /// Takes the last number. Refused by 19 where none stands.
-    pub fn pop_box(&mut self) -> Result<BoxNumber, Refusal> {
+    /// Takes the last entry off, with its mark. Refused by 19 where none stands.
+    pub fn pop_box(&mut self) -> Result<BoxEntry, Refusal> {
         let mut number = 0;
         // SAFETY: the pointers come from live borrows of different places, and the length is that of the list.
         accepted(unsafe { ffi::ergo_index_flat_pop_box(&mut self.count, self.list.as_mut_ptr(), self.list.len(), &mut number) })?;
-        Ok(BoxNumber(number))
+        Ok(BoxEntry(number))
     }
 }

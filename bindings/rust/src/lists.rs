@@ -40,6 +40,14 @@ impl List {
         self.bytes.len() / self.size
     }
 
+    /// Room for at least this many records more.
+    pub(crate) fn grow(&mut self, records: usize) {
+        let capacity = (2 * self.capacity()).max(self.count + records);
+        let mut bytes = std::mem::take(&mut self.bytes).into_vec();
+        bytes.resize(capacity * self.size, 0);
+        self.bytes = bytes.into_boxed_slice();
+    }
+
     fn records(&self) -> impl Iterator<Item = &[u8]> {
         self.bytes.chunks_exact(self.size).take(self.count)
     }

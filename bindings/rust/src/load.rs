@@ -1,8 +1,8 @@
 //! A load that can be repeated: equal states give equal calls.
 
+use crate::entry::{BoxNumber, TxNumber};
 use crate::ffi;
 use crate::refusal::{accepted, Refusal};
-use crate::segment::{BoxNumber, TxNumber};
 
 // The bytes of a call that takes a number: its kind, its parent, the number.
 const NUMBERED: usize = 10;

@@ -4,10 +4,11 @@ use std::iter::FusedIterator;
 use std::vec::IntoIter;
 
 use crate::edition::{Edition, First};
+use crate::entry::BoxNumber;
 use crate::ffi;
 use crate::lists::{SegmentTable, StagedSpills};
 use crate::refusal::{accepted, Refusal};
-use crate::segment::{BoxNumber, Segment, SEGMENT_THRESHOLD};
+use crate::segment::{Segment, SEGMENT_THRESHOLD};
 
 /// The most numbers of a page.
 pub const PAGE_LENGTH: usize = 64;

@@ -230,7 +230,7 @@ mod tests {
             assert_eq!(Refusal::from_code(refusal.code()), Some(refusal));
         }
         assert_eq!(Refusal::from_code(0), None);
-        assert_eq!(Refusal::from_code(41), None);
+        assert_eq!(Refusal::from_code(42), None);
         assert_eq!(accepted(0), Ok(()));
         assert_eq!(accepted(25), Err(Refusal::Buffers));
     }

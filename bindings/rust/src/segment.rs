@@ -1,8 +1,11 @@
 //! A parent's segment: a head of boxes and a head of transactions, with the rows that each has spilled.
 
+use std::fmt;
+
 use crate::codec::decode_segment;
 use crate::convert::SpillId;
 use crate::edition::{Edition, RowKind};
+use crate::entry::{BoxEntry, BoxNumber, TxNumber};
 use crate::ffi;
 use crate::lists::{DeletedSpills, SegmentTable, StagedSpills};
 use crate::refusal::{accepted, Refusal};
@@ -10,14 +13,6 @@ use crate::summary::{Summary, SummaryLine};
 
 /// The numbers of a full head, and of a spilled row.
 pub const SEGMENT_THRESHOLD: usize = 512;
-
-/// The number of a box.
-#[derive(Clone, Copy, Debug, PartialEq, Eq, PartialOrd, Ord, Hash)]
-pub struct BoxNumber(pub i64);
-
-/// The number of a transaction.
-#[derive(Clone, Copy, Debug, PartialEq, Eq, PartialOrd, Ord, Hash)]
-pub struct TxNumber(pub i64);
 
 /// How many entries of a segment's boxes are unspent, spent and unknown; the three add up to all entries.
 #[derive(Clone, Copy, Debug, PartialEq, Eq)]
@@ -31,7 +26,7 @@ pub struct Tally {
 }
 
 /// A head: up to 512 numbers, and how many rows it has spilled.
-#[derive(Clone, Debug)]
+#[derive(Clone)]
 pub(crate) struct Head {
     pub(crate) len: usize,
     pub(crate) spills: i32,
@@ -62,7 +57,7 @@ impl Eq for Head {}
 /// [`StagedSpills`] and [`SegmentTable`], which parents may share and which hold rows of one [`Edition`]. Every call tests what it is given, and a refused call changes nothing.
 ///
 /// ```
-/// use ergo_index::{BoxNumber, DeletedSpills, Refusal, Segment, SegmentTable, StagedSpills};
+/// use ergo_index::{BoxEntry, BoxNumber, DeletedSpills, Refusal, Segment, SegmentTable, StagedSpills};
 ///
 /// let mut segment = Segment::new([7; 32]);
 /// let mut staged = StagedSpills::with_capacity(2);
@@ -75,12 +70,12 @@ impl Eq for Head {}
 /// assert_eq!(segment.flip_box_segment_entry(BoxNumber(5), &mut staged, &table), Err(Refusal::NoCopyOfThatSign));
 ///
 /// segment.unflip_box_segment_entry(BoxNumber(5), &mut staged, &table)?;
-/// assert_eq!(segment.pop_box_entry(&mut staged, &table, &mut deleted)?, BoxNumber(5));
+/// assert_eq!(segment.pop_box_entry(&mut staged, &table, &mut deleted)?, BoxEntry(5));
 /// # Ok::<(), Refusal>(())
 /// ```
 ///
 /// A segment may keep a summary of its spilled boxes ([`Segment::summarize`]); two segments are equal whatever summaries they keep.
-#[derive(Clone, Debug)]
+#[derive(Clone)]
 pub struct Segment {
     pub(crate) parent: [u8; 32],
     pub(crate) boxes: Head,
@@ -237,14 +232,14 @@ impl Segment {
         &self.parent
     }
 
-    /// The entries of the head of boxes; a negative one is spent.
-    pub fn boxes(&self) -> &[i64] {
-        self.boxes.entries()
+    /// The entries of the head of boxes.
+    pub fn boxes(&self) -> &[BoxEntry] {
+        BoxEntry::of(self.boxes.entries())
     }
 
     /// The numbers of the head of transactions.
-    pub fn txs(&self) -> &[i64] {
-        self.txs.entries()
+    pub fn txs(&self) -> &[TxNumber] {
+        TxNumber::of(self.txs.entries())
     }
 
     /// How many rows of boxes were spilled.
@@ -277,19 +272,19 @@ impl Segment {
         append(ffi::ergo_index_append_tx_entry_in_edition, &self.parent, &mut self.txs, number.0, staged)
     }
 
-    /// Takes the last box entry off; on an empty head the newest row becomes the head first. Refused by 25, 11; on an empty head 19, 12, 1 to 6 or 34, 8,
+    /// Takes the last box entry off, with its mark; on an empty head the newest row becomes the head first. Refused by 25, 11; on an empty head 19, 12, 1 to 6 or 34, 8,
     /// 35 in edition 2, 20, 21.
     pub fn pop_box_entry<E: Edition>(
         &mut self,
         staged: &mut StagedSpills<E>,
         table: &SegmentTable<E>,
         deleted: &mut DeletedSpills,
-    ) -> Result<BoxNumber, Refusal> {
+    ) -> Result<BoxEntry, Refusal> {
         match &mut self.summary {
             None => pop(ffi::ergo_index_pop_box_entry_in_edition, &self.parent, &mut self.boxes, staged, table, deleted),
             Some(summary) => summary.pop(&self.parent, &mut self.boxes, staged, table, deleted),
         }
-        .map(BoxNumber)
+        .map(BoxEntry)
     }
 
     /// Takes the last transaction number off, as [`Segment::pop_box_entry`] does a box entry.
@@ -408,6 +403,14 @@ impl Segment {
             )
         })?;
         Ok(tally)
+    }
+}
+
+impl fmt::Debug for Segment {
+    fn fmt(&self, f: &mut fmt::Formatter<'_>) -> fmt::Result {
+        let of = |head: &Head| format!("{} and {} rows", head.len, head.spills);
+        let id: String = self.parent[..4].iter().map(|byte| format!("{byte:02x}")).collect();
+        write!(f, "Segment {id}..: boxes {}, txs {}", of(&self.boxes), of(&self.txs))
     }
 }
 

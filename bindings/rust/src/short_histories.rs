@@ -1,8 +1,8 @@
 //! Every short history: what is run before a release.
 
+use crate::entry::BoxNumber;
 use crate::ffi;
 use crate::refusal::{accepted, Refusal};
-use crate::segment::BoxNumber;
 
 /// The bytes of all short histories.
 pub const HISTORIES_LENGTH: usize = 2668;

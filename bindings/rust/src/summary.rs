@@ -32,6 +32,11 @@ pub(crate) struct Summary {
 }
 
 impl Summary {
+    /// As a call borrows it: how many lines, and their numbers.
+    pub(crate) fn borrowed(&self) -> (usize, *const u64, usize) {
+        (self.lines.len(), self.numbers(), self.numbers_len())
+    }
+
     fn numbers(&self) -> *const u64 {
         self.lines.as_ptr().cast()
     }

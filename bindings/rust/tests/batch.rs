@@ -173,7 +173,7 @@ fn parents_are_numbered_by_a_byte() -> Result<(), Refusal> {
     let mut batch = Batch::new(parents, single.staged.clone(), single.table.clone(), single.deleted.clone());
     batch.append_box(255, BoxNumber(4));
     assert_eq!(batch.run()?, [Ok(None)]);
-    assert_eq!((batch.segment(255).boxes(), batch.segment(0).boxes().len()), (&[4][..], 0));
+    assert_eq!((batch.segment(255).boxes(), batch.segment(0).boxes().len()), (&[BoxEntry(4)][..], 0));
     assert_eq!(batch.run()?, []);
     Ok(())
 }

@@ -33,7 +33,7 @@ impl Both {
         flush_staged_spills(&mut self.staged, &mut self.table, &mut self.deleted).expect("the table has room");
     }
 
-    fn entries(&self) -> Vec<i64> {
+    fn entries(&self) -> Vec<BoxEntry> {
         let mut all = Vec::new();
         for spill in 0..self.segment.box_spills() {
             let key = box_segment_id(self.segment.parent(), spill);
@@ -46,10 +46,10 @@ impl Both {
 
     fn compare(&self) {
         let (ours, theirs) = (self.flat.entries(), self.entries());
-        assert!(ours.iter().map(|n| n.unsigned_abs()).eq(theirs.iter().map(|n| n.unsigned_abs())));
-        let spent = |all: &[i64]| {
-            all.iter().filter(|n| **n < 0).fold(HashMap::new(), |mut held: HashMap<i64, usize>, n| {
-                *held.entry(*n).or_default() += 1;
+        assert!(ours.iter().map(|entry| entry.number()).eq(theirs.iter().map(|entry| entry.number())));
+        let spent = |all: &[BoxEntry]| {
+            all.iter().filter(|entry| entry.state() == BoxState::Spent).fold(HashMap::new(), |mut held: HashMap<BoxNumber, usize>, entry| {
+                *held.entry(entry.number()).or_default() += 1;
                 held
             })
         };
@@ -93,7 +93,7 @@ fn history(state: u64) {
             match standing.pop() {
                 Some(Standing::Append(n)) => {
                     let popped = both.segment.pop_box_entry(&mut both.staged, &both.table, &mut both.deleted);
-                    assert_eq!((popped, both.flat.pop_box()), (Ok(BoxNumber(n)), Ok(BoxNumber(n))));
+                    assert_eq!((popped, both.flat.pop_box()), (Ok(BoxEntry(n)), Ok(BoxEntry(n))));
                     next = n;
                 }
                 Some(Standing::Spend(n)) => {

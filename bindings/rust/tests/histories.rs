@@ -128,7 +128,7 @@ fn transactions_and_boxes_are_counted_apart() -> Result<(), Refusal> {
     let mut index = Index::new(1);
     index.append(5)?;
     index.segment.append_tx_entry(TxNumber(9), &mut index.staged)?;
-    assert_eq!((index.segment.boxes(), index.segment.txs()), (&[5][..], &[9][..]));
+    assert_eq!((index.segment.boxes(), index.segment.txs()), (&[BoxEntry(5)][..], &[TxNumber(9)][..]));
     assert_eq!(index.segment.pop_tx_entry(&mut index.staged, &index.table, &mut index.deleted)?, TxNumber(9));
     assert_eq!(index.segment.pop_tx_entry(&mut index.staged, &index.table, &mut index.deleted), Err(Refusal::NothingToPop));
     Ok(())

@@ -31,11 +31,11 @@ impl<E: Edition> Account<E> {
             let row =
                 if E::SECOND { row_to_first(row, self.segment.parent(), spill.kind, spill.number).expect("a row of its own") } else { row.to_vec() };
             let read = Segment::from_row(*self.segment.parent(), &row).expect("a row reads back");
-            boxes.extend_from_slice(read.boxes());
-            txs.extend_from_slice(read.txs());
+            boxes.extend(read.boxes().iter().map(|entry| entry.0));
+            txs.extend(read.txs().iter().map(|number| number.0));
         }
-        boxes.extend_from_slice(self.segment.boxes());
-        txs.extend_from_slice(self.segment.txs());
+        boxes.extend(self.segment.boxes().iter().map(|entry| entry.0));
+        txs.extend(self.segment.txs().iter().map(|number| number.0));
         (*self.segment.parent(), balance, boxes, txs)
     }
 }
@@ -128,10 +128,10 @@ fn however_divided() -> Result<(), Refusal> {
     let (whole, back) = (make(511, 0)?, make(600, 89)?);
     assert_eq!((whole.segment.box_spills(), back.segment.box_spills()), (0, 0));
     assert_eq!(whole.address().rank(&back.address()), Ok(Ordering::Equal));
-    let (staged, table) = (make(512, 0)?, make(600, 88)?);
-    assert_eq!((staged.segment.box_spills(), table.segment.box_spills()), (1, 1));
-    assert_eq!(staged.address().rank(&table.address()), Ok(Ordering::Equal));
-    assert_eq!(whole.address().rank(&staged.address()), Ok(Ordering::Less));
+    let (head, row) = (make(512, 0)?, make(600, 88)?);
+    assert_eq!((head.segment.box_spills(), row.segment.box_spills()), (0, 1));
+    assert_eq!(head.address().rank(&row.address()), Ok(Ordering::Equal));
+    assert_eq!(whole.address().rank(&head.address()), Ok(Ordering::Less));
     Ok(())
 }
 

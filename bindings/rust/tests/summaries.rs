@@ -34,7 +34,7 @@ impl<E: Edition> Index<E> {
         self.segment.append_box_entry(BoxNumber(n), &mut self.staged)
     }
 
-    fn pop(&mut self) -> Result<BoxNumber, Refusal> {
+    fn pop(&mut self) -> Result<BoxEntry, Refusal> {
         self.segment.pop_box_entry(&mut self.staged, &self.table, &mut self.deleted)
     }
 
@@ -122,4 +122,31 @@ fn a_summary_is_made_and_dropped() -> Result<(), Refusal> {
     index.segment.drop_summary();
     assert_eq!(index.segment.tally(&staged, &table), Err(Refusal::RowMissing));
     Ok(())
+}
+
+/// With a summary a spend over a working set fetches one row, without one as many as the halving reads.
+#[test]
+fn a_summary_saves_fetches() {
+    let mut segment = Segment::new([3; 32]);
+    let (mut staged, mut table, mut deleted) = (StagedSpills::with_capacity(64), SegmentTable::with_capacity(64), DeletedSpills::with_capacity(1));
+    for n in 1..=512 * 40 + 1 {
+        segment.append_box_entry(BoxNumber(n), &mut staged).unwrap();
+    }
+    flush_staged_spills(&mut staged, &mut table, &mut deleted).unwrap();
+    let mut summarized = segment.clone();
+    summarized.summarize(&staged, &table).unwrap();
+    let fetches = |segment: &Segment| {
+        let mut work = SegmentTable::with_capacity(64);
+        let mut fetched = 0;
+        while let Some(missing) = segment.missing_for_spend(BoxNumber(5_000), &staged, &work) {
+            let row = inspect_spill(&staged, &table, &missing.key).unwrap().row().to_vec();
+            work.put_row(&missing.key, &row).unwrap();
+            fetched += 1;
+        }
+        let (mut spent, mut staged) = (segment.clone(), staged.clone());
+        spent.flip_box_segment_entry(BoxNumber(5_000), &mut staged, &work).unwrap();
+        fetched
+    };
+    assert_eq!(fetches(&summarized), 1);
+    assert!((4..=8).contains(&fetches(&segment)));
 }

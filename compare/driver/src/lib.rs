@@ -1,5 +1,6 @@
 //! What the comparison and the benchmarks share: both sides, inputs, and the report.
 
+pub mod blocks;
 pub mod call;
 pub mod checks;
 pub mod codes;
@@ -12,6 +13,7 @@ pub mod random;
 pub mod report;
 pub mod sample;
 pub mod sides;
+pub mod store_peer;
 pub mod summaries;
 pub mod tables;
 

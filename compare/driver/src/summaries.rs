@@ -85,7 +85,9 @@ pub fn lines() -> [Curve<'static>; 4] {
                 lists.staged.count = 0;
             },
         );
-        let name = format!("spend or unspend at {spills} spills, with a summary and a table of the rows reached, beside a batch without");
+        let name = format!(
+            "spend or unspend at {spills} spills, with a summary and a table of the rows reached, beside a batch without"
+        );
         line(&name, &with, Some(&without));
         curves[2].2.push((spills as f64, without.median()));
         curves[3].2.push((spills as f64, with.median()));

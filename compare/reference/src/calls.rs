@@ -34,6 +34,16 @@ impl Default for Spills {
 }
 
 impl Spills {
+    /// Over rows that are kept elsewhere.
+    pub fn over(below: Box<dyn redb::Kept>) -> Self {
+        Self {
+            table: Table::over(below),
+            staged: HashMap::new(),
+            deleted: HashSet::new(),
+            writer: VlqWriter::new(),
+        }
+    }
+
     /// Every row of the table by its key, in the order of the keys.
     pub fn rows(&self) -> Vec<(Vec<u8>, Vec<u8>)> {
         let rows = self.table.iter().expect("a table in memory");

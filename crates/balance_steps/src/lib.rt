@@ -2,11 +2,9 @@
 ghost use mathlib.Core.Path.{_≡_};
 ghost use Prim.Native.Nat.{_+_, _*_, _≤_};
 ghost use lib.ListN.{length};
-ghost use Rattle.balance.specs.Boxes.{change-box};
 ghost use Rattle.call_steps.specs.State.{balance-of, ids-with, numbers-with, lengths-with, parent-numbers, parent-ids};
 ghost use Rattle.call_steps.specs.Steps.{said-by, change-step, change-of};
 use balance::Balance;
-use balance::Outcome;
 use call_steps::AMOUNTS_AT;
 use call_steps::NANOS_AT;
 use call_steps::PARENT_IDS;
@@ -63,17 +61,6 @@ pub fn write_balance(
     lengths[last] = count;
 }
 
-// Adds or subtracts a box of one token.
-fn change(adding: bool, balance: Balance, nanos: i64, id: &[u8], amount: &[i64]) -> Outcome
-    ensures { λ r. ⌜ r ≡ change-box adding balance nanos (now (id .entry)) (now (amount .entry)) 1 ⌝ }
-{
-    if adding {
-        balance::add_box(balance, nanos, id, amount, 1)
-    } else {
-        balance::subtract_box(balance, nanos, id, amount, 1)
-    }
-}
-
 // What a change of a balance says.
 pub fn said_by(answer: Answer) -> Said
     ensures { λ r. ⌜ r ≡ said-by answer ⌝ }
@@ -99,12 +86,7 @@ pub fn change_step(
     ensures { λ r. ⌜ change-step r (now (ids .exit)) (now (numbers .exit)) (now (lengths .exit))
         ≡ change-of adding p nanos token amount (now (ids .entry)) (now (numbers .entry)) (now (lengths .entry)) ⌝ }
 {
-    let held = read_balance(p, ids, numbers, lengths);
     let id = [token; 32];
     let amounts = [amount; 1];
-    let o = change(adding, held, nanos, &id, &amounts);
-    let after = o.balance;
-    let answer = o.answer;
-    write_balance(p, after, ids, numbers, lengths);
-    said_by(answer)
+    balance_places::change_box(adding, p, nanos, &id, &amounts, 1, ids, numbers, lengths)
 }

@@ -21,6 +21,13 @@ use call_input::Place;
 use index_types::SpillCounts;
 use libc::STDERR_FILENO;
 use runner::Progress;
+use runner_start::ALL_IDS;
+use runner_start::ALL_LENGTHS;
+use runner_start::ALL_NUMBERS;
+use runner_start::ALL_SPILLS;
+use runner_start::DELETED_BYTES;
+use runner_start::STAGED_BYTES;
+use runner_start::TABLE_BYTES;
 
 // The counts of the lists, and where the session stands in its input.
 struct Session {
@@ -154,9 +161,9 @@ fn say_write_failed() {
 
 // Prints the lines of the end where the session has come to it, and else says why there are none.
 fn finish(
-    numbers: &[i64; 2306],
-    lengths: &[usize; 6],
-    spills: &[i32; 4],
+    numbers: &[i64; ALL_NUMBERS],
+    lengths: &[usize; ALL_LENGTHS],
+    spills: &[i32; ALL_SPILLS],
     out: &mut [u8; 65536],
     p: Place,
 )
@@ -203,13 +210,13 @@ fn read(input: &mut [u8], s: Session, code: u8) -> Session
 // Makes calls or reads, as the session asks.
 fn turn(
     input: &mut [u8; 65536],
-    ids: &mut [u8; 8256],
-    numbers: &mut [i64; 2306],
-    lengths: &mut [usize; 6],
-    spills: &mut [i32; 4],
-    staged: &mut [u8; 10288],
-    table: &mut [u8; 20576],
-    deleted: &mut [u8; 64],
+    ids: &mut [u8; ALL_IDS],
+    numbers: &mut [i64; ALL_NUMBERS],
+    lengths: &mut [usize; ALL_LENGTHS],
+    spills: &mut [i32; ALL_SPILLS],
+    staged: &mut [u8; STAGED_BYTES],
+    table: &mut [u8; TABLE_BYTES],
+    deleted: &mut [u8; DELETED_BYTES],
     answers: &mut [u8; 2048],
     popped: &mut [i64; 1024],
     out: &mut [u8; 65536],
@@ -249,12 +256,12 @@ pub fn make_calls_of_input() {
     let mut input = io::large_buffer();
     let mut out = io::large_buffer();
     let mut ids = runner_start::parent_ids();
-    let mut numbers = [0i64; 2306];
-    let mut lengths = [0usize; 6];
-    let mut spills = [0i32; 4];
-    let mut staged = [0u8; 10288];
-    let mut table = [0u8; 20576];
-    let mut deleted = [0u8; 64];
+    let mut numbers = [0i64; ALL_NUMBERS];
+    let mut lengths = [0usize; ALL_LENGTHS];
+    let mut spills = [0i32; ALL_SPILLS];
+    let mut staged = [0u8; STAGED_BYTES];
+    let mut table = [0u8; TABLE_BYTES];
+    let mut deleted = [0u8; DELETED_BYTES];
     let mut answers = [0u8; 2048];
     let mut popped = [0i64; 1024];
     let mut s = start();

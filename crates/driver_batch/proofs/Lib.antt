@@ -1,2 +1,2 @@
 -- Laws and proofs of `driver_batch`.
-pub mod TurnLaws
+pub mod BatchLaws

@@ -8,12 +8,13 @@ use lib.Dec.{eqb, leb, ltb}
 use lib.IntN.{ℤ}
 use lib.ListN.{length}
 use borrow.Author.Tests.{leb-false, ltb-false, eqb-true}
+use Rattle.segment_id.specs.declared.Kind.the-variants.{Box, Tx}
 use Rattle.ledger.specs.Calls.{credit, debit}
 use Rattle.ledger.specs.Run.{call}
-use Rattle.driver_core.specs.Bytes.{Item, is, bad, cut, end, tokens-at, is-change, kind-at, parent-at, value-in, tokens-told, size-at, plain, with-tokens, headed, item-at, Journal, newest}
+use Rattle.driver_core.specs.Bytes.{Item, is, bad, cut, end, tokens-at, is-change, kind-at, parent-at, value-in, tokens-told, size-at, taking, plain, with-tokens, headed, item-at, Journal, newest}
 use Rattle.driver_calls.specs.declared.Read.{Read}
-use Rattle.driver_calls.specs.declared.Read.the-variants.{Append, Spend, Flush, Change, Bad, Cut, End}
-use Rattle.driver_calls.specs.Reads.{item-of, plain-read, headed-read, read-at, newest-read, end-of, is-call, Sound}
+use Rattle.driver_calls.specs.declared.Read.the-variants.{Append, Spend, Unspend, Pop, Flush, Change, Bad, Cut, End}
+use Rattle.driver_calls.specs.Reads.{item-of, taking-read, plain-read, headed-read, read-at, newest-read, end-of, is-call, Sound}
 
 -- what holds where a test is true and where it is false
 either : {A : Type 0} (P : A → Type 0) (b : Bool) {x y : A} → (b ≡ true → P x) → (b ≡ false → P y) → P (cond b x y)
@@ -23,6 +24,10 @@ either P false f g = g refl
 -- a credit or a debit of read numbers
 pub change-same : {adding : Bool} {p t k : ℕ} {n : ℤ} (p′ k′ : ℕ) (n′ : ℤ) → p′ ≡ p → n′ ≡ n → k′ ≡ k → Change adding p′ n′ t k′ ≡ Change adding p n t k
 change-same {adding} {p} {t} p′ k′ n′ e f g = λ i. Change adding (e i) (f i) t (g i)
+
+-- no kind of 1 to 3
+pub plain-taken : (kind p : ℕ) (n : ℤ) → eqb kind 1 ≡ false → eqb kind 2 ≡ false → eqb kind 3 ≡ false → taking-read kind p n ≡ plain-read kind p n
+plain-taken kind p n e f g = sym (λ i. cond (e i) (Append Box p n) (cond (f i) (Append Tx p n) (cond (g i) (Spend p n) (taking-read kind p n))))
 
 -- ---- the item
 module _ (s : List ℕ) where
@@ -35,9 +40,13 @@ module _ (s : List ℕ) where
   change-means true p n t k = refl
   change-means false p n t k = refl
 
+  taking-means : (kind p : ℕ) (n : ℤ) → item-of s (taking-read kind p n) ≡ taking kind p n
+  taking-means kind p n =
+      both (eqb kind 4) _ _ _ _ refl (both (eqb kind 5) _ _ _ _ refl (both (eqb kind 6) _ _ _ _ refl refl))
+
   plain-means : (kind p : ℕ) (n : ℤ) → item-of s (plain-read kind p n) ≡ plain kind p n
   plain-means kind p n =
-      both (eqb kind 1) _ _ _ _ refl (both (eqb kind 2) _ _ _ _ refl (both (eqb kind 3) _ _ _ _ refl refl))
+      both (eqb kind 1) _ _ _ _ refl (both (eqb kind 2) _ _ _ _ refl (both (eqb kind 3) _ _ _ _ refl (taking-means kind p n)))
 
   module _ (parents h room t : ℕ) where
     -- where there is less room than told, the definition says `short`
@@ -52,9 +61,14 @@ module _ (s : List ℕ) where
         (both (eqb (tokens-told s h) 0) _ _ _ _ (plain-means (kind-at s h) (parent-at s h) (value-in s h)) refl)))
 
     -- ---- its parent and its tokens
+    taking-sound : (kind p : ℕ) (n : ℤ) → p < parents → Sound parents s (taking-read kind p n)
+    taking-sound kind p n l =
+        either (Sound parents s) (eqb kind 4) (λ _. l) (λ _. either (Sound parents s) (eqb kind 5) (λ _. l) (λ _. either (Sound parents s) (eqb kind 6) (λ _. l) (λ _. tt)))
+
     plain-sound : (kind p : ℕ) (n : ℤ) → p < parents → Sound parents s (plain-read kind p n)
     plain-sound kind p n l =
-        either (Sound parents s) (eqb kind 1) (λ _. l) (λ _. either (Sound parents s) (eqb kind 2) (λ _. l) (λ _. either (Sound parents s) (eqb kind 3) (λ _. l) (λ _. tt)))
+        either (Sound parents s) (eqb kind 1) (λ _. l)
+        (λ _. either (Sound parents s) (eqb kind 2) (λ _. l) (λ _. either (Sound parents s) (eqb kind 3) (λ _. l) (λ _. taking-sound kind p n l)))
 
     headed-sound : (tokens-told s h ≤ room → t + tokens-told s h * 40 ≤ length s) → Sound parents s (headed-read parents s h room t)
     unfolding headed-read
@@ -71,20 +85,20 @@ module _ (s : List ℕ) where
         either (Sound parents s) (eqb (tokens-told s h) 0) (λ _. plain-sound (kind-at s h) (parent-at s h) (value-in s h) (leb-false parents (parent-at s h) e)) (λ _. tt))))
 
     -- ---- all its bytes
-    abbrev Fits : Read → Type 0
-    Fits x = end-of x ≡ 0 → h + size-at s h ≤ length s
+    abbrev Fits : (journaled : Bool) → Read → Type 0
+    Fits journaled x = end-of journaled x ≡ 0 → h + size-at s h ≤ length s
 
-    headed-fits : h + 17 + room * 40 ≤ length s → Fits (headed-read parents s h room t)
+    headed-fits : (journaled : Bool) → h + 17 + room * 40 ≤ length s → Fits journaled (headed-read parents s h room t)
     unfolding headed-read
-    headed-fits m =
-        either Fits (eqb (kind-at s h) 7) (λ _. either Fits (eqb (tokens-told s h) 0) (λ e _. omega (arith, m, eqb-true (tokens-told s h) 0 e)) (λ _ q. absurd (omega (arith, q))))
+    headed-fits journaled m =
+        either (Fits journaled) (eqb (kind-at s h) 7) (λ _. either (Fits journaled) (eqb (tokens-told s h) 0) (λ e _. omega (arith, m, eqb-true (tokens-told s h) 0 e)) (λ _ q. absurd (omega (arith, q))))
         (λ _.
-        either Fits (leb parents (parent-at s h)) (λ _ q. absurd (omega (arith, q)))
+        either (Fits journaled) (leb parents (parent-at s h)) (λ _ q. absurd (omega (arith, q)))
         (λ _.
-        either Fits (is-change (kind-at s h))
-        (λ _. either Fits (ltb room (tokens-told s h)) (λ _ q. absurd (omega (arith, q))) (λ f _. omega (arith, m, ltb-false room (tokens-told s h) f)))
+        either (Fits journaled) (is-change (kind-at s h))
+        (λ _. either (Fits journaled) (ltb room (tokens-told s h)) (λ _ q. absurd (omega (arith, q))) (λ f _. omega (arith, m, ltb-false room (tokens-told s h) f)))
         (λ _.
-        either Fits (eqb (tokens-told s h) 0) (λ e _. omega (arith, m, eqb-true (tokens-told s h) 0 e)) (λ _ q. absurd (omega (arith, q))))))
+        either (Fits journaled) (eqb (tokens-told s h) 0) (λ e _. omega (arith, m, eqb-true (tokens-told s h) 0 e)) (λ _ q. absurd (omega (arith, q))))))
 
 -- ---- at a place of an input
 module _ (parents : ℕ) (s : List ℕ) (at : ℕ) where
@@ -103,14 +117,14 @@ module _ (parents : ℕ) (s : List ℕ) (at : ℕ) where
       (λ f.
       headed-sound s parents at ((length s - at - 17) / 40) (at + 17) (λ g. omega (arith, g, leb-false (length s) at e, ltb-false (length s - at) 17 f))))
 
-  -- a call or a flush stands there with all its bytes
-  pub read-fits : end-of (read-at parents s at) ≡ 0 → at + size-at s at ≤ length s
+  -- what is made stands there with all its bytes
+  pub read-fits : (journaled : Bool) → end-of journaled (read-at parents s at) ≡ 0 → at + size-at s at ≤ length s
   unfolding read-at
-  read-fits =
-      either (Fits s parents at ((length s - at - 17) / 40) (at + 17)) (leb (length s) at) (λ _ q. absurd (omega (arith, q)))
+  read-fits journaled =
+      either (Fits s parents at ((length s - at - 17) / 40) (at + 17) journaled) (leb (length s) at) (λ _ q. absurd (omega (arith, q)))
       (λ e.
-      either (Fits s parents at ((length s - at - 17) / 40) (at + 17)) (ltb (length s - at) 17) (λ _ q. absurd (omega (arith, q)))
-      (λ f. headed-fits s parents at ((length s - at - 17) / 40) (at + 17) (omega (arith, leb-false (length s) at e, ltb-false (length s - at) 17 f))))
+      either (Fits s parents at ((length s - at - 17) / 40) (at + 17) journaled) (ltb (length s - at) 17) (λ _ q. absurd (omega (arith, q)))
+      (λ f. headed-fits s parents at ((length s - at - 17) / 40) (at + 17) journaled (omega (arith, leb-false (length s) at e, ltb-false (length s - at) 17 f))))
 
 -- ---- the newest entry of a journal
 module _ (parents : ℕ) (j : Journal) where

@@ -3,7 +3,9 @@ ghost use mathlib.Core.Path.{_≡_};
 ghost use Prim.Native.Nat.{_+_, _≤_, _<_};
 ghost use lib.ListN.{length};
 ghost use Rattle.driver_core.specs.Bytes.{is-change, small-at, size-at};
-ghost use Rattle.driver_calls.specs.Reads.{plain-read, headed-read, read-at, newest-read, end-of, is-call};
+ghost use Rattle.driver_calls.specs.Reads.{taking-read, plain-read, headed-read, read-at, newest-read, end-of, is-call, is-entry};
+use index_types::CUT_CALL;
+use index_types::END_OF_INPUT;
 use segment_id::Kind;
 
 // The bytes of a header, and of a token: its id of 32 bytes and its amount of 8.
@@ -11,11 +13,13 @@ pub const HEADER_BYTES: usize = 17;
 
 pub const TOKEN_BYTES: usize = 40;
 
-// What stands at a place: a call with its parent and its number, a flush, what is no call, the front of a call, or nothing. `Change` is a credit where it adds;
-// behind its nanoErgs: where its tokens begin, and how many they are.
+// What stands at a place: a call with its parent and its number, an unspend or a pop, a flush, what is no call, the front of a call, or nothing. `Change` is a
+// credit where it adds; behind its nanoErgs: where its tokens begin, and how many they are.
 pub enum Read {
     Append(Kind, usize, i64),
     Spend(usize, i64),
+    Unspend(usize, i64),
+    Pop(Kind, usize),
     Flush,
     Change(bool, usize, i64, usize, usize),
     Bad,
@@ -53,7 +57,23 @@ fn is_change(kind: u8) -> bool
     kind == 9
 }
 
-// The calls of kinds 1 to 3, which have no tokens.
+// Kinds 4 to 6: an unspend and the pops.
+fn taking_read(kind: u8, parent: usize, n: i64) -> Read
+    ensures { λ r. ⌜ r ≡ taking-read kind parent n ⌝ }
+{
+    if kind == 4 {
+        return Read::Unspend(parent, n);
+    }
+    if kind == 5 {
+        return Read::Pop(Kind::Box, parent);
+    }
+    if kind == 6 {
+        return Read::Pop(Kind::Tx, parent);
+    }
+    Read::Bad
+}
+
+// The calls of kinds 1 to 6, which have no tokens.
 fn plain_read(kind: u8, parent: usize, n: i64) -> Read
     ensures { λ r. ⌜ r ≡ plain-read kind parent n ⌝ }
 {
@@ -66,7 +86,7 @@ fn plain_read(kind: u8, parent: usize, n: i64) -> Read
     if kind == 3 {
         return Read::Spend(parent, n);
     }
-    Read::Bad
+    taking_read(kind, parent, n)
 }
 
 // The item whose header stands at h; `room` tokens have room beside it, they begin at t.
@@ -145,32 +165,46 @@ pub fn newest_read(s: &[u8], used: usize, parents: usize) -> Read
     headed_read(s, h, room, used - size, parents)
 }
 
-// How reading ends: 0 at a call or a flush, 1 at the end of the bytes, 2 inside a call, refusal 31 at what is no call.
-pub fn end_of(read: Read) -> u8
-    ensures { λ r. ⌜ r ≡ end-of read ⌝ }
+// How reading ends: 0 at what is made, 1 at the end of the bytes, 2 inside a call, refusal 31 at what is no call; an unspend or a pop is none beside a journal.
+pub fn end_of(journaled: bool, read: Read) -> u8
+    ensures { λ r. ⌜ r ≡ end-of journaled read ⌝ }
 {
     match read {
         Read::Append(_, _, _) => 0,
         Read::Spend(_, _) => 0,
+        Read::Unspend(_, _) => { if journaled { refusal::UNKNOWN_CALL } else { 0 } }
+        Read::Pop(_, _) => { if journaled { refusal::UNKNOWN_CALL } else { 0 } }
         Read::Flush => 0,
         Read::Change(_, _, _, _, _) => 0,
-        Read::Bad => 31,
-        Read::Cut => 2,
-        Read::End => 1,
+        Read::Bad => refusal::UNKNOWN_CALL,
+        Read::Cut => CUT_CALL,
+        Read::End => END_OF_INPUT,
     }
 }
 
-// Whether a call stands there, which is journaled where it is accepted.
+// Whether a call stands there, which an undo takes back.
 pub fn is_call(read: Read) -> bool
     ensures { λ r. ⌜ r ≡ is-call read ⌝ }
 {
     match read {
         Read::Append(_, _, _) => true,
         Read::Spend(_, _) => true,
+        Read::Unspend(_, _) => false,
+        Read::Pop(_, _) => false,
         Read::Flush => false,
         Read::Change(_, _, _, _, _) => true,
         Read::Bad => false,
         Read::Cut => false,
         Read::End => false,
     }
+}
+
+// Whether it becomes an entry where it is accepted.
+pub fn is_entry(journaled: bool, read: Read) -> bool
+    ensures { λ r. ⌜ r ≡ is-entry journaled read ⌝ }
+{
+    if journaled {
+        return is_call(read);
+    }
+    false
 }

@@ -6,8 +6,8 @@ use mathlib.Core.Bool.{Bool, true, false, _&&_}
 use mathlib.Core.List.{List, [], _∷_, _++_, append-assoc}
 use lib.Dec.{leb}
 use lib.IntN.{ℤ, pos}
-use lib.ListN.{length, take, drop, getD, length-append}
-use lib.Seq.{drop-at, take-at, getD-at}
+use lib.ListN.{length, take, drop, getD, set, length-append, length-drop}
+use lib.Seq.{drop-at, take-at, getD-at, drop-drop}
 use borrow.Author.Tests.{le-leb}
 use borrow.Rule.Slice.PartMut.{midOf}
 use Rattle.stores.proofs.StoreLaws.{length-part}
@@ -26,7 +26,7 @@ use Rattle.call_steps.specs.Steps.{said-by, change-step, changed-by}
 use Rattle.ledger.specs.Calls.{Tokens}
 use Rattle.driver_core.specs.Steps.{token-ids, token-amounts}
 use Rattle.driver_core.specs.Bytes.{tokens-at}
-use Rattle.driver_changes.specs.Internal.{change-each, change-tokens-of}
+use Rattle.driver_changes.specs.Internal.{amounts-at, change-each, change-tokens-of}
 
 -- ---- one token
 module _ (adding : Bool) (ids : List ℕ) (v : ℤ) where
@@ -169,3 +169,84 @@ pub change-tokens-law : (adding : Bool) (p : ℕ) (nanos nanos′ : ℤ) (ts : T
 change-tokens-law adding p nanos nanos′ ts ids numbers lengths b o ids′ numbers′ lengths′ s e f q w l =
     (λ i. change-step (l i) (w .0 i) (w .1 i) (w .2 i))
     ∙ ap (λ (x : Outcome). changed-by x p ids numbers lengths) (q ∙ (λ i. change-box adding (e i) (f i) (token-ids ts) (token-amounts ts) (length ts)))
+
+-- ---- the same tokens as parts of the bytes
+
+pub amounts-all : (s : List ℕ) (a n : ℕ) → amounts-at s a n ≡ amounts-at s (a + 0 * 8) (n - 0)
+amounts-all s a n =
+    let p : a ≡ a + 0 * 8 = omega arith in
+    let q : n ≡ n - 0 = omega arith in
+    (λ x. amounts-at s (p x) (q x))
+
+-- a turn of the loop that reads the amounts
+pub amounts-next : (s : List ℕ) (a k n : ℕ) (l : List ℤ) (v : ℤ) → k < n → n ≤ length l → v ≡ number-at s (a + k * 8)
+    → amounts-at s a n ≡ take k l ++ amounts-at s (a + k * 8) (n - k) → amounts-at s a n ≡ take (k + 1) (set l k v) ++ amounts-at s (a + (k + 1) * 8) (n - (k + 1))
+unfolding amounts-at
+amounts-next s a k n l v h m z e =
+    let q : a + k * 8 + 8 ≡ a + (k + 1) * 8 = omega arith in
+    e ∙ ap (λ (x : List ℤ). take k l ++ x) (by-left (n - k) (n - (k + 1)) (omega arith))
+    ∙ sym (append-assoc (take k l) (v ∷ []) (amounts-at s (a + k * 8 + 8) (n - (k + 1))))
+    ∙ (λ x. sym (take-set l k v (omega arith)) x ++ amounts-at s (q x) (n - (k + 1)))
+  where
+    by-left : (i j : ℕ) → i ≡ suc j → amounts-at s (a + k * 8) i ≡ v ∷ amounts-at s (a + k * 8 + 8) j
+    by-left zero j q = absurd (omega arith)
+    by-left (suc i) j q =
+        let r : i ≡ j = omega arith in
+        (λ x. sym z x ∷ amounts-at s (a + k * 8 + 8) (r x))
+
+    take-set : (l : List ℤ) (k : ℕ) (v : ℤ) → k < length l → take (k + 1) (set l k v) ≡ take k l ++ v ∷ []
+    take-set [] k v h = absurd (omega arith)
+    take-set (x ∷ l) zero v h = refl
+    take-set (x ∷ l) (suc k) v h =
+        let q : suc k + 1 ≡ suc (k + 1) = omega arith in
+        ap (λ (m : ℕ). take m (set (x ∷ l) (suc k) v)) q ∙ ap (λ (t : List ℤ). x ∷ t) (take-set l k v (omega arith))
+
+pub amounts-end : (s : List ℕ) (a n k : ℕ) (l : List ℤ) → n ≤ k → k ≤ n → amounts-at s a n ≡ take k l ++ amounts-at s (a + k * 8) (n - k) → take n l ≡ amounts-at s a n
+unfolding amounts-at
+amounts-end s a n k l h g e =
+    let q : n - k ≡ 0 = omega arith in
+    let r : k ≡ n = omega arith in
+    sym (e ∙ ap (λ (m : ℕ). take k l ++ amounts-at s (a + k * 8) m) q ∙ append-none (take k l) ∙ ap (λ (m : ℕ). take m l) r)
+  where
+    append-none : (x : List ℤ) → x ++ [] ≡ x
+    append-none [] = refl
+    append-none (y ∷ x) = ap (λ (t : List ℤ). y ∷ t) (append-none x)
+
+module _ (s : List ℕ) where
+  length-tokens : (i a n : ℕ) → length (tokens-at s i a n) ≡ n
+  unfolding tokens-at
+  length-tokens i a zero = refl
+  length-tokens i a (suc n) = ap suc (length-tokens (i + 32) (a + 8) n)
+
+  amounts-are : (i a n : ℕ) → token-amounts (tokens-at s i a n) ≡ amounts-at s a n
+  unfolding tokens-at token-amounts amounts-at
+  amounts-are i a zero = refl
+  amounts-are i a (suc n) = ap (λ (x : List ℤ). number-at s a ∷ x) (amounts-are (i + 32) (a + 8) n)
+
+  ids-are : (i a n : ℕ) → i + n * 32 ≤ length s → token-ids (tokens-at s i a n) ≡ midOf i (n * 32) s
+  unfolding tokens-at token-ids
+  ids-are i a zero m = refl
+  ids-are i a (suc n) m =
+      let q : 32 + n * 32 ≡ suc n * 32 = omega arith in
+      ap (λ (x : List ℕ). midOf i 32 s ++ x) (ids-are (i + 32) (a + 8) n (omega arith))
+      ∙ ap (λ (x : List ℕ). midOf i 32 s ++ take (n * 32) x) (sym (drop-drop 32 i s))
+      ∙ two-parts 32 (n * 32) (drop i s) (simp length-drop (omega arith))
+      ∙ ap (λ (k : ℕ). take k (drop i s)) q
+    where
+      two-parts : (a b : ℕ) (l : List ℕ) → a ≤ length l → take a l ++ take b (drop a l) ≡ take (a + b) l
+      two-parts zero b l h = let q : b ≡ zero + b = omega arith in ap (λ (k : ℕ). take k l) q
+      two-parts (suc a) b [] h = absurd (omega arith)
+      two-parts (suc a) b (x ∷ l) h =
+          let q : suc (a + b) ≡ suc a + b = omega arith in
+          ap (λ (t : List ℕ). x ∷ t) (two-parts a b l (omega arith)) ∙ ap (λ (k : ℕ). take k (x ∷ l)) q
+
+-- w is how many bytes the code cuts for the ids
+pub few-law : (adding : Bool) (p : ℕ) (nanos nanos′ : ℤ) (s : List ℕ) (t n w : ℕ) (amounts : List ℤ) (ids : List ℕ) (numbers : List ℤ) (lengths : List ℕ)
+    → t + n * 40 ≤ length s → nanos′ ≡ nanos → w ≡ n * 32 → amounts ≡ amounts-at s (t + n * 32) n
+    → changed-by (change-box adding (balance-of p ids numbers lengths) nanos′ (take w (drop t s)) amounts n) p ids numbers lengths
+    ≡ change-tokens-of adding p nanos (tokens-at s t (t + n * 32) n) ids numbers lengths
+few-law adding p nanos nanos′ s t n w amounts ids numbers lengths m f q e =
+    let i : take w (drop t s) ≡ token-ids (tokens-at s t (t + n * 32) n) = ap (λ (k : ℕ). take k (drop t s)) q ∙ sym (ids-are s t (t + n * 32) n (omega arith)) in
+    let v : amounts ≡ token-amounts (tokens-at s t (t + n * 32) n) = e ∙ sym (amounts-are s t (t + n * 32) n) in
+    let l : n ≡ length (tokens-at s t (t + n * 32) n) = sym (length-tokens s t (t + n * 32) n) in
+    (λ x. changed-by (change-box adding (balance-of p ids numbers lengths) (f x) (i x) (v x) (l x)) p ids numbers lengths)

@@ -1,7 +1,7 @@
 // A credit and a debit of a driver on the state of all parents: any number of tokens, which stand in borrowed bytes, the ids first and the amounts behind them.
 ghost use mathlib.Core.Path.{_≡_};
 ghost use Prim.Native.Nat.{_+_, _*_, _≤_};
-ghost use lib.ListN.{length};
+ghost use lib.ListN.{length, take};
 ghost use Rattle.index_types.specs.Limits.{token-limit, token-id-bytes};
 ghost use Rattle.balance_tokens.specs.Tokens.{left-in};
 ghost use Rattle.balance.specs.Boxes.{change-box};
@@ -9,7 +9,7 @@ ghost use Rattle.call_steps.specs.State.{parent-numbers, parent-ids};
 ghost use Rattle.call_steps.specs.Steps.{change-step};
 ghost use Rattle.driver_core.specs.Steps.{token-ids, token-amounts};
 ghost use Rattle.driver_core.specs.Bytes.{tokens-at};
-ghost use Rattle.driver_changes.specs.Internal.{change-each, change-tokens-of};
+ghost use Rattle.driver_changes.specs.Internal.{amounts-at, change-each, change-tokens-of};
 use balance::Balance;
 use balance::Outcome;
 use balance_tokens::Counted;
@@ -100,8 +100,8 @@ fn change_box(
     }
 }
 
-// A credit or a debit of a parent: nanoErgs and the n tokens that begin at t.
-pub fn change_with(
+// A credit or a debit of a parent on a copy of its balance: nanoErgs and the n tokens that begin at t.
+fn change_many(
     adding: bool,
     p: usize,
     nanos: i64,
@@ -123,4 +123,76 @@ pub fn change_with(
     let answer = o.answer;
     balance_steps::write_balance(p, after, ids, numbers, lengths);
     balance_steps::said_by(answer)
+}
+
+// Reads n amounts, which stand from a on, to the front of a list.
+fn read_amounts(s: &[u8], a: usize, n: usize, amounts: &mut [i64])
+    requires { ⌜ (a + n * 8 ≤ length (now s)) × (n ≤ length (now amounts)) ⌝ }
+    ensures { λ _. ⌜ take n (now (amounts .exit)) ≡ amounts-at (now (s .entry)) a n ⌝ }
+{
+    let mut k = 0;
+    let mut at = a;
+    while k < n {
+        let amount = calls::number_at(s, at);
+        amounts[k] = amount;
+        k += 1;
+        at += 8;
+    }
+}
+
+// The same in the balance's places, for as many tokens as a balance holds at most.
+fn change_few(
+    adding: bool,
+    p: usize,
+    nanos: i64,
+    s: &[u8],
+    t: usize,
+    n: usize,
+    ids: &mut [u8],
+    numbers: &mut [i64],
+    lengths: &mut [usize],
+) -> Said
+    requires { ⌜ (t + n * 40 ≤ length (now s)) × (n ≤ token-limit)
+        × (p * parent-ids + parent-ids ≤ length (now ids)) × (p * parent-numbers + parent-numbers ≤ length (now numbers)) × (p * 3 + 3 ≤ length (now lengths)) ⌝ }
+    ensures { λ r. ⌜ change-step r (now (ids .exit)) (now (numbers .exit)) (now (lengths .exit))
+        ≡ change-tokens-of adding p nanos (tokens-at (now (s .entry)) t (t + n * 32) n) (now (ids .entry)) (now (numbers .entry)) (now (lengths .entry)) ⌝ }
+{
+    let mut amounts = [0i64; TOKEN_LIMIT];
+    let e = t + n * 32;
+    read_amounts(s, e, n, &mut amounts);
+    balance_places::change_box(
+        adding,
+        p,
+        nanos,
+        &s[t..e],
+        &amounts[..n],
+        n,
+        ids,
+        numbers,
+        lengths,
+    )
+}
+
+// A credit or a debit of a parent: nanoErgs and the n tokens that begin at t.
+pub fn change_with(
+    adding: bool,
+    p: usize,
+    nanos: i64,
+    s: &[u8],
+    t: usize,
+    n: usize,
+    ids: &mut [u8],
+    numbers: &mut [i64],
+    lengths: &mut [usize],
+) -> Said
+    requires { ⌜ (t + n * 40 ≤ length (now s))
+        × (p * parent-ids + parent-ids ≤ length (now ids)) × (p * parent-numbers + parent-numbers ≤ length (now numbers)) × (p * 3 + 3 ≤ length (now lengths)) ⌝ }
+    ensures { λ r. ⌜ change-step r (now (ids .exit)) (now (numbers .exit)) (now (lengths .exit))
+        ≡ change-tokens-of adding p nanos (tokens-at (now (s .entry)) t (t + n * 32) n) (now (ids .entry)) (now (numbers .entry)) (now (lengths .entry)) ⌝ }
+{
+    if n <= TOKEN_LIMIT {
+        change_few(adding, p, nanos, s, t, n, ids, numbers, lengths)
+    } else {
+        change_many(adding, p, nanos, s, t, n, ids, numbers, lengths)
+    }
 }

@@ -7,9 +7,11 @@ use lib.ListN.{take, replicate}
 use Rattle.stores.specs.Stores.{write}
 use Rattle.big_endian.specs.BigEndian.{value-of, value-at}
 use Rattle.calls.specs.Calls.{number-at}
+use Rattle.segment_id.specs.declared.Kind.the-variants.{Box, Tx}
 use Rattle.ledger.specs.Calls.{append, spend, credit, txs, Call}
 use Rattle.ledger.specs.Run.{call, flush}
-use Rattle.driver_core.specs.Bytes.{is, bad, cut, tokens-at, item-at, items-at, Journal, journal, pushed, newest, popped, standing}
+use Rattle.driver_core.specs.Steps.{unspends, pops}
+use Rattle.driver_core.specs.Bytes.{is, takes, bad, cut, tokens-at, item-at, items-at, Journal, journal, pushed, newest, popped, standing}
 
 -- the bytes of the two ids: 1 to 32, and 32 to 1
 abbrev up : List ℕ
@@ -48,9 +50,14 @@ pub other-parent : item-at 1 batch 0 ≡ bad
 unfolding item-at value-of
 other-parent = refl
 
-pub pop-kind : item-at 2 (5 ∷ replicate 16 0) 0 ≡ bad
+pub unknown-kind : item-at 2 (10 ∷ replicate 16 0) 0 ≡ bad
 unfolding item-at value-of
-pop-kind = refl
+unknown-kind = refl
+
+-- kinds 4 to 6 of parent 0
+pub takings : (item-at 2 (4 ∷ replicate 16 0) 0 ≡ takes (unspends 0 (pos 0))) × (item-at 2 (5 ∷ replicate 16 0) 0 ≡ takes (pops Box 0)) × (item-at 2 (6 ∷ replicate 16 0) 0 ≡ takes (pops Tx 0))
+unfolding item-at number-at value-at value-of
+takings = (refl, refl, refl)
 
 pub header-cut : item-at 2 (take 16 batch) 0 ≡ cut
 unfolding item-at

@@ -1,8 +1,8 @@
 -- The bytes of a driver's calls and of its journal ("parents by a 32-bit number, any number of them; .. any 32-byte ids and any number of tokens, none too").
 --   a call       a header of 17 bytes: kind 1, parent 4, number 8, how many tokens 4; then for each token 32 bytes of id, then for each token 8 bytes of amount.
 --                Numbers high byte first; parent and token count unsigned, number and amounts signed.
---   kinds        those of the runner: 1 append box, 2 append tx, 3 spend, 7 flush, 8 credit, 9 debit. The number is the appended number, the target or nanoErgs.
---                4 to 6 (unspend and the pops) are no calls here: an undo makes them. Kinds 1, 2, 3 and 7 have no tokens.
+--   kinds        those of the runner: 1 append box, 2 append tx, 3 spend, 4 unspend, 5 pop box, 6 pop tx, 7 flush, 8 credit, 9 debit. The number is the appended
+--                number, the target or nanoErgs. Kinds 1 to 7 have no tokens. Kinds 4 to 6 are made in a batch without a journal only: beside one, an undo makes them.
 --   an entry     the tokens first, the header behind them: so a journal is read from its end, with no further length.
 use Prim.Native.Nat.{ℕ, zero, suc, _+_, _*_, _-_, _/_}
 use mathlib.Core.Bool.{Bool, cond, _||_}
@@ -13,9 +13,11 @@ use lib.ListN.{length, getD}
 use borrow.Rule.Slice.PartMut.{midOf}
 use Rattle.stores.specs.Stores.{write}
 use Rattle.big_endian.specs.BigEndian.{value-of}
+use Rattle.segment_id.specs.declared.Kind.the-variants.{Box, Tx}
 use Rattle.calls.specs.Calls.{number-at}
 use Rattle.ledger.specs.Calls.{Tokens, Call, append, spend, credit, debit, boxes, txs}
 use Rattle.ledger.specs.Run.{Step, call, undo, flush}
+use Rattle.driver_core.specs.Steps.{Taking, unspends, pops}
 
 abbrev pub header-bytes : ℕ
 header-bytes = 17
@@ -38,18 +40,23 @@ unfoldable pub tokens-at : List ℕ → (ids amounts n : ℕ) → Tokens
 tokens-at s i a zero = []
 tokens-at s i a (suc n) = (midOf i id-bytes s, number-at s a) ∷ tokens-at s (i + id-bytes) (a + amount-bytes) n
 
--- what stands at a place: a call or a flush, no call, the front of one, or nothing
+-- what stands at a place: a call or a flush, an unspend or a pop, no call, the front of one, or nothing
 pub data Item : Type 0 where
   is : Step → Item
+  takes : Taking → Item
   bad cut end : Item
 
 abbrev pub is-change : ℕ → Bool
 is-change kind = eqb kind 8 || eqb kind 9
 
--- kinds 1 to 3, without tokens
+-- kinds 4 to 6
+abbrev pub taking : (kind parent : ℕ) → ℤ → Item
+taking kind p n = cond (eqb kind 4) (takes (unspends p n)) (cond (eqb kind 5) (takes (pops Box p)) (cond (eqb kind 6) (takes (pops Tx p)) bad))
+
+-- kinds 1 to 6, without tokens
 abbrev pub plain : (kind parent : ℕ) → ℤ → Item
 plain kind p n =
-    cond (eqb kind 1) (is (call (append (boxes p) n))) (cond (eqb kind 2) (is (call (append (txs p) n))) (cond (eqb kind 3) (is (call (spend p n))) bad))
+    cond (eqb kind 1) (is (call (append (boxes p) n))) (cond (eqb kind 2) (is (call (append (txs p) n))) (cond (eqb kind 3) (is (call (spend p n))) (taking kind p n)))
 
 -- kinds 8 and 9
 abbrev pub with-tokens : (kind parent : ℕ) → ℤ → Tokens → Item
@@ -93,11 +100,12 @@ item-at parents s at =
 
 abbrev pub item-then : Item → List Step → List Step
 item-then (is t) ts = t ∷ ts
+item-then (takes t) ts = []
 item-then bad ts = []
 item-then cut ts = []
 item-then end ts = []
 
--- the steps of an input, up to where no call stands
+-- the steps of an input, up to where no call or flush stands
 unfoldable pub items-at : (parents : ℕ) → List ℕ → ℕ → ℕ → List Step
 items-at parents s zero at = []
 items-at parents s (suc n) at = item-then (item-at parents s at) (items-at parents s n (at + size-at s at))
@@ -136,6 +144,7 @@ abbrev pub call-then : Item → List Call → List Call
 call-then (is (call a)) cs = a ∷ cs
 call-then (is undo) cs = []
 call-then (is flush) cs = []
+call-then (takes t) cs = []
 call-then bad cs = []
 call-then cut cs = []
 call-then end cs = []

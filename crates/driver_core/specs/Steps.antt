@@ -8,6 +8,7 @@ use lib.Dec.{eqb}
 use lib.IntN.{ℤ}
 use lib.ListN.{length}
 use Rattle.balance.specs.Boxes.{change-box}
+use Rattle.segment_id.specs.declared.Kind.{Kind}
 use Rattle.segment_id.specs.declared.Kind.the-variants.{Box, Tx}
 use Rattle.buffer_core.specs.declared.Direction.the-variants.{Spend, Unspend}
 use Rattle.buffer_core.specs.Edition.{edition-1}
@@ -48,9 +49,22 @@ unmake (debit p n ts) s = change-with true p n ts s
 abbrev pub flushing : State → Stepping
 flushing s = step-of edition-1 Flush s
 
+-- an unspend of a target or a pop, by name
+pub data Taking : Type 0 where
+  unspends : Parent → ℤ → Taking
+  pops : Kind → Parent → Taking
+
+abbrev pub take : Taking → State → Stepping
+take (unspends p t) s = step-of edition-1 (Flip Unspend p t) s
+take (pops k p) s = step-of edition-1 (Pop k p) s
+
 -- a call was accepted: it says 0
 abbrev pub is-accepted : Stepping → Bool
 is-accepted x = eqb (x .said .code) 0
+
+-- refusals that a driver lifts: 12, it fetches the row into a working set; 16 and 21, it flushes; 22, it gives a longer table. Then it makes the call again
+abbrev pub may-be-lifted : ℕ → Bool
+may-be-lifted code = eqb code 12 || (eqb code 16 || (eqb code 21 || eqb code 22))
 
 -- "16, 21: flush and repeat": no flush lifts another refusal, nor one that comes right behind a flush (`fresh`: no undo was accepted since)
 abbrev pub final : (fresh : Bool) → ℕ → Bool

@@ -11,7 +11,7 @@ use Rattle.driver_journal.specs.declared.Place.{Place}
 abbrev pub may-go : (made ended : ℕ) → (answers : List ℕ) → Bool
 may-go made ended answers = eqb ended 0 && ltb made (length answers)
 
--- a call needs room for its entry, a flush none
+-- an entry needs room, what is none does not
 abbrev pub has-room : (journaled : Bool) → (used size : ℕ) → (entries : List ℕ) → Bool
 has-room journaled used size entries = cond journaled (leb (used + size) (length entries)) true
 

@@ -2,7 +2,7 @@
 ghost use mathlib.Core.Path.{_≡_};
 ghost use mathlib.Core.Bool.{true};
 ghost use Prim.Native.Nat.{_+_, _≤_, _<_};
-ghost use lib.ListN.{length};
+ghost use lib.ListN.{length, set};
 ghost use Rattle.stores.specs.Stores.{write};
 ghost use Rattle.driver_core.specs.Bytes.{size-at, entry-of, journal};
 ghost use Rattle.driver_core.specs.Apply.{journal-ok};
@@ -37,7 +37,16 @@ pub fn may_go(made: usize, ended: u8, answers: &[u8]) -> bool
     false
 }
 
-// Whether the journal has room for an entry of so many bytes; a flush has none.
+// The popped number of an answer, where it has a place.
+pub fn put_number(numbers: &mut [i64], at: usize, n: i64)
+    ensures { λ _. ⌜ now (numbers .exit) ≡ set (now (numbers .entry)) at n ⌝ }
+{
+    if at < numbers.len() {
+        numbers[at] = n;
+    }
+}
+
+// Whether the journal has room for an entry of so many bytes; what is no entry needs none.
 pub fn has_room(journaled: bool, used: usize, size: usize, entries: &[u8]) -> bool
     requires { ⌜ (used ≤ length (now entries)) × (size < 9223372036854775808) ⌝ }
     ensures { λ r. ⌜ r ≡ has-room journaled used size (now (entries .entry)) ⌝ }

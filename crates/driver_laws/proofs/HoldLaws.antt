@@ -27,7 +27,7 @@ use Rattle.history_runs.specs.View.{changed}
 use Rattle.history_runs.specs.Runs.{says, M, Holds}
 use Rattle.driver_core.specs.Steps.{change-with, make, unmake, flushing, is-accepted}
 use Rattle.driver_laws.specs.Driver.{Driver, driver, journaled, shortened, newest-undone, do-step, do-steps}
-use Rattle.driver_laws.specs.Theorem.{Among, StepAmong, StepsAmong}
+use Rattle.driver_laws.specs.Internal.{Among, StepAmong, StepsAmong}
 use Rattle.driver_core.proofs.KeepLaws.{change-kept}
 use Rattle.driver_laws.proofs.ChangeLaws.{change-same}
 use Rattle.driver_laws.proofs.CodeLaws.{NotZero, do-append-coded, do-pop-coded, do-flip-coded, change-coded}

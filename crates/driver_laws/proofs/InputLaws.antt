@@ -18,10 +18,8 @@ use Rattle.big_endian.proofs.ByteLaws.{value-grown}
 use Rattle.calls.specs.Calls.{signed-of, number-at}
 use Rattle.ledger.specs.Ledger.{Tokens, Typed}
 use Rattle.ledger.specs.Run.{Step, call, undo, flush}
-use Rattle.driver_core.specs.Bytes.{Item, is, bad, cut, end, kind-at, parent-at, tokens-told, tokens-of, tokens-at, is-change, plain, with-tokens, headed, item-at, size-at, item-then, items-at}
-use Rattle.driver_laws.specs.Driver.{Driver}
-use Rattle.driver_laws.specs.Operations.{apply}
-use Rattle.driver_laws.specs.Theorem.{argument-limit, Among, StepsAmong, OnlyCalls, OpOk}
+use Rattle.driver_core.specs.Bytes.{Item, is, takes, bad, cut, end, kind-at, parent-at, tokens-told, tokens-of, tokens-at, is-change, plain, with-tokens, headed, item-at, size-at, item-then, items-at}
+use Rattle.driver_laws.specs.Internal.{argument-limit, Among, StepsAmong, OnlyCalls}
 
 split : {A : Type 0} (Q : A → Type 0) (b : Bool) {x y : A} → (b ≡ true → Q x) → (b ≡ false → Q y) → Q (cond b x y)
 split Q true f g = f refl
@@ -75,6 +73,7 @@ module _ (parents : ℕ) (s : List ℕ) (h : Bytes s) where
   Read (is (call a)) = Among parents a
   Read (is undo) = ⊥
   Read (is flush) = Unit {0}
+  Read (takes t) = Unit {0}
   Read bad = Unit {0}
   Read cut = Unit {0}
   Read end = Unit {0}
@@ -82,7 +81,10 @@ module _ (parents : ℕ) (s : List ℕ) (h : Bytes s) where
   plain-read : (kind p : ℕ) (at : ℕ) → p < parents → Read (plain kind p (number-at s at))
   plain-read kind p at l =
       split Read (eqb kind 1) (λ _. (l, number-small at))
-      (λ _. split Read (eqb kind 2) (λ _. (l, number-small at)) (λ _. split Read (eqb kind 3) (λ _. (l, number-small at)) (λ _. tt)))
+      (λ _. split Read (eqb kind 2) (λ _. (l, number-small at))
+      (λ _.
+      split Read (eqb kind 3) (λ _. (l, number-small at))
+      (λ _. split Read (eqb kind 4) (λ _. tt) (λ _. split Read (eqb kind 5) (λ _. tt) (λ _. split Read (eqb kind 6) (λ _. tt) (λ _. tt))))))
 
   change-read : (kind p at : ℕ) (ts : Tokens) → p < parents → Typed ts → Read (with-tokens kind p (number-at s at) ts)
   change-read kind p at ts l t = split Read (eqb kind 8) (λ _. (l, (number-small at, t))) (λ _. (l, (number-small at, t)))
@@ -115,6 +117,7 @@ module _ (parents : ℕ) (s : List ℕ) (h : Bytes s) where
   then-read (is (call a)) ts r k = (k .0, (r, k .1))
   then-read (is undo) ts r k = absurd r
   then-read (is flush) ts r k = (k .0, (tt, k .1))
+  then-read (takes t) ts r k = (tt, tt)
   then-read bad ts r k = (tt, tt)
   then-read cut ts r k = (tt, tt)
   then-read end ts r k = (tt, tt)
@@ -124,6 +127,14 @@ module _ (parents : ℕ) (s : List ℕ) (h : Bytes s) where
   items-read zero at = (tt, tt)
   items-read (suc n) at = then-read (item-at parents s at) (items-at parents s n (at + size-at s at)) (item-read at) (items-read n (at + size-at s at))
 
-  -- every batch in bytes is one that the theorem speaks of
-  pub batch-ok : (d : Driver) (n at : ℕ) → OpOk parents d (apply (items-at parents s n at))
-  batch-ok d n at = items-read n at
+  -- every beginning of a batch in bytes is one that the theorem speaks of
+  first-read : (k : ℕ) (ts : List Step) → OnlyCalls ts × StepsAmong parents ts → OnlyCalls (take k ts) × StepsAmong parents (take k ts)
+  unfolding OnlyCalls StepsAmong
+  first-read zero ts r = (tt, tt)
+  first-read (suc k) [] r = (tt, tt)
+  first-read (suc k) (call a ∷ ts) r = let q = first-read k ts (r .0, r .1 .1) in (q .0, (r .1 .0, q .1))
+  first-read (suc k) (undo ∷ ts) r = absurd (r .0)
+  first-read (suc k) (flush ∷ ts) r = let q = first-read k ts (r .0, r .1 .1) in (q .0, (tt, q .1))
+
+  pub batch-read : (k n at : ℕ) → OnlyCalls (take k (items-at parents s n at)) × StepsAmong parents (take k (items-at parents s n at))
+  batch-read k n at = first-read k (items-at parents s n at) (items-read n at)

@@ -2,7 +2,7 @@
 use mathlib.Core.Path.{_≡_, refl, sym, ap, _∙_, subst}
 use mathlib.Core.Bool.{Bool, true, false, cond}
 use mathlib.Core.List.{List, _∷_}
-use Prim.Native.Nat.{ℕ, zero, suc, _-_, _<_}
+use Prim.Native.Nat.{ℕ, zero, suc, _<_}
 use native.Mathlib.Omega.{arith}
 use borrow.Author.Tests.{leb-false}
 use lib.Dec.{eqb, leb}
@@ -12,7 +12,7 @@ use Rattle.ledger.specs.Calls.{Call}
 use Rattle.ledger.specs.Run.{call, undo, flush}
 use Rattle.driver_core.specs.Steps.{unmake, flushing, final}
 use Rattle.driver_laws.specs.Driver.{Driver, driver, do-step, UndoneTo, undone-to, undo-code, flush-code, undos, then-flush, turns, undo-to}
-use Rattle.driver_core.specs.Bytes.{Item, is, bad, cut, end, Journal, newest, popped, call-then, standing}
+use Rattle.driver_core.specs.Bytes.{Item, is, takes, bad, cut, end, Journal, newest, popped, call-then, standing}
 use Rattle.driver_core.specs.Apply.{Undoing, undoing, undo-newest, flushed, and-on, after-undo, undo-turns, and-flush, undos-flushed, undo-of, driver-ok}
 use Rattle.driver_laws.specs.Journal.{IsCall, Whole, UndoRefines}
 use Rattle.call_steps.proofs.StepLaws.{chosen}
@@ -22,7 +22,7 @@ split Q true f g = f refl
 split Q false f g = g refl
 
 module _ (parents : ℕ) where
-  whole-count : (n : ℕ) (j : Journal) → Whole parents n j → j .count ≡ n
+  pub whole-count : (n : ℕ) (j : Journal) → Whole parents n j → j .count ≡ n
   unfolding Whole
   whole-count zero j w = w .1
   whole-count (suc n) j w = w .2
@@ -31,6 +31,7 @@ module _ (parents : ℕ) where
   long (is (call a)) cs c = refl
   long (is undo) cs c = absurd c
   long (is flush) cs c = absurd c
+  long (takes t) cs c = absurd c
   long bad cs c = absurd c
   long cut cs c = absurd c
   long end cs c = absurd c
@@ -85,6 +86,7 @@ module _ (parents : ℕ) where
             (λ _. stays (flushing t .after) j (suc k) (flushing t .said .code) w _ e))
     undo-same fresh s j k w v (is undo) c e = absurd c
     undo-same fresh s j k w v (is flush) c e = absurd c
+    undo-same fresh s j k w v (takes t) c e = absurd c
     undo-same fresh s j k w v bad c e = absurd c
     undo-same fresh s j k w v cut c e = absurd c
     undo-same fresh s j k w v end c e = absurd c
@@ -140,4 +142,8 @@ pub undo-refines : UndoRefines
 undo-refines parents mark s j ok w =
     let x = undo-of-same parents mark s j (j .count) w ok in
     let u = undo-of parents mark s j in
-    (ap (λ (n : ℕ). driver (u .now) (standing parents n (u .kept))) (whole-count parents (x .kept) (u .kept) (x .whole)) ∙ x .left, x .code)
+    let q : u .kept .count ≡ x .kept = whole-count parents (x .kept) (u .kept) (x .whole) in (
+      ap (λ (n : ℕ). driver (u .now) (standing parents n (u .kept))) q ∙ x .left,
+      x .code,
+      subst (λ (n : ℕ). Whole parents n (u .kept)) (sym q) (x .whole),
+    )

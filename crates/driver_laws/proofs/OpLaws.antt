@@ -5,12 +5,11 @@ use mathlib.Core.Bool.{Bool, true, false, cond}
 use mathlib.Core.List.{List, [], _∷_, _++_, map}
 use Prim.Native.Nat.{ℕ, zero, suc, _+_, _<_}
 use native.Mathlib.Omega.{arith}
-use borrow.Author.Tests.{leb-false, eqb-true, eqb-false}
+use borrow.Author.Tests.{leb-false, eqb-true}
 use lib.Dec.{eqb, leb}
 use lib.IntN.{natAbs}
 use lib.ListN.{length, take}
 use Rattle.balance.specs.declared.Balance.{Balance}
-use Rattle.index_types.specs.declared.RowEdition.the-variants.{One}
 use Rattle.buffer_core.specs.Edition.{edition-1}
 use Rattle.buffer_core.specs.Spills.{sources, spill-read}
 use Rattle.call_steps.specs.declared.Said.{Said}
@@ -18,39 +17,39 @@ use Rattle.call_steps.specs.State.{State}
 use Rattle.ledger.specs.Ledger.{absℤ, amount-in, Rules}
 use Rattle.ledger.specs.Calls.{Parent, Series, boxes, parent-of}
 use Rattle.ledger.specs.Ledger as ledger
-use Rattle.ledger.specs.Run.{Made, accepted, refused-leaving, Step, call, undo, flush, flat, negs, MayCall, MayUndo, clean, calls}
+use Rattle.ledger.specs.Run.{Made, accepted, refused-leaving, Step, call, undo, flush, flat, negs, MayCall, MayUndo, clean}
 use Rattle.ledger.specs.Run as Run
 use Rattle.balance_laws.specs.Calls.{tokens-in}
 use Rattle.history.specs.Index.{kind-of, to-res, entries-of, do-flush}
 use Rattle.history.specs.Machine.{Borrowed}
 use Rattle.history.specs.ForkUndo.{Places}
-use Rattle.history.proofs.ForkUndoLaw.{fork-undo}
 use Rattle.history_runs.specs.View.{ids-in, view}
-use Rattle.history_runs.specs.Runs.{says, M, Holds, Agrees}
+use Rattle.history_runs.specs.Runs.{M, Holds, Agrees}
 use Rattle.driver_core.specs.Steps.{make, unmake, flushing, is-accepted, final}
+use Rattle.driver_core.specs.Apply.{driver-ok}
 use Rattle.driver_laws.specs.Driver.{Driver, driver, newest-undone, do-step, do-steps, UndoneTo, undone-to, undo-code, flush-code, undos, then-flush, turns, undos-flushed, undo-to}
-use Rattle.driver_laws.specs.Operations.{undos-steps, last-steps, undo-to-steps, Op, apply, undo-down, do-op, op-steps, do-ops, ops-steps}
-use Rattle.driver_laws.specs.Theorem.{StepAmong, StepsAmong, OnlyCalls, OpOk, Kept}
+use Rattle.driver_laws.specs.Operations.{undos-steps, last-steps, undo-to-steps, settled-after, settled, CallsSettled}
+use Rattle.driver_laws.specs.Internal.{StepAmong, StepsAmong, OnlyCalls}
+use Rattle.driver_laws.specs.Journal.{seen, Whole, tried}
+use Rattle.driver_laws.specs.Theorem.{Work, batch, undo-down, longer, Given, calls-of, applied, do-work, do-all, work-steps, all-steps, WorkOk, Keeps}
 use Rattle.driver_laws.proofs.CodeLaws.{NotZero, do-flush-coded}
+use Rattle.driver_laws.proofs.SettleLaws.{steps-behind, undo-to-left}
+use Rattle.driver_laws.proofs.RefineLaws.{work-refines}
+use Rattle.driver_laws.proofs.InputLaws.{batch-read}
 use Rattle.driver_laws.proofs.HoldLaws.{CallsAmong, Follows, step-follows, steps-follow, flush-after, After, store-coded}
 
 -- ---- lists of steps one behind the other
-steps-behind : (xs ys : List Step) (d : Driver) → do-steps d (xs ++ ys) ≡ do-steps (do-steps d xs) ys
-unfolding do-steps
-steps-behind [] ys d = refl
-steps-behind (x ∷ xs) ys d = steps-behind xs ys (do-step d x)
-
 among-behind : (parents : ℕ) (xs ys : List Step) → StepsAmong parents xs → StepsAmong parents ys → StepsAmong parents (xs ++ ys)
 unfolding StepsAmong
 among-behind parents [] ys m n = n
 among-behind parents (x ∷ xs) ys m n = (m .0, among-behind parents xs ys (m .1) n)
 
-run-behind : (W : Run.Machine) (xs ys : List Step) (c : Run.Conf W) → Run.run W c (xs ++ ys) ≡ Run.run W (Run.run W c xs) ys
+pub run-behind : (W : Run.Machine) (xs ys : List Step) (c : Run.Conf W) → Run.run W c (xs ++ ys) ≡ Run.run W (Run.run W c xs) ys
 unfolding Run.run
 run-behind W [] ys c = refl
 run-behind W (x ∷ xs) ys c = run-behind W xs ys (Run.step W c x)
 
-legal-behind : (W : Run.Machine) (xs ys : List Step) (c : Run.Conf W) → Run.Legal W c xs → Run.Legal W (Run.run W c xs) ys → Run.Legal W c (xs ++ ys)
+pub legal-behind : (W : Run.Machine) (xs ys : List Step) (c : Run.Conf W) → Run.Legal W c xs → Run.Legal W (Run.run W c xs) ys → Run.Legal W c (xs ++ ys)
 unfolding Run.run Run.Legal
 legal-behind W [] ys c l m = m
 legal-behind W (x ∷ xs) ys c l m = (l .0, l .1, legal-behind W xs ys (Run.step W c x) (l .2) m)
@@ -64,7 +63,7 @@ fewer : (b : Bool) (a : ledger.Call) (cs : List ledger.Call) → Rules (a ∷ cs
 fewer true a cs r = r .1
 fewer false a cs r = r
 
-undone-rules : (j : List ledger.Call) (s : State) → Rules j → Rules (newest-undone j s .journal)
+pub undone-rules : (j : List ledger.Call) (s : State) → Rules j → Rules (newest-undone j s .journal)
 undone-rules [] s r = r
 undone-rules (a ∷ cs) s r = fewer (is-accepted (unmake a s)) a cs r
 
@@ -87,11 +86,11 @@ module _ (parents : ℕ) (ids : Parent → List ℕ) (B : Borrowed edition-1) (p
   abbrev F : Run.Conf W → Driver → Type 0
   F c d = Follows parents ids B places c d
 
-  followed-rules : (c : Run.Conf W) (d : Driver) → F c d → Rules (d .journal) → Rules (c .standing)
+  pub followed-rules : (c : Run.Conf W) (d : Driver) → F c d → Rules (d .journal) → Rules (c .standing)
   followed-rules c d f r = subst Rules (sym (f .same)) r
 
   -- ---- a flush that says 0 was accepted
-  flush-clean : (c : Run.Conf W) (d : Driver) → F c d → flush-code d ≡ 0 → Run.step W c flush .phase ≡ clean
+  pub flush-clean : (c : Run.Conf W) (d : Driver) → F c d → flush-code d ≡ 0 → Run.step W c flush .phase ≡ clean
   flush-clean c d f e =
       by (Run.with-store W (c .now) (do-flush edition-1 ids (c .now .store))) (flush-after parents ids B places (c .now) (d .now) (f .holds))
       (store-coded parents ids B places (c .now) (do-flush edition-1 ids (c .now .store)) (do-flush-coded ids (c .now .store)))
@@ -105,7 +104,7 @@ module _ (parents : ℕ) (ids : Parent → List ℕ) (B : Borrowed edition-1) (p
   flush-calls c (accepted τ) m = tt
   flush-calls c (refused-leaving k τ) m = m
 
-  flush-undos : (c : Run.Conf W) (R : Made (Run.State W) (Run.State W)) → MayUndo (c .phase) → MayUndo (Run.after-flush W c R .phase)
+  pub flush-undos : (c : Run.Conf W) (R : Made (Run.State W) (Run.State W)) → MayUndo (c .phase) → MayUndo (Run.after-flush W c R .phase)
   flush-undos c (accepted τ) m = tt
   flush-undos c (refused-leaving k τ) m = m
 
@@ -113,7 +112,7 @@ module _ (parents : ℕ) (ids : Parent → List ℕ) (B : Borrowed edition-1) (p
   call-calls c a (accepted τ) = tt
   call-calls c a (refused-leaving k τ) = tt
 
-  undo-undos : (c : Run.Conf W) (l : List ledger.Call) → MayUndo (c .phase) → MayUndo (Run.newest-undone W c l .phase)
+  pub undo-undos : (c : Run.Conf W) (l : List ledger.Call) → MayUndo (c .phase) → MayUndo (Run.newest-undone W c l .phase)
   undo-undos c [] m = m
   undo-undos c (a ∷ cs) m = by (Run.run-undo W (c .now) a)
     where
@@ -121,23 +120,36 @@ module _ (parents : ℕ) (ids : Parent → List ℕ) (B : Borrowed edition-1) (p
       by (accepted u) = tt
       by (refused-leaving k τ) = tt
 
-  -- ---- the calls of an input
-  pub record Applied (c : Run.Conf W) (ts : List Step) : Type 0 where
-    pub legal : Run.Legal W c ts
-    pub phase : MayCall (Run.run W c ts .phase)
+  -- ---- where it is settled, calls may be made
+  abbrev pub Settles : Bool → Run.Conf W → Type 0
+  Settles b c = b ≡ true → MayCall (c .phase)
 
-  input-legal : (ts : List Step) (c : Run.Conf W) (d : Driver) → F c d → MayCall (c .phase) → OnlyCalls ts → StepsAmong parents ts → Rules (do-steps d ts .journal) → Applied c ts
-  unfolding OnlyCalls StepsAmong do-steps Run.Legal Run.run
-  input-legal [] c d f m o t r = record { legal = tt; phase = m }
-  input-legal (call a ∷ ts) c d f m o t r =
+  pub step-settles : (b : Bool) (c : Run.Conf W) (d : Driver) → F c d → (t : Step) → Settles b c → Settles (settled-after b d t) (Run.step W c t)
+  step-settles b c d f (call a) m e = call-calls c a (Run.run-call W (c .now) a)
+  step-settles b c d f undo m e = let z : _≡_ {A = ℕ} 0 1 = cc in absurd (omega arith)
+  step-settles true c d f flush m e = flush-calls c (Run.with-store W (c .now) (do-flush edition-1 ids (c .now .store))) (m refl)
+  step-settles false c d f flush m e = subst MayCall (sym (flush-clean c d f (eqb-true (flush-code d) 0 e))) tt
+
+  pub steps-settle : (ts : List Step) (b : Bool) (c : Run.Conf W) (d : Driver) → F c d → StepsAmong parents ts → Settles b c → Settles (settled b d ts) (Run.run W c ts)
+  unfolding StepsAmong settled Run.run
+  steps-settle [] b c d f a m = m
+  steps-settle (t ∷ ts) b c d f a m =
+      steps-settle ts (settled-after b d t) (Run.step W c t) (do-step d t) (step-follows parents ids B places c d f t (a .0)) (a .1) (step-settles b c d f t m)
+
+  -- ---- the calls of an input
+  pub input-legal : (ts : List Step) (b : Bool) (c : Run.Conf W) (d : Driver) → F c d → Settles b c → CallsSettled b d ts → OnlyCalls ts → StepsAmong parents ts → Rules (do-steps d ts .journal)
+      → Run.Legal W c ts
+  unfolding OnlyCalls StepsAmong CallsSettled do-steps Run.Legal
+  input-legal [] b c d f m k o t r = tt
+  input-legal (call a ∷ ts) b c d f m k o t r =
       let g = step-follows parents ids B places c d f (call a) (t .0) in
-      let k = input-legal ts (Run.step W c (call a)) (do-step d (call a)) g (call-calls c a (Run.run-call W (c .now) a)) o (t .1) r in
-      record { legal = ((m, t .0 .1), followed-rules _ _ g (before-rules ts (do-step d (call a)) o r), k .legal); phase = k .phase }
-  input-legal (undo ∷ ts) c d f m o t r = absurd o
-  input-legal (flush ∷ ts) c d f m o t r =
+      let l = input-legal ts b (Run.step W c (call a)) (do-step d (call a)) g (step-settles b c d f (call a) m) (k .1) o (t .1) r in
+      ((m (k .0), t .0 .1), followed-rules _ _ g (before-rules ts (do-step d (call a)) o r), l)
+  input-legal (undo ∷ ts) b c d f m k o t r = absurd o
+  input-legal (flush ∷ ts) b c d f m k o t r =
       let g = step-follows parents ids B places c d f flush tt in
-      let k = input-legal ts (Run.step W c flush) (do-step d flush) g (flush-calls c (Run.with-store W (c .now) (do-flush edition-1 ids (c .now .store))) m) o (t .1) r in
-      record { legal = (tt, followed-rules _ _ g (before-rules ts (do-step d flush) o r), k .legal); phase = k .phase }
+      let l = input-legal ts (settled-after b d flush) (Run.step W c flush) (do-step d flush) g (step-settles b c d f flush m) (k .1) o (t .1) r in
+      (tt, followed-rules _ _ g (before-rules ts (do-step d flush) o r), l)
 
   -- ---- back to a mark
   pub record Went (c : Run.Conf W) (d : Driver) (r : UndoneTo) (ts : List Step) : Type 0 where
@@ -187,84 +199,104 @@ module _ (parents : ℕ) (ids : Parent → List ℕ) (B : Borrowed edition-1) (p
       (λ _. goes c d undo _ _ a₁ s₁ tt (goes c₁ d₁ flush _ _ tt s₂ tt (undos-legal n mark true c₂ d₂ f₂ m₂ r₁)))
       (λ _. goes c d undo _ _ a₁ s₁ tt (goes c₁ d₁ flush _ _ tt s₂ tt (stays c₂ d₂ (flush-code d₁) m₂ r₁))))))
 
-  -- ---- an undo to a mark that came to its end
-  pub record Done (c : Run.Conf W) (d : Driver) (r : UndoneTo) (ts : List Step) : Type 0 where
+  -- ---- steps that may be made, and leave what was left
+  pub record Done (c : Run.Conf W) (d left : Driver) (ts : List Step) : Type 0 where
     pub legal : Run.Legal W c ts
-    pub left : r .left ≡ do-steps d ts
-    pub phase : MayCall (Run.run W c ts .phase)
+    pub same : left ≡ do-steps d ts
     pub among : StepsAmong parents ts
+    pub rules : Rules (left .journal)
 
   abbrev Ends : Run.Conf W → Driver → UndoneTo → List Step → Type 0
-  Ends c d r ts = r .code ≡ 0 → Done c d r ts
+  Ends c d r ts = Done c d (r .left) ts
+
+  pub stands-still : (c : Run.Conf W) (d : Driver) → Rules (d .journal) → Done c d d []
+  unfolding do-steps Run.Legal StepsAmong
+  stands-still c d r = record { legal = tt; same = refl; among = tt; rules = r }
+
+  one-flush : (c : Run.Conf W) (d : Driver) → F c d → Rules (d .journal) → Done c d (do-step d flush) (flush ∷ [])
+  unfolding do-steps Run.Legal StepsAmong
+  one-flush c d f r =
+      let g = step-follows parents ids B places c d f flush tt in
+      record { legal = (tt, followed-rules (Run.step W c flush) (do-step d flush) g r, tt); same = refl; among = (tt, tt); rules = r }
+
+  -- a list of steps behind another
+  pub then-done : (c : Run.Conf W) (d e left : Driver) (xs ys : List Step) → Done c d e xs → Done (Run.run W c xs) e left ys → Done c d left (xs ++ ys)
+  then-done c d e left xs ys a b =
+      record {
+        legal = legal-behind W xs ys c (a .legal) (b .legal);
+        same = b .same ∙ ap (λ (x : Driver). do-steps x ys) (a .same) ∙ sym (steps-behind xs ys d);
+        among = among-behind parents xs ys (a .among) (b .among);
+        rules = b .rules;
+      }
+
+  went : (c : Run.Conf W) (d : Driver) (r : UndoneTo) (ts : List Step) → Went c d r ts → Done c d (r .left) ts
+  went c d r ts w = record { legal = w .legal; same = w .left; among = w .among; rules = subst (λ (x : Driver). Rules (x .journal)) (sym (w .left)) (w .rules) }
+
+  pub follows-on : (c : Run.Conf W) (d left : Driver) (ts : List Step) → F c d → Done c d left ts → F (Run.run W c ts) left
+  follows-on c d left ts f a = subst (F (Run.run W c ts)) (sym (a .same)) (steps-follow parents ids B places ts c d f (a .among))
 
   -- the last flush
-  closes : (c : Run.Conf W) (d : Driver) (r : UndoneTo) (ts : List Step) → F c d → Went c d r ts → Ends c d (then-flush r) (ts ++ last-steps r)
-  unfolding do-steps Run.Legal Run.run StepsAmong
-  closes c d r ts f w e =
-      by (eqb (r .code) 0) refl e
-    where
-      by : (b : Bool) → eqb (r .code) 0 ≡ b → cond b (undone-to (do-step (r .left) flush) (flush-code (r .left))) r .code ≡ 0
-          → Done c d (cond b (undone-to (do-step (r .left) flush) (flush-code (r .left))) r) (ts ++ cond b (flush ∷ []) [])
-      by true _ e =
-          let c₁ = Run.run W c ts in
-          let d₁ = do-steps d ts in
-          let f₁ : F c₁ d₁ = steps-follow parents ids B places ts c d f (w .among) in
-          let z : flush-code d₁ ≡ 0 = subst (λ (x : Driver). flush-code x ≡ 0) (w .left) e in
-          let g = step-follows parents ids B places c₁ d₁ f₁ flush tt in
-          let l : Run.Legal W c₁ (flush ∷ []) = (tt, followed-rules (Run.step W c₁ flush) (do-step d₁ flush) g (w .rules), tt) in
-          record {
-            legal = legal-behind W ts (flush ∷ []) c (w .legal) l;
-            left = ap (λ (x : Driver). do-step x flush) (w .left) ∙ sym (steps-behind ts (flush ∷ []) d);
-            phase = subst (λ (x : Run.Conf W). MayCall (x .phase)) (sym (run-behind W ts (flush ∷ []) c)) (subst MayCall (sym (flush-clean c₁ d₁ f₁ z)) tt);
-            among = among-behind parents ts (flush ∷ []) (w .among) (tt, tt);
-          }
-      by false q e = absurd (eqb-false (r .code) 0 q e)
+  closes : (c : Run.Conf W) (d : Driver) (r : UndoneTo) (ts : List Step) → F c d → Done c d (r .left) ts → Ends c d (then-flush r) (ts ++ last-steps r)
+  closes c d r ts f a =
+      split (λ (x : UndoneTo) (ys : List Step). Ends c d x (ts ++ ys)) (eqb (r .code) 0)
+      (λ _. then-done c d (r .left) (do-step (r .left) flush) ts (flush ∷ []) a (one-flush (Run.run W c ts) (r .left) (follows-on c d (r .left) ts f a) (a .rules)))
+      (λ _. then-done c d (r .left) (r .left) ts [] a (stands-still (Run.run W c ts) (r .left) (a .rules)))
 
-  back-legal : (mark : ℕ) (c : Run.Conf W) (d : Driver) → F c d → MayCall (c .phase) → Rules (d .journal) → Ends c d (undo-to mark d) (undo-to-steps mark d)
-  unfolding undo-to undo-to-steps do-steps Run.Legal Run.run StepsAmong
-  back-legal mark c d f m r =
-      split (Ends c d) (leb (length (d .journal)) mark) (λ _ _. record { legal = tt; left = refl; phase = m; among = tt })
+  pub back-legal : (mark : ℕ) (c : Run.Conf W) (d : Driver) → F c d → Rules (d .journal) → Ends c d (undo-to mark d) (undo-to-steps mark d)
+  unfolding undo-to undo-to-steps Run.run
+  back-legal mark c d f r =
+      split (Ends c d) (leb (length (d .journal)) mark) (λ _. stands-still c d r)
       (λ _.
       split (Ends c d) (eqb (flush-code d) 0)
-      (λ q e.
+      (λ q.
       let c₁ = Run.step W c flush in
       let d₁ = do-step d flush in
       let f₁ = step-follows parents ids B places c d f flush tt in
       let p : MayUndo (c₁ .phase) = subst MayUndo (sym (flush-clean c d f (eqb-true (flush-code d) 0 q))) tt in
-      let k = closes c₁ d₁ (undos-flushed mark d) (undos-steps (turns d) mark true d₁) f₁ (undos-legal (turns d) mark true c₁ d₁ f₁ p r) e in
-      record { legal = (tt, followed-rules c₁ d₁ f₁ r, k .legal); left = k .left; phase = k .phase; among = (tt, k .among) })
-      (λ q e. absurd (eqb-false (flush-code d) 0 q e)))
+      let b = undos-flushed mark d in
+      let k = closes c₁ d₁ b (undos-steps (turns d) mark true d₁) f₁ (went c₁ d₁ b (undos-steps (turns d) mark true d₁) (undos-legal (turns d) mark true c₁ d₁ f₁ p r)) in
+      then-done c d d₁ (then-flush b .left) (flush ∷ []) (undos-steps (turns d) mark true d₁ ++ last-steps b) (one-flush c d f r) k) (λ _. one-flush c d f r))
 
   -- ---- whatever a driver does
-  op-done : (o : Op) (c : Run.Conf W) (d : Driver) → F c d → MayCall (c .phase) → Rules (d .journal) → OpOk parents d o → Rules (do-op d o .journal)
-      → Done c d (undone-to (do-op d o) 0) (op-steps d o)
-  op-done (apply ts) c d f m r k q =
-      let a = input-legal ts c d f m (k .0) (k .1) q in
-      record { legal = a .legal; left = refl; phase = a .phase; among = k .1 }
-  op-done (undo-down mark) c d f m r k q =
-      let a = back-legal mark c d f m r k in
-      record { legal = a .legal; left = a .left; phase = a .phase; among = a .among }
+  abbrev see : Given → Driver
+  see d = seen parents (d .now) (d .kept)
 
-  pub record AllDone (c : Run.Conf W) (d : Driver) (os : List Op) : Type 0 where
-    pub legal : Run.Legal W c (ops-steps d os)
-    pub left : do-ops d os ≡ do-steps d (ops-steps d os)
-    pub among : StepsAmong parents (ops-steps d os)
+  abbrev Stays : Given → Type 0
+  Stays d = Whole parents (d .kept .count) (d .kept)
 
-  pub ops-done : (os : List Op) (c : Run.Conf W) (d : Driver) → F c d → MayCall (c .phase) → Rules (d .journal) → Kept parents d os → AllDone c d os
-  unfolding Kept do-ops ops-steps do-steps Run.Legal Run.run StepsAmong
-  ops-done [] c d f m r k = record { legal = tt; left = refl; among = tt }
-  ops-done (o ∷ os) c d f m r k =
-      let a = op-done o c d f m r (k .0) (k .1) in
-      let ts = op-steps d o in
+  -- the steps of a piece of work may be made
+  abbrev MayWork : Run.Conf W → Given → Work → Type 0
+  MayWork c d w = Done c (see d) (do-steps (see d) (work-steps parents d w)) (work-steps parents d w)
+
+  may-undo : (t : Bool) (mark : ℕ) (c : Run.Conf W) (d : Driver) → F c d → Rules (d .journal)
+      → Done c d (do-steps d (cond t (undo-to-steps mark d) [])) (cond t (undo-to-steps mark d) [])
+  unfolding do-steps
+  may-undo true mark c d f r = subst (λ (x : Driver). Done c d x (undo-to-steps mark d)) (undo-to-left mark d) (back-legal mark c d f r)
+  may-undo false mark c d f r = stands-still c d r
+
+  may-work : (w : Work) (b : Bool) (c : Run.Conf W) (d : Given) → F c (see d) → Stays d → Settles b c → Rules (calls-of parents d) → WorkOk parents b d w → MayWork c d w
+  unfolding do-steps
+  may-work (batch input answers numbers) b c d f v m r k =
+      let ts = work-steps parents d (batch input answers numbers) in
+      let o = batch-read parents input (k .0) (tried (applied parents d input answers numbers)) (length input + 1) 0 in
+      let q : Rules (do-steps (see d) ts .journal) = subst (λ (x : Driver). Rules (x .journal)) (work-refines parents d (batch input answers numbers) v .same) (k .2) in
+      record { legal = input-legal ts b c (see d) f m (k .1) (o .0) (o .1) q; same = refl; among = o .1; rules = q }
+  may-work (undo-down mark) b c d f v m r k = may-undo (driver-ok parents (d .now) (d .kept)) mark c (see d) f r
+  may-work (longer more) b c d f v m r k = stands-still c (see d) r
+
+  pub all-done : (ws : List Work) (b : Bool) (c : Run.Conf W) (d : Given) → F c (see d) → Stays d → Settles b c → Rules (calls-of parents d) → Keeps parents b d ws
+      → Done c (see d) (see (do-all parents d ws)) (all-steps parents d ws)
+  unfolding Keeps do-all all-steps
+  all-done [] b c d f v m r k = stands-still c (see d) r
+  all-done (w ∷ ws) b c d f v m r k =
+      let x = work-refines parents d w v in
+      let ts = work-steps parents d w in
+      let e = do-work parents d w in
+      let a : Done c (see d) (see e) ts = subst (λ (y : Driver). Done c (see d) y ts) (sym (x .same)) (may-work w b c d f v m r (k .0)) in
       let c₁ = Run.run W c ts in
-      let d₁ = do-op d o in
-      let f₁ : F c₁ d₁ = subst (F c₁) (sym (a .left)) (steps-follow parents ids B places ts c d f (a .among)) in
-      let b = ops-done os c₁ d₁ f₁ (a .phase) (k .1) (k .2) in
-      record {
-        legal = legal-behind W ts (ops-steps d₁ os) c (a .legal) (b .legal);
-        left = b .left ∙ ap (λ (x : Driver). do-steps x (ops-steps d₁ os)) (a .left) ∙ sym (steps-behind ts (ops-steps d₁ os) d);
-        among = among-behind parents ts (ops-steps d₁ os) (a .among) (b .among);
-      }
+      let f₁ = follows-on c (see d) (see e) ts f a in
+      let m₁ = steps-settle ts b c (see d) f (a .among) m in
+      then-done c (see d) (see e) (see (do-all parents e ws)) ts (all-steps parents e ws) a (all-done ws (settled b (see d) ts) c₁ e f₁ (x .whole) m₁ (a .rules) (k .1))
 
   -- ---- what the state holds
   entries-same : (c : Run.Conf W) (s : State) → Holds parents ids B places (c .now) s → (ch : Series) → parent-of ch < parents
@@ -277,7 +309,7 @@ module _ (parents : ℕ) (ids : Parent → List ℕ) (B : Borrowed edition-1) (p
       flat (λ k. to-res (spill-read edition-1 (kind-of ch) (sources (n i) (b i .staged) (b i .staged-counts .count) (b i .table) (b i .table-counts .count)) k)) (natAbs (q i .head .spills))
       ++ take (q i .head .len) (q i .places)
 
-  agrees : (c : Run.Conf W) (d : Driver) → F c d → Run.Agrees W c → Agrees parents (d .journal) (d .now)
+  pub agrees : (c : Run.Conf W) (d : Driver) → F c d → Run.Agrees W c → Agrees parents (d .journal) (d .now)
   agrees c d f a =
       let h = f .holds in
       let s = d .now in
@@ -292,22 +324,3 @@ module _ (parents : ℕ) (ids : Parent → List ℕ) (B : Borrowed edition-1) (p
   pub begin-follows : (s : State) → Holds parents ids B places (Run.start W .now) s → F (Run.start W) (driver s [])
   unfolding CallsAmong
   begin-follows s h = record { holds = h; same = refl; among = tt }
-
-  -- the fork-undo theorem of what a driver does, from a state that holds what the machine starts with: batches and undos to a mark in any order, the calls of the
-  -- journal keeping the history rules after each, every undo come to its mark, no two row keys in use equal: the journal is the list of the standing calls, and the
-  -- state agrees with it
-  pub fork-undo-driver : ((p : Parent) → length (ids p) ≡ 32) → (s : State) → Holds parents ids B places (Run.start W .now) s → (os : List Op) → Kept parents (driver s []) os
-      → Run.KeysApart W (Run.InUse W (Run.start W) (ops-steps (driver s []) os))
-      → (Run.run W (Run.start W) (ops-steps (driver s []) os) .standing ≡ do-ops (driver s []) os .journal)
-      × Agrees parents (do-ops (driver s []) os .journal) (do-ops (driver s []) os .now)
-  unfolding StepsAmong
-  fork-undo-driver long s h os k q =
-      let d = driver s [] in
-      let ts = ops-steps d os in
-      let f : F (Run.start W) d = begin-follows s h in
-      let a = ops-done os (Run.start W) d f tt tt k in
-      let t = fork-undo One ids long B places ts (a .legal) q in
-      let g = steps-follow parents ids B places ts (Run.start W) d f (a .among) in (
-        g .same ∙ ap (λ (x : Driver). x .journal) (sym (a .left)),
-        subst (λ (x : Driver). Agrees parents (x .journal) (x .now)) (sym (a .left)) (agrees (Run.run W (Run.start W) ts) (do-steps d ts) g (t .1)),
-      )

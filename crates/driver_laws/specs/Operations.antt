@@ -1,11 +1,14 @@
--- What a driver does, in the steps of the fork-undo theorem: "every sequence of such batches, undos and flushes". A flush is a batch of kind 7 alone.
-use Prim.Native.Nat.{ℕ, zero, suc}
-use mathlib.Core.Bool.{Bool, true, false, cond}
+-- The steps of an undo to a mark, in the terms of the fork-undo theorem, and where a driver may make calls: "at each change between calls and undos comes an accepted
+-- flush".
+use Prim.Native.Nat.{ℕ, zero, suc, _-_}
+use mathlib.Core.Path.{_≡_}
+use mathlib.Core.Bool.{Bool, true, false, cond, _||_}
 use mathlib.Core.List.{List, [], _∷_, _++_}
 use lib.Dec.{eqb, leb}
-use lib.ListN.{length}
-use Rattle.ledger.specs.Run.{Step, undo, flush}
-use Rattle.driver_laws.specs.Driver.{Driver, do-step, do-steps, undo-code, flush-code, UndoneTo, turns, undos-flushed, undo-to}
+use lib.ListN.{length, drop}
+use Rattle.ledger.specs.Run.{Step, call, undo, flush}
+use Rattle.driver_laws.specs.Driver.{Driver, do-step, undo-code, flush-code, UndoneTo, turns, undos-flushed, undo-to}
+use Rattle.driver_laws.specs.Internal.{OnlyCalls}
 use Rattle.driver_core.specs.Steps.{final}
 
 -- the steps that `undos` makes
@@ -26,23 +29,32 @@ undo-to-steps mark d =
     cond (leb (length (d .journal)) mark) []
     (cond (eqb (flush-code d) 0) (flush ∷ (undos-steps (turns d) mark true (do-step d flush) ++ last-steps (undos-flushed mark d))) (flush ∷ []))
 
--- the calls and flushes of a batch, or an undo to a mark
-pub data Op : Type 0 where
-  apply : List Step → Op
-  undo-down : (mark : ℕ) → Op
+-- ---- settled: an accepted flush came behind the last undo. An undo to a mark that says 0 leaves it so; one that stopped may not
+abbrev pub settled-after : Bool → Driver → Step → Bool
+settled-after b d (call a) = b
+settled-after b d undo = false
+settled-after b d flush = b || eqb (flush-code d) 0
 
-abbrev pub do-op : Driver → Op → Driver
-do-op d (apply ts) = do-steps d ts
-do-op d (undo-down mark) = undo-to mark d .left
+unfoldable pub settled : Bool → Driver → List Step → Bool
+settled b d [] = b
+settled b d (t ∷ ts) = settled (settled-after b d t) (do-step d t) ts
 
-abbrev pub op-steps : Driver → Op → List Step
-op-steps d (apply ts) = ts
-op-steps d (undo-down mark) = undo-to-steps mark d
+-- calls are made where it is settled
+abbrev pub MayMake : Bool → Step → Type 0
+MayMake b (call a) = b ≡ true
+MayMake b undo = Unit {0}
+MayMake b flush = Unit {0}
 
-unfoldable pub do-ops : Driver → List Op → Driver
-do-ops d [] = d
-do-ops d (o ∷ os) = do-ops (do-op d o) os
+unfoldable pub CallsSettled : Bool → Driver → List Step → Type 0
+CallsSettled b d [] = Unit {0}
+CallsSettled b d (t ∷ ts) = MayMake b t × CallsSettled (settled-after b d t) (do-step d t) ts
 
-unfoldable pub ops-steps : Driver → List Op → List Step
-ops-steps d [] = []
-ops-steps d (o ∷ os) = op-steps d o ++ ops-steps (do-op d o) os
+-- ---- an undo to a mark that says 0 has taken the calls above the mark back and no other, and leaves a settled driver settled
+abbrev pub ReachLaw : Type 0
+ReachLaw =
+    (mark : ℕ) (d : Driver) → undo-to mark d .code ≡ 0
+    → (undo-to mark d .left .journal ≡ drop (length (d .journal) - mark) (d .journal)) × (settled true d (undo-to-steps mark d) ≡ true)
+
+-- a settled driver may make every batch, and stays settled
+abbrev pub BatchLaw : Type 0
+BatchLaw = (d : Driver) (ts : List Step) → OnlyCalls ts → CallsSettled true d ts × (settled true d ts ≡ true)

@@ -8,7 +8,7 @@ use Rattle.call_steps.specs.State.{State}
 use Rattle.driver_core.specs.Steps.{final}
 use Rattle.driver_core.specs.Bytes.{Journal, newest}
 use Rattle.driver_core.specs.Apply.{Undoing, undoing, flushed, and-on, after-undo, at-mark, undo-turns, and-flush, undos-flushed, driver-ok, undo-of}
-use Rattle.driver_batch.proofs.TurnLaws.{driver-ready}
+use Rattle.driver_batch.proofs.BatchLaws.{driver-ready}
 use Rattle.driver_undo.specs.Internal.{undo-at, UndoReady}
 use Rattle.driver_undo.proofs.UndoLaws.{undo-after, flush-after}
 

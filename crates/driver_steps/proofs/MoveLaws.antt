@@ -1,8 +1,9 @@
 -- A step is that of its definition, asks nothing more than refusal 25 has tested, and keeps it.
 use Prim.Native.Nat.{ℕ, _+_, _*_, _≤_, _<_}
 use mathlib.Core.Path.{_≡_, refl, sym, ap, _∙_}
-use mathlib.Core.Bool.{Bool, not}
+use mathlib.Core.Bool.{Bool, false, not, _||_}
 use mathlib.Core.List.{List}
+use lib.Dec.{eqb}
 use lib.IntN.{ℤ}
 use lib.ListN.{length}
 use Rattle.index_types.specs.declared.SpillCounts.{SpillCounts}
@@ -18,7 +19,7 @@ use Rattle.call_steps.specs.State.{State, state, Ready}
 use Rattle.call_steps.specs.Steps.{Stepping, ChangeStep, stepped, lists-with, left-by, change-step, of-change, step-of}
 use Rattle.call_steps.proofs.KeepLaws.{step-kept, step-ready, within}
 use Rattle.ledger.specs.Calls.{Tokens}
-use Rattle.driver_core.specs.Steps.{change-with}
+use Rattle.driver_core.specs.Steps.{change-with, may-be-lifted}
 use Rattle.driver_core.specs.Bytes.{tokens-at}
 use Rattle.driver_core.proofs.KeepLaws.{change-kept}
 use Rattle.driver_changes.specs.Internal.{change-tokens-of}
@@ -29,6 +30,10 @@ use Rattle.driver_steps.specs.declared.Move.{Move}
 use Rattle.driver_steps.specs.declared.Move.the-variants.{Segment, Balance}
 use Rattle.driver_steps.specs.Moves.{move-of, made-by, undone-by, MoveReady}
 
+-- a code that is not one of the first three
+pub lifted-last : (code : ℕ) → eqb code 12 ≡ false → eqb code 16 ≡ false → eqb code 21 ≡ false → eqb code 22 ≡ may-be-lifted code
+lifted-last code e f g = sym (λ i. e i || (f i || (g i || eqb code 22)))
+
 -- ---- what was read, as the code took it apart, with the number that it passes on
 module _ (x : Read) (n′ n : ℤ) (f : n′ ≡ n) where
   pub append-made : (k : Kind) (p : ℕ) → x ≡ read.Append k p n → Segment (call.Append k p n′) ≡ made-by x
@@ -36,6 +41,9 @@ module _ (x : Read) (n′ n : ℤ) (f : n′ ≡ n) where
 
   pub spend-made : (p : ℕ) → x ≡ read.Spend p n → Segment (call.Flip Spend p n′) ≡ made-by x
   spend-made p e = ap (λ (z : ℤ). Segment (call.Flip Spend p z)) f ∙ ap made-by (sym e)
+
+  pub unspend-made : (p : ℕ) → x ≡ read.Unspend p n → Segment (call.Flip Unspend p n′) ≡ made-by x
+  unspend-made p e = ap (λ (z : ℤ). Segment (call.Flip Unspend p z)) f ∙ ap made-by (sym e)
 
   pub spend-undone : (p : ℕ) → x ≡ read.Spend p n → Segment (call.Flip Unspend p n′) ≡ undone-by x
   spend-undone p e = ap (λ (z : ℤ). Segment (call.Flip Unspend p z)) f ∙ ap undone-by (sym e)
@@ -72,6 +80,8 @@ module _ (parents : ℕ) (s : List ℕ) where
   pub made-among : (x : Read) → Sound parents s x → MoveAmong (made-by x)
   made-among (read.Append k p n) h = h
   made-among (read.Spend p n) h = h
+  made-among (read.Unspend p n) h = h
+  made-among (read.Pop k p) h = h
   made-among read.Flush h = tt
   made-among (read.Change adding p n t k) h = h
   made-among read.Bad h = tt
@@ -81,6 +91,8 @@ module _ (parents : ℕ) (s : List ℕ) where
   pub undone-among : (x : Read) → Sound parents s x → MoveAmong (undone-by x)
   undone-among (read.Append k p n) h = h
   undone-among (read.Spend p n) h = h
+  undone-among (read.Unspend p n) h = tt
+  undone-among (read.Pop k p) h = tt
   undone-among read.Flush h = tt
   undone-among (read.Change adding p n t k) h = h
   undone-among read.Bad h = tt

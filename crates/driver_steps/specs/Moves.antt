@@ -23,16 +23,20 @@ move-of s (Balance adding p n t k) x = change-with adding p n (tokens-at s t (t 
 abbrev pub made-by : Read → Move
 made-by (read.Append k p n) = Segment (call.Append k p n)
 made-by (read.Spend p n) = Segment (call.Flip Spend p n)
+made-by (read.Unspend p n) = Segment (call.Flip Unspend p n)
+made-by (read.Pop k p) = Segment (call.Pop k p)
 made-by read.Flush = Segment call.Flush
 made-by (read.Change adding p n t k) = Balance adding p n t k
 made-by read.Bad = Segment call.Bad
 made-by read.Cut = Segment call.Cut
 made-by read.End = Segment call.End
 
--- "Undo means pop, unspend, `subtract_box` or `add_box` with the same arguments"
+-- "Undo means pop, unspend, `subtract_box` or `add_box` with the same arguments"; an unspend or a pop is not undone
 abbrev pub undone-by : Read → Move
 undone-by (read.Append k p n) = Segment (call.Pop k p)
 undone-by (read.Spend p n) = Segment (call.Flip Unspend p n)
+undone-by (read.Unspend p n) = Segment call.Bad
+undone-by (read.Pop k p) = Segment call.Bad
 undone-by read.Flush = Segment call.Flush
 undone-by (read.Change adding p n t k) = Balance (not adding) p n t k
 undone-by read.Bad = Segment call.Bad

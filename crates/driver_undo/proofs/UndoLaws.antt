@@ -31,6 +31,8 @@ module _ (s : State) (j : Journal) where
   none-item : (x : Read) → is-call x ≡ false → undoing s j 31 ≡ undo-newest (item-of (j .bytes) x) s j
   none-item (read.Append k p n) e = no e
   none-item (read.Spend p n) e = no e
+  none-item (read.Unspend p n) e = refl
+  none-item (read.Pop k p) e = refl
   none-item read.Flush e = refl
   none-item (read.Change a p n t k) e = no e
   none-item read.Bad e = refl
@@ -41,6 +43,8 @@ module _ (s : State) (j : Journal) where
   undone-item (read.Append Box p n) e = refl
   undone-item (read.Append Tx p n) e = refl
   undone-item (read.Spend p n) e = refl
+  undone-item (read.Unspend p n) e = no (sym e)
+  undone-item (read.Pop k p) e = no (sym e)
   undone-item read.Flush e = no (sym e)
   undone-item (read.Change true p n t k) e = refl
   undone-item (read.Change false p n t k) e = refl

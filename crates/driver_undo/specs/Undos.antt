@@ -6,7 +6,7 @@ use Rattle.call_steps.specs.State.{state}
 use Rattle.call_steps.specs.Steps.{lists-with}
 use Rattle.driver_core.specs.Bytes.{journal}
 use Rattle.driver_core.specs.Apply.{Undoing, undoing}
-use Rattle.driver_undo.specs.declared.Undone.{Undone}
+use Rattle.index_types.specs.declared.Undone.{Undone}
 
 abbrev pub undone : Undone → (ids : List ℕ) → (numbers : List ℤ) → (lengths : List ℕ) → (spills : List ℤ) → (staged table deleted entries : List ℕ) → Undoing
 undone r ids numbers lengths spills staged table deleted entries =

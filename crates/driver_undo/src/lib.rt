@@ -11,17 +11,9 @@ ghost use Rattle.driver_undo.specs.Undos.{undone};
 ghost use Rattle.driver_undo.specs.Internal.{turned, after-flush, after, undo-at, turn-of, UndoReady};
 use calls::Call;
 use driver_calls::HEADER_BYTES;
-use index_types::SpillCounts;
+use index_types::Undone;
 
-// What an undo leaves: the counts of the lists, the journal's bytes and its standing calls, and 0 or the refusal.
-pub struct Undone {
-    pub counts: SpillCounts,
-    pub used: usize,
-    pub standing: usize,
-    pub code: u8,
-}
-
-// The same, whether a flush came last, and whether the undos go on.
+// What an undo leaves, whether a flush came last, and whether the undos go on.
 pub struct Turned {
     pub undone: Undone,
     pub fresh: bool,
@@ -35,10 +27,10 @@ fn is_final(fresh: bool, code: u8) -> bool
     if fresh {
         return true;
     }
-    if code == 16 {
+    if code == refusal::STAGING_FULL {
         return false;
     }
-    if code == 21 {
+    if code == refusal::DELETED_FULL {
         return false;
     }
     true

@@ -29,6 +29,7 @@ pub fn flush_staged_spills(
         deleted_counts,
         deleted,
     ) {
+        let mut none = [0u16; 1];
         return flush_core::flush(
             edition,
             table,
@@ -37,6 +38,7 @@ pub fn flush_staged_spills(
             staged_counts,
             deleted,
             deleted_counts,
+            &mut none[..0],
         );
     }
     Flushed::Refused(refusal::BUFFERS)

@@ -39,7 +39,7 @@ module _ (v : RowEdition) where
   pub flush-ready : (b : Lists) → lists-ok (edition-of v) b ≡ true → FlushReady v b
   flush-ready b t =
       let f = lists-fit (edition-of v) b t in
-      record { in-table = f .in-table .bounds; in-staged = f .in-staged .bounds; in-deleted = f .in-deleted .bounds }
+      record { in-table = f .in-table .bounds; in-staged = f .in-staged .bounds; in-deleted = f .in-deleted .bounds; apart = f .in-table .apart }
 
   -- ---- the table, record by record
 

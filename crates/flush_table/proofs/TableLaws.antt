@@ -1,6 +1,6 @@
 -- Laws of the table of a flush: the turns of its loops, and the room that the new keys need.
 use Prim.Native.Nat.{ℕ, suc, _+_, _*_, _-_, _≤_, _<_}
-use mathlib.Core.Path.{_≡_, refl, sym, ap}
+use mathlib.Core.Path.{_≡_, refl, sym, ap, subst}
 use mathlib.Core.Bool.{Bool, true, false, not, _&&_, cond}
 use mathlib.Core.List.{List, [], _∷_, _++_}
 use native.Mathlib.Omega.{arith}
@@ -12,16 +12,17 @@ use Rattle.records.specs.declared.Found.{Found}
 use Rattle.records.specs.declared.Found.the-variants.{At, Nothing}
 use Rattle.index_types.specs.declared.ListCounts.{ListCounts}
 use Rattle.records.specs.Records.{records, keys, stored-row, record-of}
-use Rattle.records.specs.Find.{find-from, find-key, is-found}
+use Rattle.records.specs.Find.{find-from, find-key, is-found, distinct}
 use Rattle.records.specs.Changes.{slot, count-after, with-count, put-record}
 use Rattle.records.proofs.KeyLaws.{clash, PutCase, put-cases}
 use Rattle.records.proofs.Views.{put-at}
 use Rattle.records.proofs.TurnLaws.{records-step, records-past, keys-step, keys-past, found-in, below-mul}
 use Rattle.records.proofs.RecordLaws.{row-room, record-length, record-key}
-use Rattle.records.proofs.PutLaws.{keys-after-put}
+use Rattle.records.proofs.PutLaws.{keys-after-put, distinct-after-put}
+use Rattle.records.proofs.RemoveLaws.{distinct-after-remove}
 use Rattle.index_types.specs.declared.RowEdition.{RowEdition}
 use Rattle.buffer_core.specs.Edition.{edition-of, record-size}
-use Rattle.buffer_core.specs.Pop.{count-without}
+use Rattle.buffer_core.specs.Pop.{count-without, bytes-without}
 use Rattle.buffer_core.specs.Flush.{new-count, Listed, listed, put-staged, put-undeleted, remove-key, remove-keys}
 use Rattle.entries.specs.Tally.{one-if}
 use Rattle.buffer_core.proofs.SizeLaws.{sizes, slot-in}
@@ -173,6 +174,21 @@ module _ (v : RowEdition) where
             by-put (PutCase.replaced j h e f p) = rw (p, f) (omega arith)
             by-put (PutCase.added q f p) = rw (p, f) (omega (arith, new-less (keys size n l) deleted ks key))
 
+    -- no key stands twice afterwards
+    pub put-apart : distinct (keys size n l) ≡ true
+        → distinct (keys size (put-unless-deleted v deleted (take size (drop at staged)) (listed (with-count n c) l) .counts .count) (put-unless-deleted v deleted (take size (drop at staged)) (listed (with-count n c) l) .bytes))
+        ≡ true
+    unfolding put-unless-deleted put-staged
+    put-apart apart = rw (take-take 32 size (drop at staged) (omega (arith, big))) (by-test (is-found (find-key key deleted)) refl)
+      where
+        by-test : (t : Bool) → is-found (find-key key deleted) ≡ t
+            → distinct (keys size (cond t (listed (with-count n c) l) put-new .counts .count) (cond t (listed (with-count n c) l) put-new .bytes)) ≡ true
+        by-test true d = apart
+        by-test false d =
+            let s = slot-new n key l deleted d room in
+            let r = row-room size (take size (drop at staged)) big (len-part size (omega arith)) in
+            distinct-after-put size n key (record-of size key row) l (record-length size key row (len-part 32 (omega (arith, big))) r) (record-key size key row (len-part 32 (omega (arith, big)))) (s .0) (s .1) apart
+
   module _ (deleted : List (List ℕ)) (m i at n : ℕ) (staged l : List ℕ) (c : ListCounts) (k : i < m) (total : ℕ)
       (still : n + new-count (keys size n l) deleted (keys size (m - i) (drop at staged)) ≤ total) where
     pub room-now : total * size ≤ length l → (n + one-if (is-new (keys size n l) deleted (take 32 (drop at staged)))) * size ≤ length l
@@ -190,6 +206,24 @@ module _ (v : RowEdition) where
         ≤ n + (one-if (is-new (keys size n l) deleted (take 32 (drop at staged))) + new-count (keys size n l) deleted (keys size (m - (i + 1)) (drop (at + size) staged)))
         = rw (sym e) at p in
         omega arith
+
+    pub turn-apart : at + size ≤ length staged → total * size ≤ length l → distinct (keys size n l) ≡ true → (n′ : ℕ) (l′ : List ℕ)
+        → listed (with-count n′ c) l′ ≡ put-unless-deleted v deleted (take size (drop at staged)) (listed (with-count n c) l) → distinct (keys size n′ l′) ≡ true
+    turn-apart b w apart n′ l′ e = rw (sym e) at (put-apart n at staged l deleted c b (room-now w) apart)
+
+  -- a removal makes no key stand twice
+  pub remove-apart : (k : List ℕ) (n n′ : ℕ) (l l′ : List ℕ) (c : ListCounts) → listed (with-count n′ c) l′ ≡ remove-key (edition-of v) k (listed (with-count n c) l)
+      → n * size ≤ length l → distinct (keys size n l) ≡ true → distinct (keys size n′ l′) ≡ true
+  unfolding remove-key
+  remove-apart k n n′ l l′ c e h apart = by-case (find-key k (keys size n l)) refl e
+    where
+      by-case : (f : Found) → f ≡ find-key k (keys size n l)
+          → listed (with-count n′ c) l′ ≡ listed (count-without f (with-count n c)) (bytes-without size f (with-count n c) l)
+          → distinct (keys size n′ l′) ≡ true
+      by-case (At i) g e =
+          subst (λ (t : Listed). distinct (keys size (t .counts .count) (t .bytes)) ≡ true) (sym e)
+          (distinct-after-remove size n i l (found-in k size n l i (At i) g refl) h apart)
+      by-case Nothing g e = subst (λ (t : Listed). distinct (keys size (t .counts .count) (t .bytes)) ≡ true) (sym e) apart
 
   pub remove-within : (k : List ℕ) (n n′ : ℕ) (l l′ : List ℕ) (c : ListCounts) (len : ℕ) → listed (with-count n′ c) l′ ≡ remove-key (edition-of v) k (listed (with-count n c) l)
       → n * size ≤ len → n′ * size ≤ len

@@ -1,9 +1,10 @@
-// What a flush that has room makes of the table: staged rows whose key is not deleted go to it, then the deleted keys leave it.
+// What a flush that has room makes of the table: staged rows whose key is not deleted go to it, then the deleted keys leave it. Records are found by hints (`record_hints`).
 ghost use mathlib.Core.Path.{_≡_};
+ghost use mathlib.Core.Bool.{true};
 ghost use Prim.Native.Nat.{_+_, _*_, _≤_};
 ghost use lib.ListN.{length, take, drop};
 ghost use Rattle.records.specs.Records.{records, keys};
-ghost use Rattle.records.specs.Find.{find-key, is-found};
+ghost use Rattle.records.specs.Find.{find-key, is-found, distinct};
 ghost use Rattle.records.specs.Changes.{with-count};
 ghost use Rattle.buffer_core.specs.Edition.{edition-of, record-size};
 ghost use Rattle.buffer_core.specs.Flush.{new-count, listed, put-undeleted, remove-key, remove-keys};
@@ -34,10 +35,11 @@ fn put_unless_deleted(
     at: usize,
     deleted: &[u8],
     deleted_count: usize,
+    hints: &mut [u16],
 ) -> usize
     requires { ⌜ (at + record-size edition ≤ length (now staged)) × («deleted_count» * 32 ≤ length (now deleted))
         × ((counts .count + one-if (is-new (keys (record-size edition) (counts .count) (now table)) (keys 32 «deleted_count» (now deleted)) (take 32 (drop at (now staged))))) * record-size edition
-        ≤ length (now table)) ⌝ }
+        ≤ length (now table)) × (distinct (keys (record-size edition) (counts .count) (now table)) ≡ true) ⌝ }
     ensures { λ r. ⌜ listed (with-count r counts) (now (table .exit))
         ≡ put-unless-deleted edition (keys 32 «deleted_count» (now (deleted .entry))) (take (record-size edition) (drop at (now (staged .entry)))) (listed counts (now (table .entry))) ⌝ }
 {
@@ -48,7 +50,7 @@ fn put_unless_deleted(
     }
     let size = buffer_core::record_size(edition);
     let row = records::row_part(staged, at, size);
-    record_changes::put(table, size, count, &staged[at..end], row)
+    hinted_changes::put(table, size, count, &staged[at..end], row, hints)
 }
 
 // Puts the staged records whose key is not deleted into the table, in list order. Returns the table's count.
@@ -60,13 +62,14 @@ fn put_undeleted(
     staged_count: usize,
     deleted: &[u8],
     deleted_count: usize,
+    hints: &mut [u16],
 ) -> usize
     requires { ⌜ («staged_count» * record-size edition ≤ length (now staged)) × («deleted_count» * 32 ≤ length (now deleted))
         × ((counts .count + new-count (keys (record-size edition) (counts .count) (now table)) (keys 32 «deleted_count» (now deleted)) (keys (record-size edition) «staged_count» (now staged))) * record-size edition
-        ≤ length (now table)) ⌝ }
+        ≤ length (now table)) × (distinct (keys (record-size edition) (counts .count) (now table)) ≡ true) ⌝ }
     ensures { λ r. ⌜ (listed (with-count r counts) (now (table .exit))
         ≡ put-undeleted (edition-of edition) (keys 32 «deleted_count» (now (deleted .entry))) (records (record-size edition) «staged_count» (now (staged .entry))) (listed counts (now (table .entry))))
-        × (r * record-size edition ≤ length (now (table .exit))) ⌝ }
+        × (r * record-size edition ≤ length (now (table .exit))) × (distinct (keys (record-size edition) r (now (table .exit))) ≡ true) ⌝ }
 {
     let size = buffer_core::record_size(edition);
     let mut n = counts.count;
@@ -85,6 +88,7 @@ fn put_undeleted(
             at,
             deleted,
             deleted_count,
+            hints,
         );
         i += 1;
         at += size;
@@ -93,16 +97,23 @@ fn put_undeleted(
 }
 
 // Removes the record of a key, if it is there. Returns the list's count.
-fn remove_key(edition: RowEdition, list: &mut [u8], counts: ListCounts, key: &[u8]) -> usize
-    requires { ⌜ counts .count * record-size edition ≤ length (now list) ⌝ }
+fn remove_key(
+    edition: RowEdition,
+    list: &mut [u8],
+    counts: ListCounts,
+    key: &[u8],
+    hints: &mut [u16],
+) -> usize
+    requires { ⌜ (counts .count * record-size edition ≤ length (now list)) × (length (now key) ≡ 32)
+        × (distinct (keys (record-size edition) (counts .count) (now list)) ≡ true) ⌝ }
     ensures { λ r. ⌜ listed (with-count r counts) (now (list .exit)) ≡ remove-key (edition-of edition) (now (key .entry)) (listed counts (now (list .entry))) ⌝ }
 {
     let size = buffer_core::record_size(edition);
     let count = counts.count;
-    let found = records::find(list, size, count, key);
+    let found = record_hints::find_hinted(list, size, count, key, hints);
     match found {
         Found::At(i) => {
-            record_changes::remove(list, size, count, i);
+            hinted_changes::remove(list, size, count, i, hints);
             count - 1
         }
         Found::Nothing => count,
@@ -116,8 +127,10 @@ fn remove_deleted(
     counts: ListCounts,
     deleted: &[u8],
     deleted_count: usize,
+    hints: &mut [u16],
 ) -> usize
-    requires { ⌜ (counts .count * record-size edition ≤ length (now table)) × («deleted_count» * 32 ≤ length (now deleted)) ⌝ }
+    requires { ⌜ (counts .count * record-size edition ≤ length (now table)) × («deleted_count» * 32 ≤ length (now deleted))
+        × (distinct (keys (record-size edition) (counts .count) (now table)) ≡ true) ⌝ }
     ensures { λ r. ⌜ listed (with-count r counts) (now (table .exit)) ≡ remove-keys (edition-of edition) (keys 32 «deleted_count» (now (deleted .entry))) (listed counts (now (table .entry))) ⌝ }
 {
     let mut n = counts.count;
@@ -129,7 +142,7 @@ fn remove_deleted(
             count: n,
             capacity: counts.capacity,
         };
-        n = remove_key(edition, table, now_counts, &deleted[at..end]);
+        n = remove_key(edition, table, now_counts, &deleted[at..end], hints);
         i += 1;
         at = end;
     }
@@ -145,10 +158,11 @@ pub fn flush_table(
     staged_count: usize,
     deleted: &[u8],
     deleted_count: usize,
+    hints: &mut [u16],
 ) -> usize
     requires { ⌜ («staged_count» * record-size edition ≤ length (now staged)) × («deleted_count» * 32 ≤ length (now deleted))
         × ((counts .count + new-count (keys (record-size edition) (counts .count) (now table)) (keys 32 «deleted_count» (now deleted)) (keys (record-size edition) «staged_count» (now staged))) * record-size edition
-        ≤ length (now table)) ⌝ }
+        ≤ length (now table)) × (distinct (keys (record-size edition) (counts .count) (now table)) ≡ true) ⌝ }
     ensures { λ r. ⌜ listed (with-count r counts) (now (table .exit))
         ≡ remove-keys (edition-of edition) (keys 32 «deleted_count» (now (deleted .entry)))
         (put-undeleted (edition-of edition) (keys 32 «deleted_count» (now (deleted .entry))) (records (record-size edition) «staged_count» (now (staged .entry))) (listed counts (now (table .entry)))) ⌝ }
@@ -162,10 +176,11 @@ pub fn flush_table(
         staged_count,
         deleted,
         deleted_count,
+        hints,
     );
     let put_counts = ListCounts {
         count: put,
         capacity: capacity,
     };
-    remove_deleted(edition, table, put_counts, deleted, deleted_count)
+    remove_deleted(edition, table, put_counts, deleted, deleted_count, hints)
 }

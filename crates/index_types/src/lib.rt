@@ -22,6 +22,17 @@ pub const SUMMARY_LINE: usize = 5;
 // The most numbers of a flat list.
 pub const FLAT_LIMIT: usize = 4096;
 
+// ---- how a batch of a driver's calls ends where no refusal ends it: the answers have no more room; at the end of the input; inside a call; the journal has no
+// room for the next call
+
+pub const ANSWERS_FULL: u8 = 0;
+
+pub const END_OF_INPUT: u8 = 1;
+
+pub const CUT_CALL: u8 = 2;
+
+pub const JOURNAL_FULL: u8 = 3;
+
 // ---- types
 
 // An edition of the spill rows. The second writes the parent, the kind and the spill number before the body.
@@ -190,4 +201,24 @@ pub enum Ranked {
 pub enum Missing {
     Nothing,
     Spill(usize),
+}
+
+// How far a batch of a driver's calls has come: the counts of the lists, the next byte, the calls made, the journal's bytes and its standing calls, and how it
+// ended: one of the numbers above; the refusal 12, 16, 21 or 22 that the call at the next byte said, which the driver lifts; 31 at what is no call; or 25 where
+// the state or the journal was refused and no call made.
+pub struct Applied {
+    pub counts: SpillCounts,
+    pub at: usize,
+    pub made: usize,
+    pub used: usize,
+    pub standing: usize,
+    pub ended: u8,
+}
+
+// What an undo of a driver's calls leaves: the counts of the lists, the journal's bytes and its standing calls, and 0 or the refusal.
+pub struct Undone {
+    pub counts: SpillCounts,
+    pub used: usize,
+    pub standing: usize,
+    pub code: u8,
 }

@@ -29,6 +29,25 @@ fn count_with(found: Found, count: usize) -> usize
     }
 }
 
+// Puts a row under a key that was looked for, in the place of the row that it had, or last. Returns the number of records.
+pub fn put_found(
+    list: &mut [u8],
+    size: usize,
+    count: usize,
+    found: Found,
+    key: &[u8],
+    row: &[u8],
+) -> usize
+    requires { ⌜ (count * size ≤ length (now list)) × (length (now key) ≡ 32) × (34 + length (now row) ≤ size)
+        × (slot found count * size + size ≤ length (now list)) × (found ≡ find-key (now key) (keys size count (now list))) ⌝ }
+    ensures { λ r. ⌜ (r ≡ count-after (find-key (now (key .entry)) (keys size count (now (list .entry)))) count)
+        × (now (list .exit) ≡ put-record size count (now (key .entry)) (record-of size (now (key .entry)) (now (row .entry))) (now (list .entry))) ⌝ }
+{
+    let index = slot_of(found, count);
+    record_writing::store(list, index * size, size, key, row);
+    count_with(found, count)
+}
+
 // Puts a row under a key, in the place of the row that it had, or last. Returns the number of records.
 pub fn put(list: &mut [u8], size: usize, count: usize, key: &[u8], row: &[u8]) -> usize
     requires { ⌜ (count * size ≤ length (now list)) × (length (now key) ≡ 32) × (34 + length (now row) ≤ size)
@@ -37,9 +56,7 @@ pub fn put(list: &mut [u8], size: usize, count: usize, key: &[u8], row: &[u8]) -
         × (now (list .exit) ≡ put-record size count (now (key .entry)) (record-of size (now (key .entry)) (now (row .entry))) (now (list .entry))) ⌝ }
 {
     let found = records::find(list, size, count, key);
-    let index = slot_of(found, count);
-    record_writing::store(list, index * size, size, key, row);
-    count_with(found, count)
+    put_found(list, size, count, found, key, row)
 }
 
 // Puts a key into a list of keys. Returns the number of keys.

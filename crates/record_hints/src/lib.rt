@@ -73,6 +73,54 @@ pub fn note_places(list: &[u8], size: usize, count: usize, hints: &mut [u16])
     }
 }
 
+// Notes that the record of a key stands at an index. It is not noted where the key's slots are taken, nor behind the first 65,535 records.
+pub fn note_key(key: &[u8], index: usize, hints: &mut [u16])
+    requires { ⌜ 32 ≤ length (now key) ⌝ }
+{
+    if hints.len() == 0 {
+        return;
+    }
+    if 65535 <= index {
+        return;
+    }
+    note_place(key, 0, index, hints);
+}
+
+// Puts a hint in the place of another one, if that stands in a slot.
+fn change_in(hints: &mut [u16], slot: usize, old: usize, new: usize)
+    requires { ⌜ (slot < length (now hints)) × (new < 65536) ⌝ }
+{
+    if hints[slot] as usize == old {
+        hints[slot] = new as u16;
+    }
+}
+
+// Puts a hint in the place of another one in the slots of the key at a position.
+fn change_place(list: &[u8], at: usize, old: usize, new: usize, hints: &mut [u16])
+    requires { ⌜ (at + 32 ≤ length (now list)) × (new < 65536) × (0 < length (now hints)) ⌝ }
+{
+    let slots = hints.len();
+    let first = slot_at(list, at, slots);
+    change_in(hints, first, old, new);
+    let second = slot_at(list, at + 2, slots);
+    change_in(hints, second, old, new);
+}
+
+// Notes what the removal of the record with an index will do: its hint goes, and that of the last record names the index.
+pub fn note_removal(list: &[u8], size: usize, count: usize, index: usize, hints: &mut [u16])
+    requires { ⌜ (32 ≤ size) × (count * size ≤ length (now list)) × (index < count) ⌝ }
+{
+    if hints.len() == 0 {
+        return;
+    }
+    if 65535 <= index {
+        return;
+    }
+    let hint = index + 1;
+    change_place(list, index * size, hint, 0, hints);
+    change_place(list, (count - 1) * size, count, hint, hints);
+}
+
 // ---- finding
 
 // The hint in the slot of a key that two of its bytes name.
@@ -98,7 +146,7 @@ fn holds_at(list: &[u8], size: usize, count: usize, hint: usize, key: &[u8]) -> 
 }
 
 // The index of the record with the key. The records that the hints name are compared first.
-fn find_hinted(list: &[u8], size: usize, count: usize, key: &[u8], hints: &[u16]) -> Found
+pub fn find_hinted(list: &[u8], size: usize, count: usize, key: &[u8], hints: &[u16]) -> Found
     requires { ⌜ (32 ≤ size) × (count * size ≤ length (now list)) × (length (now key) ≡ 32) × (distinct (keys size count (now list)) ≡ true) ⌝ }
     ensures { λ r. ⌜ r ≡ find-key (now (key .entry)) (keys size count (now (list .entry))) ⌝ }
 {

@@ -8,15 +8,13 @@ ghost use Rattle.index_types.specs.declared.RowEdition.the-variants.{One, Two};
 ghost use Rattle.segment_core.specs.Reading.{segment-at, ended};
 ghost use Rattle.row_converters.specs.Convert.{convert};
 ghost use Rattle.row_converters.specs.Internal.{body-answer};
+use buffer_core::LONGEST_ROW;
 use index_types::Loaded;
 use index_types::SEGMENT_THRESHOLD;
 use index_types::Wrote;
 use refusal::Answer;
 use segment_core::ROW_LIMIT;
 use vlq_core::Got;
-
-// The most bytes of a row of the second edition.
-const SECOND_ROW_LIMIT: usize = 10292;
 
 // Whether the bytes from a position on are a body that ends the row.
 fn check_body(row: &[u8], at: usize) -> Answer
@@ -64,7 +62,7 @@ pub fn row_to_second(row: &[u8], parent: &[u8; 32], kind: u8, number: i32, out: 
 pub fn row_to_first(row: &[u8], parent: &[u8; 32], kind: u8, number: i32, out: &mut [u8]) -> Wrote
     ensures { λ r. ⌜ written r (now (out .exit)) ≡ convert Two One (now (parent .entry)) kind number (now (row .entry)) (now (out .entry)) ⌝ }
 {
-    if SECOND_ROW_LIMIT < row.len() {
+    if LONGEST_ROW < row.len() {
         return Wrote::Refused(refusal::BUFFERS);
     }
     match vlq_reading::get_coded_32(row, row_fronts::NUMBER_AT) {

@@ -1,10 +1,8 @@
-// One call on the runner's state, once refusal 25 has passed, and the hints of where the table's records stand (`record_hints`), noted anew after a flush.
+// One call on the runner's state, once refusal 25 has passed, and the hints of where the table's records stand (`record_hints`), which a flush keeps.
 ghost use mathlib.Core.Path.{_≡_};
-ghost use mathlib.Core.Bool.{true};
 ghost use Rattle.buffer_core.specs.Edition.{edition-1};
-ghost use Rattle.buffer_core.specs.Pop.{lists-ok};
 ghost use Rattle.call_steps.specs.State.{state};
-ghost use Rattle.call_steps.specs.Steps.{left-by, lists-with, step-of, flush-step, flush-by, StepReady};
+ghost use Rattle.call_steps.specs.Steps.{left-by, lists-with, step-of, StepReady};
 ghost use Rattle.run_steps.specs.Undoes.{Undoes};
 use call_steps::Stepped;
 use calls::Call;
@@ -18,24 +16,6 @@ pub fn note_table(counts: SpillCounts, table: &[u8], hints: &mut [u16]) {
         return;
     }
     record_hints::note_places(table, buffer_core::RECORD, count, hints);
-}
-
-// A flush, and where the records of the table then stand.
-fn flush_noted(
-    table: &mut [u8],
-    staged: &mut [u8],
-    deleted: &mut [u8],
-    hints: &mut [u16],
-    counts: SpillCounts,
-) -> Stepped
-    requires { ⌜ lists-ok edition-1 (lists-with counts (now staged) (now table) (now deleted)) ≡ true ⌝ }
-    ensures { λ r. ⌜ flush-step r (now (table .exit)) (now (staged .exit)) (now (deleted .exit))
-        ≡ flush-by edition-1 (lists-with counts (now (staged .entry)) (now (table .entry)) (now (deleted .entry))) ⌝ }
-{
-    let s = segment_steps::flush_step(table, staged, deleted, counts);
-    let after = s.counts;
-    note_table(after, table, hints);
-    s
 }
 
 // Makes a call as the single functions define it.
@@ -93,7 +73,7 @@ pub fn step(
             deleted,
             counts,
         ),
-        Call::Flush => flush_noted(table, staged, deleted, hints, counts),
+        Call::Flush => segment_steps::flush_step(table, staged, deleted, hints, counts),
         Call::Change(adding, p, nanos, token, amount) => {
             let said = balance_steps::change_step(
                 adding,
@@ -158,7 +138,7 @@ pub fn undo_step(
             deleted,
             counts,
         ),
-        Call::Flush => flush_noted(table, staged, deleted, hints, counts),
+        Call::Flush => segment_steps::flush_step(table, staged, deleted, hints, counts),
         Call::Change(_, _, _, _, _) => run_answers::no_call(counts),
         Call::Bad => run_answers::no_call(counts),
         Call::Cut => run_answers::no_call(counts),

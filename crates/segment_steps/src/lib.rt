@@ -132,11 +132,12 @@ pub fn pop_step(
     call_steps::after_pop(r, kind, p, counts, lengths, spills)
 }
 
-// Flushes the staged and the deleted spills of all parents.
+// Flushes the staged and the deleted spills of all parents. The hints say where the table's records may stand, and stay so.
 pub fn flush_step(
     table: &mut [u8],
     staged: &mut [u8],
     deleted: &mut [u8],
+    hints: &mut [u16],
     counts: SpillCounts,
 ) -> Stepped
     requires { ⌜ lists-ok edition-1 (lists-with counts (now staged) (now table) (now deleted)) ≡ true ⌝ }
@@ -154,6 +155,7 @@ pub fn flush_step(
         staged_counts,
         deleted,
         deleted_counts,
+        hints,
     );
     call_steps::after_flush(r, counts)
 }

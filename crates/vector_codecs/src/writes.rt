@@ -5,6 +5,7 @@ ghost use lib.ListN.{length};
 use balance::Balance;
 use index_types::ADDRESS_LIMIT;
 use index_types::Wrote;
+use segment_core::ROW_LIMIT;
 
 fn written(name: &[u8], wrote: Wrote, out: &[u8]) {
     match wrote {
@@ -95,7 +96,7 @@ fn write_row(name: &[u8], shape: Shape, txs: &[i64], boxes: &[i64], out: &mut [u
 pub fn row(name: &[u8], s: &[u8]) {
     let mut txs = [0i64; 513];
     let mut boxes = [0i64; 513];
-    let mut out = [0u8; 10254];
+    let mut out = [0u8; ROW_LIMIT];
     let shape = shape_at(s, 0);
     let t = vector_fields::numbers_at(s, shape.next, &mut txs);
     let b = vector_fields::numbers_at(s, t.next, &mut boxes);

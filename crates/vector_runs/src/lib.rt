@@ -4,6 +4,12 @@ ghost use Prim.Native.Nat.{_<_};
 use call_steps::AMOUNTS_AT;
 use call_steps::NANOS_AT;
 use call_steps::PARENT_NUMBERS;
+use runner_start::ALL_LENGTHS;
+use runner_start::ALL_NUMBERS;
+use runner_start::ALL_SPILLS;
+use runner_start::DELETED_BYTES;
+use runner_start::STAGED_BYTES;
+use runner_start::TABLE_BYTES;
 
 fn answer(code: u8, popped: bool, number: i64) {
     vector_line::code(code);
@@ -30,7 +36,12 @@ fn head(len: usize, spills: i32) {
 }
 
 // A parent's heads, boxes first, with their spill counts, its nanoErgs and its token count.
-fn parent(p: usize, numbers: &[i64; 2306], lengths: &[usize; 6], spills: &[i32; 4])
+fn parent(
+    p: usize,
+    numbers: &[i64; ALL_NUMBERS],
+    lengths: &[usize; ALL_LENGTHS],
+    spills: &[i32; ALL_SPILLS],
+)
     requires { ⌜ p < 2 ⌝ }
 {
     head(lengths[p * 3], spills[p * 2]);
@@ -42,12 +53,12 @@ fn parent(p: usize, numbers: &[i64; 2306], lengths: &[usize; 6], spills: &[i32; 
 // Makes the calls of a history on two parents, from the empty state of the call runner.
 pub fn run(name: &[u8], s: &[u8]) {
     let mut ids = runner_start::parent_ids();
-    let mut numbers = [0i64; 2306];
-    let mut lengths = [0usize; 6];
-    let mut spills = [0i32; 4];
-    let mut staged = [0u8; 10288];
-    let mut table = [0u8; 20576];
-    let mut deleted = [0u8; 64];
+    let mut numbers = [0i64; ALL_NUMBERS];
+    let mut lengths = [0usize; ALL_LENGTHS];
+    let mut spills = [0i32; ALL_SPILLS];
+    let mut staged = [0u8; STAGED_BYTES];
+    let mut table = [0u8; TABLE_BYTES];
+    let mut deleted = [0u8; DELETED_BYTES];
     let mut codes = [0u8; 2048];
     let mut popped = [0i64; AMOUNTS_AT];
     let counts = runner_start::empty_lists();

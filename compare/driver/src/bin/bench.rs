@@ -17,7 +17,7 @@ use driver::index::{
 };
 use driver::measure::{both, keep, line, plot, shown, thread_time, Curve, Times, ROUNDS};
 use driver::sides::Sides;
-use driver::{editions, loads, summaries, tables};
+use driver::{blocks, editions, loads, summaries, tables};
 use reference::address::BalanceInfo;
 use reference::segment::Segment;
 use reference::{calls, Digest32, VlqWriter};
@@ -398,6 +398,13 @@ fn main() {
     if folder.as_deref() == Some("--editions") {
         return editions::lines();
     }
+    if folder.as_deref() == Some("--singles") {
+        appends();
+        return balances();
+    }
+    if folder.as_deref() == Some("--blocks") {
+        return blocks::lines();
+    }
     if folder.as_deref() == Some("--summaries") {
         summaries::lines();
         return;
@@ -412,6 +419,7 @@ fn main() {
     let records = tables::by_rows();
     tables::by_room();
     loads::in_batches();
+    blocks::lines();
     tables::pages();
     editions::lines();
     let with_summaries = summaries::lines();

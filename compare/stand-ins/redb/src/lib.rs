@@ -2,6 +2,7 @@
 
 use std::cell::RefCell;
 use std::collections::btree_map::{self, BTreeMap};
+use std::collections::BTreeSet;
 use std::marker::PhantomData;
 use std::path::Path;
 use std::rc::Rc;
@@ -112,6 +113,8 @@ impl WriteTransaction {
         });
         Ok(Table {
             rows: Rc::clone(rows),
+            below: None,
+            removed: BTreeSet::new(),
             of: PhantomData,
         })
     }
@@ -134,24 +137,63 @@ impl ReadTransaction {
         let rows = self.tables.get(table.name).cloned().unwrap_or_default();
         Ok(Table {
             rows: Rc::new(RefCell::new(rows)),
+            below: None,
+            removed: BTreeSet::new(),
             of: PhantomData,
         })
     }
 }
 
+/// Rows that are kept elsewhere, under those that a table holds.
+pub trait Kept {
+    fn get(&self, key: &[u8]) -> Option<Vec<u8>>;
+}
+
 pub struct Table<K, V> {
     rows: Rc<RefCell<Rows>>,
+    below: Option<Box<dyn Kept>>,
+    removed: BTreeSet<Bytes>,
     of: PhantomData<fn(K) -> V>,
 }
 
 impl<K: Stored, V: Stored> Table<K, V> {
+    /// A table that reads the rows kept elsewhere, and holds what changes.
+    pub fn over(below: Box<dyn Kept>) -> Self {
+        Table {
+            rows: Rc::default(),
+            below: Some(below),
+            removed: BTreeSet::new(),
+            of: PhantomData,
+        }
+    }
+
+    /// What has changed over the rows kept elsewhere, each key with its row or none: it is held no longer.
+    pub fn take_changes(&mut self) -> Vec<(Vec<u8>, Option<Vec<u8>>)> {
+        let put = self
+            .rows
+            .take()
+            .into_iter()
+            .map(|(key, row)| (key.to_vec(), Some(row.to_vec())));
+        let removed = std::mem::take(&mut self.removed).into_iter().map(|key| (key.to_vec(), None));
+        removed.chain(put).collect()
+    }
+
     pub fn insert<'k, 'v>(&mut self, key: K::Of<'k>, value: V::Of<'v>) -> Result<(), StorageError> {
-        self.rows.borrow_mut().insert(K::bytes_of(key), V::bytes_of(value));
+        let key = K::bytes_of(key);
+        if self.below.is_some() {
+            self.removed.remove(&key);
+        }
+        self.rows.borrow_mut().insert(key, V::bytes_of(value));
         Ok(())
     }
 
     pub fn remove<'k>(&mut self, key: K::Of<'k>) -> Result<bool, StorageError> {
-        Ok(self.rows.borrow_mut().remove(&K::bytes_of(key)).is_some())
+        let key = K::bytes_of(key);
+        let held = self.rows.borrow_mut().remove(&key).is_some();
+        if self.below.is_some() {
+            self.removed.insert(key);
+        }
+        Ok(held)
     }
 
     pub fn retain(&mut self, mut keeps: impl for<'f> FnMut(K::Of<'f>, V::Of<'f>) -> bool) -> Result<(), StorageError> {
@@ -184,7 +226,16 @@ pub trait ReadableTable<K: Stored, V: Stored> {
 
 impl<K: Stored, V: Stored> Table<K, V> {
     pub fn get<'k>(&self, key: K::Of<'k>) -> Result<Option<AccessGuard<V>>, StorageError> {
-        Ok(K::row(&self.rows.borrow(), key).map(AccessGuard::new))
+        let Some(below) = &self.below else {
+            return Ok(K::row(&self.rows.borrow(), key).map(AccessGuard::new));
+        };
+        let key = K::bytes_of(key);
+        let held = self.rows.borrow().get(&key).cloned();
+        let kept = || {
+            let there = !self.removed.contains(&key);
+            there.then(|| below.get(&key)).flatten().map(Bytes::from)
+        };
+        Ok(held.or_else(kept).map(AccessGuard::new))
     }
 }
 

@@ -1,32 +1,21 @@
-use native.Mathlib.Omega.{arith}
+-- Either way answers the same.
 use Prim.Native.Nat.{_+_, _*_}
-use mathlib.Core.Path.{_≡_}
+use mathlib.Core.Path.{ap, _∙_}
+use lib.IntN.{ℤ}
 use mir.Syntax.{w64}
 use denote.Ref.{now}
-use borrow.Author.Needs.{needs}
 use Rattle.signed.proofs.SignedLaws.{back}
 use Rattle.driver_core.specs.Bytes.{tokens-at}
-use Rattle.driver_changes.proofs.TokenLaws.{change-tokens-law}
+use Rattle.driver_changes.specs.Internal.{change-tokens-of}
+use borrow.Author.Needs.{needs}
 use Rattle.driver_changes.proofs.change_with.Statement.{statement}
 use Rattle.driver_changes.proofs.change_with.Tie as tie
 
-read-balance-requires : tie.Need-read-balance-requires
-read-balance-requires c κs = search needs
+change-few-requires : tie.Need-change-few-requires
+change-few-requires c κs = search needs
 
-mul-change-box : tie.Need-mul-change-box
-mul-change-box c = search needs
-
-add-change-box : tie.Need-add-change-box
-add-change-box c = search needs
-
-change-box-requires : tie.Need-change-box-requires
-change-box-requires c κs = search needs
-
-write-balance-requires : tie.Need-write-balance-requires
-write-balance-requires c κs = search needs
-
-said-by-requires : tie.Need-said-by-requires
-said-by-requires c κs = search needs
+change-many-requires : tie.Need-change-many-requires
+change-many-requires c κs = search needs
 
 same-length : tie.Need-same-length
 same-length c = search needs
@@ -39,22 +28,36 @@ same-length-3 c = search needs
 
 returns : tie.Need-returns
 returns c =
-    let s = c .before .before .before .before .before .before .before .before .before .before .before .before .before .before .before .before .before .before .before in
+    let s = c .before .before .before .before .before .before .before .before .before .before .before .before .before in
     let a = s .args in
-    change-tokens-law (a .adding) (a .p) (a .nanos) _ (tokens-at (now (a .s)) (a .t) (a .t + a .n * 32) (a .n)) (now (a .ids)) (now (a .numbers)) (now (a .lengths)) _ _ _ _ _ _ (c .before .before .before .before .before .before .before .before .before .before .before .before .read-balance .ensures)
-    (back w64 (a .nanos) (s .fits .nanos)) (c .before .before .before .before .before .before .before .before .before .before .before .change-box .ensures) (c .before .before .before .before .before .before .write-balance .ensures) (c .said-by .ensures)
+    c .before .before .before .before .before .change-few .ensures ∙ ap (λ (z : ℤ). change-tokens-of (a .adding) (a .p) z (tokens-at (now (a .s)) (a .t) (a .t + a .n * 32) (a .n)) (now (a .ids)) (now (a .numbers)) (now (a .lengths))) (back w64 (a .nanos) (s .fits .nanos))
+
+same-length-4 : tie.Need-same-length-4
+same-length-4 c = search needs
+
+same-length-5 : tie.Need-same-length-5
+same-length-5 c = search needs
+
+same-length-6 : tie.Need-same-length-6
+same-length-6 c = search needs
+
+returns-2 : tie.Need-returns-2
+returns-2 c =
+    let s = c .before .before .before .before .before .before .before .before .before .before .before .before .before in
+    let a = s .args in
+    c .before .before .before .before .before .change-many .ensures ∙ ap (λ (z : ℤ). change-tokens-of (a .adding) (a .p) z (tokens-at (now (a .s)) (a .t) (a .t + a .n * 32) (a .n)) (now (a .ids)) (now (a .numbers)) (now (a .lengths))) (back w64 (a .nanos) (s .fits .nanos))
 
 pub change-with-spec : {M : Type 1} → statement M
 change-with-spec =
     tie.close
     (tie.spec
-    read-balance-requires
-    mul-change-box
-    add-change-box
-    change-box-requires
-    write-balance-requires
-    said-by-requires
+    change-few-requires
+    change-many-requires
     same-length
     same-length-2
     same-length-3
-    returns)
+    returns
+    same-length-4
+    same-length-5
+    same-length-6
+    returns-2)

@@ -39,16 +39,10 @@ returns c =
     let a = c .before .before .before .before .before .before .before .before .before .before .before .before .before .before .before .before .args in
     undo-marked (a .parents) (a .mark) (state (now (a .ids)) (now (a .numbers)) (now (a .lengths)) (now (a .spills)) (lists-with (a .counts) (now (a .staged)) (now (a .table)) (now (a .deleted)))) (journal (now (a .entries)) (a .used) (a .standing)) (sym (c .before .before .driver-ok .ensures) ∙ c .before .if1 .taken) (c .if2 .taken)
 
-array-borrow-prefix-none : tie.Need-array-borrow-prefix-none
-array-borrow-prefix-none c = search needs
-
-slice-aggregate-undo-flushed : tie.Need-slice-aggregate-undo-flushed
-slice-aggregate-undo-flushed c = search needs
-
-undo-flushed-requires : tie.Need-undo-flushed-requires
-undo-flushed-requires c κs =
-    let a = c .before .before .before .before .before .before .before .before .before .before .before .before .before .before .before .before .before .before .before .before .before .before .before .before .args in
-    undo-ready-when (a .parents) (a .mark) (state (now (a .ids)) (now (a .numbers)) (now (a .lengths)) (now (a .spills)) (lists-with (a .counts) (now (a .staged)) (now (a .table)) (now (a .deleted)))) (journal (now (a .entries)) (a .used) (a .standing)) (sym (c .before .before .before .before .before .before .before .before .before .before .driver-ok .ensures) ∙ c .before .before .before .before .before .before .before .before .before .if1 .taken) 0
+undo-noted-requires : tie.Need-undo-noted-requires
+undo-noted-requires c κs =
+    let a = c .before .before .before .before .before .before .before .before .before .before .before .before .before .before .before .before .before .before .before .before .before .before .before .args in
+    undo-ready-when (a .parents) (a .mark) (state (now (a .ids)) (now (a .numbers)) (now (a .lengths)) (now (a .spills)) (lists-with (a .counts) (now (a .staged)) (now (a .table)) (now (a .deleted)))) (journal (now (a .entries)) (a .used) (a .standing)) (sym (c .before .before .before .before .before .before .before .before .before .driver-ok .ensures) ∙ c .before .before .before .before .before .before .before .before .if1 .taken) 0
 
 same-length-8 : tie.Need-same-length-8
 same-length-8 c = search needs
@@ -73,8 +67,8 @@ same-length-14 c = search needs
 
 returns-2 : tie.Need-returns-2
 returns-2 c =
-    let a = c .before .before .before .before .before .before .before .before .before .before .before .before .before .before .before .before .before .before .before .before .before .before .before .before .before .before .before .before .before .before .before .before .before .before .before .before .before .before .args in
-    undo-down (a .parents) (a .mark) (state (now (a .ids)) (now (a .numbers)) (now (a .lengths)) (now (a .spills)) (lists-with (a .counts) (now (a .staged)) (now (a .table)) (now (a .deleted)))) (journal (now (a .entries)) (a .used) (a .standing)) (sym (c .before .before .before .before .before .before .before .before .before .before .before .before .before .before .before .before .before .before .before .before .before .before .before .before .driver-ok .ensures) ∙ c .before .before .before .before .before .before .before .before .before .before .before .before .before .before .before .before .before .before .before .before .before .before .before .if1 .taken) (omega (arith, c .before .before .before .before .before .before .before .before .before .before .before .before .before .before .before .before .before .before .before .before .before .before .if2 .left)) _ (c .before .before .before .before .before .before .before .before .before .before .before .before .before .undo-flushed .ensures)
+    let a = c .before .before .before .before .before .before .before .before .before .before .before .before .before .before .before .before .before .before .before .before .before .before .before .before .before .before .before .before .before .before .before .before .before .before .before .before .args in
+    undo-down (a .parents) (a .mark) (state (now (a .ids)) (now (a .numbers)) (now (a .lengths)) (now (a .spills)) (lists-with (a .counts) (now (a .staged)) (now (a .table)) (now (a .deleted)))) (journal (now (a .entries)) (a .used) (a .standing)) (sym (c .before .before .before .before .before .before .before .before .before .before .before .before .before .before .before .before .before .before .before .before .before .before .driver-ok .ensures) ∙ c .before .before .before .before .before .before .before .before .before .before .before .before .before .before .before .before .before .before .before .before .before .if1 .taken) (omega (arith, c .before .before .before .before .before .before .before .before .before .before .before .before .before .before .before .before .before .before .before .before .if2 .left)) _ (c .before .before .before .before .before .before .before .before .before .before .before .before .undo-noted .ensures)
 
 same-length-15 : tie.Need-same-length-15
 same-length-15 c = search needs
@@ -115,9 +109,7 @@ undo-to-spec =
     same-length-6
     same-length-7
     returns
-    array-borrow-prefix-none
-    slice-aggregate-undo-flushed
-    undo-flushed-requires
+    undo-noted-requires
     same-length-8
     same-length-9
     same-length-10

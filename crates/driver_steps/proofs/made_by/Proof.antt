@@ -4,7 +4,7 @@ use mir.Syntax.{w64}
 use borrow.Author.Needs.{needs}
 use Rattle.signed.proofs.SignedLaws.{back}
 use Rattle.driver_steps.specs.Moves.{made-by}
-use Rattle.driver_steps.proofs.MoveLaws.{append-made, spend-made, change-made}
+use Rattle.driver_steps.proofs.MoveLaws.{append-made, spend-made, unspend-made, change-made}
 use Rattle.driver_steps.proofs.made_by.Statement.{statement}
 use Rattle.driver_steps.proofs.made_by.Tie as tie
 
@@ -14,11 +14,17 @@ enum-known-read c = search needs
 enum-known-read-2 : tie.Need-enum-known-read-2
 enum-known-read-2 c = search needs
 
+enum-known-read-3 : tie.Need-enum-known-read-3
+enum-known-read-3 c = search needs
+
+enum-known-read-4 : tie.Need-enum-known-read-4
+enum-known-read-4 c = search needs
+
 enum-told : tie.Need-enum-told
 enum-told c = search needs
 
-enum-known-read-3 : tie.Need-enum-known-read-3
-enum-known-read-3 c = search needs
+enum-known-read-5 : tie.Need-enum-known-read-5
+enum-known-read-5 c = search needs
 
 enum-told-2 : tie.Need-enum-told-2
 enum-told-2 c = search needs
@@ -40,21 +46,29 @@ returns-2 c =
     spend-made _ _ (g .0 .1 .0) (back w64 (g .0 .1 .0) (search (needs, c .known-told2 .given))) (g .0 .0) (g .1)
 
 returns-3 : tie.Need-returns-3
-returns-3 c = ap made-by (sym (c .enum-told .given .1))
+returns-3 c =
+    let g = c .before .read3 .given in
+    unspend-made _ _ (g .0 .1 .0) (back w64 (g .0 .1 .0) (search (needs, c .known-told3 .given))) (g .0 .0) (g .1)
 
 returns-4 : tie.Need-returns-4
-returns-4 c =
-    let g = c .before .read3 .given in
-    change-made _ _ (g .0 .1 .1 .0) (back w64 (g .0 .1 .1 .0) (search (needs, c .known-told3 .given))) (g .0 .0) (g .0 .1 .0) (g .0 .1 .1 .1 .0) (g .0 .1 .1 .1 .1 .0) (g .1)
+returns-4 c = ap made-by (sym (c .before .read4 .given .1))
 
 returns-5 : tie.Need-returns-5
-returns-5 c = ap made-by (sym (c .enum-told2 .given .1))
+returns-5 c = ap made-by (sym (c .enum-told .given .1))
 
 returns-6 : tie.Need-returns-6
-returns-6 c = ap made-by (sym (c .enum-told3 .given .1))
+returns-6 c =
+    let g = c .before .read5 .given in
+    change-made _ _ (g .0 .1 .1 .0) (back w64 (g .0 .1 .1 .0) (search (needs, c .known-told5 .given))) (g .0 .0) (g .0 .1 .0) (g .0 .1 .1 .1 .0) (g .0 .1 .1 .1 .1 .0) (g .1)
 
 returns-7 : tie.Need-returns-7
-returns-7 c = ap made-by (sym (c .enum-told4 .given .1))
+returns-7 c = ap made-by (sym (c .enum-told2 .given .1))
+
+returns-8 : tie.Need-returns-8
+returns-8 c = ap made-by (sym (c .enum-told3 .given .1))
+
+returns-9 : tie.Need-returns-9
+returns-9 c = ap made-by (sym (c .enum-told4 .given .1))
 
 pub made-by-spec : {M : Type 1} → statement M
 made-by-spec =
@@ -62,8 +76,10 @@ made-by-spec =
     (tie.spec
     enum-known-read
     enum-known-read-2
-    enum-told
     enum-known-read-3
+    enum-known-read-4
+    enum-told
+    enum-known-read-5
     enum-told-2
     enum-told-3
     enum-told-4
@@ -73,4 +89,6 @@ made-by-spec =
     returns-4
     returns-5
     returns-6
-    returns-7)
+    returns-7
+    returns-8
+    returns-9)

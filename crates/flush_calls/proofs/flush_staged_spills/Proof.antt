@@ -11,10 +11,16 @@ use Rattle.flush_calls.proofs.flush_staged_spills.Tie as tie
 lists-ok-requires : tie.Need-lists-ok-requires
 lists-ok-requires c κs = search needs
 
+array-borrow-prefix-none : tie.Need-array-borrow-prefix-none
+array-borrow-prefix-none c = search needs
+
+slice-aggregate-flush : tie.Need-slice-aggregate-flush
+slice-aggregate-flush c = search needs
+
 flush-requires : tie.Need-flush-requires
 flush-requires c κs =
-    let a = c .before .before .before .before .before .before .before .before .before .before .before .args in
-    flush-ready (a .edition) (lists (a .staged-counts) (now (a .staged)) (a .table-counts) (now (a .table)) (a .deleted-counts) (now (a .deleted))) (sym (c .before .before .before .before .lists-ok .ensures) ∙ c .before .before .before .if1 .taken)
+    let a = c .before .before .before .before .before .before .before .before .before .before .before .before .args in
+    flush-ready (a .edition) (lists (a .staged-counts) (now (a .staged)) (a .table-counts) (now (a .table)) (a .deleted-counts) (now (a .deleted))) (sym (c .before .before .before .before .before .lists-ok .ensures) ∙ c .before .before .before .before .if1 .taken)
 
 same-length : tie.Need-same-length
 same-length c = search needs
@@ -27,8 +33,8 @@ same-length-3 c = search needs
 
 returns : tie.Need-returns
 returns c =
-    let a = c .before .before .before .before .before .before .before .before .before .before .before .before .before .before .before .before .before .before .args in
-    flush-goes (a .edition) (lists (a .staged-counts) (now (a .staged)) (a .table-counts) (now (a .table)) (a .deleted-counts) (now (a .deleted))) (sym (c .before .before .before .before .before .before .before .before .before .before .before .lists-ok .ensures) ∙ c .before .before .before .before .before .before .before .before .before .before .if1 .taken) _ (c .before .before .before .before .before .before .flush .ensures)
+    let a = c .before .before .before .before .before .before .before .before .before .before .before .before .before .before .before .before .before .before .before .before .args in
+    flush-goes (a .edition) (lists (a .staged-counts) (now (a .staged)) (a .table-counts) (now (a .table)) (a .deleted-counts) (now (a .deleted))) (sym (c .before .before .before .before .before .before .before .before .before .before .before .before .before .lists-ok .ensures) ∙ c .before .before .before .before .before .before .before .before .before .before .before .before .if1 .taken) _ (c .before .before .before .before .before .before .before .flush .ensures)
 
 same-length-4 : tie.Need-same-length-4
 same-length-4 c = search needs
@@ -49,6 +55,8 @@ flush-staged-spills-spec =
     tie.close
     (tie.spec
     lists-ok-requires
+    array-borrow-prefix-none
+    slice-aggregate-flush
     flush-requires
     same-length
     same-length-2

@@ -3,7 +3,7 @@ use Prim.Native.Nat.{_+_, _*_, _-_, _≤_}
 use mathlib.Core.Path.{_≡_, sym, _∙_}
 use native.Mathlib.Omega.{arith}
 use denote.Ref.{now}
-use lib.ListN.{length, drop}
+use lib.ListN.{length, drop, length-take, length-drop}
 use Rattle.records.specs.Records.{keys}
 use Rattle.records.proofs.TurnLaws.{left-all}
 use Rattle.buffer_core.specs.Edition.{record-size}
@@ -16,13 +16,13 @@ use Rattle.flush_core.proofs.count_new.Statement.{statement}
 use Rattle.flush_core.proofs.count_new.Tie as tie
 
 abbrev Inv-loop : tie.InvT-loop
-Inv-loop edition table table-count staged staged-count deleted deleted-count size n₀ i₀ at₀ n i at =
+Inv-loop edition table table-count staged staged-count deleted deleted-count hints size n₀ i₀ at₀ n i at =
     (i ≤ staged-count) × (n ≤ i) × (at ≡ i * record-size edition)
     × (new-count (keys (record-size edition) table-count table) (keys 32 deleted-count deleted) (keys (record-size edition) staged-count staged)
     ≡ n + new-count (keys (record-size edition) table-count table) (keys 32 deleted-count deleted) (keys (record-size edition) (staged-count - i) (drop at staged)))
 
 abbrev μ-loop : tie.MeasureT-loop
-μ-loop edition table table-count staged staged-count deleted deleted-count size n₀ i₀ at₀ n i at = staged-count - i
+μ-loop edition table table-count staged staged-count deleted deleted-count hints size n₀ i₀ at₀ n i at = staged-count - i
 
 record-size-requires : tie.Need-record-size-requires Inv-loop μ-loop
 record-size-requires c κs = search needs
@@ -32,7 +32,7 @@ loop-holds c = (search needs, search needs, omega arith, rw left-all (omega arit
 
 add-end : tie.Need-add-end Inv-loop μ-loop
 add-end c =
-    let s = c .before .before .before .before .before .before in
+    let s = c .before .before .before .before .before .before .before in
     let l = c .before .loop in
     omega (arith, turn-in (s .args .edition) (l .i) (s .args .staged-count) (l .at) (length (now (s .args .staged))) (c .loop-test .taken) (s .pre .1) (l .inv .2))
 
@@ -44,14 +44,17 @@ part-count-key-start c = omega arith
 
 part-count-key-end : tie.Need-part-count-key-end Inv-loop μ-loop
 part-count-key-end c =
-    let s = c .before .before .before .before .before .before in
+    let s = c .before .before .before .before .before .before .before in
     let l = c .before .loop in
     omega (arith, turn-in (s .args .edition) (l .i) (s .args .staged-count) (l .at) (length (now (s .args .staged))) (c .loop-test .taken) (s .pre .1) (l .inv .2))
 
 count-key-requires : tie.Need-count-key-requires Inv-loop μ-loop
 count-key-requires c κs =
-    let p = c .before .before .before .before .before .before .before .pre in
-    (p .0, p .2)
+    let s = c .before .before .before .before .before .before .before .before in
+    let l = c .before .before .loop in
+    let b = turn-in (s .args .edition) (l .i) (s .args .staged-count) (l .at) (length (now (s .args .staged))) (c .before .loop-test .taken) (s .pre .1) (l .inv .2) in
+    let p = s .pre in
+    (p .0, p .2, rw (length-take, length-drop) (omega (arith, b)), p .3)
 
 add-n : tie.Need-add-n Inv-loop μ-loop
 add-n c = omega (arith, new-most _ _ _ _ (c .count-key .ensures))
@@ -61,7 +64,7 @@ add-i c = omega arith
 
 add-at : tie.Need-add-at Inv-loop μ-loop
 add-at c =
-    let s = c .before .before .before .before .before .before .before .before in
+    let s = c .before .before .before .before .before .before .before .before .before in
     let l = c .before .before .before .loop in
     omega (arith, c .before .before .before .before .record-size .ensures .0, turn-in (s .args .edition) (l .i) (s .args .staged-count) (l .at) (length (now (s .args .staged))) (c .before .before .loop-test .taken) (s .pre .1) (l .inv .2))
 
@@ -70,7 +73,7 @@ loop-less c = omega arith
 
 loop-again : tie.Need-loop-again Inv-loop μ-loop
 loop-again c =
-    let a = c .before .before .before .before .before .before .before .before .args in
+    let a = c .before .before .before .before .before .before .before .before .before .args in
     let z = c .before .before .before .before .record-size .ensures .0 in
     let l = c .before .before .before .loop in
     let t = c .before .before .loop-test .taken in
@@ -83,7 +86,7 @@ loop-again c =
 returns : tie.Need-returns Inv-loop μ-loop
 returns c =
     let l = c .before .loop in
-    sym (l .inv .3 ∙ rw (new-past (c .before .before .before .before .before .before .args .edition) _ _ _ _ _ (c .loop-test .left)) (omega arith))
+    sym (l .inv .3 ∙ rw (new-past (c .before .before .before .before .before .before .before .args .edition) _ _ _ _ _ (c .loop-test .left)) (omega arith))
 
 pub count-new-spec : {M : Type 1} → statement M
 count-new-spec =

@@ -13,7 +13,7 @@ record-size-requires : tie.Need-record-size-requires
 record-size-requires c κs = search needs
 
 clear-list-requires : tie.Need-clear-list-requires
-clear-list-requires c κs = rw (c .before .record-size .ensures .0) (c .before .before .before .before .before .before .before .before .before .before .before .pre .bounds .in-staged .room)
+clear-list-requires c κs = rw (c .before .record-size .ensures .0) (c .before .before .before .before .before .before .before .before .before .before .before .before .before .before .before .pre .bounds .in-staged .room)
 
 clear-list-requires-2 : tie.Need-clear-list-requires-2
 clear-list-requires-2 c κs = search needs
@@ -27,11 +27,14 @@ same-length-2 c = search needs
 same-length-3 : tie.Need-same-length-3
 same-length-3 c = search needs
 
+same-length-4 : tie.Need-same-length-4
+same-length-4 c = search needs
+
 returns : tie.Need-returns
 returns c =
-    let a = c .before .before .before .before .before .before .before .before .before .before .before .before .before .before .before .before .before .before .args in
+    let a = c .before .before .before .before .before .before .before .before .before .before .before .before .before .before .before .before .before .before .before .before .before .before .args in
     flush-is (a .edition) (lists (a .staged-counts) (now (a .staged)) (a .table-counts) (now (a .table)) (a .deleted-counts) (now (a .deleted))) _ _ _ _
-    (c .before .before .before .before .before .before .before .before .before .before .before .flush-table .ensures) (rw (c .before .before .before .before .before .before .before .before .record-size .ensures .0) at (c .before .before .before .before .before .before .clear-list .ensures)) (c .before .before .clear-list2 .ensures)
+    (c .before .before .before .before .before .before .before .before .before .before .before .before .before .flush-table .ensures) (rw (c .before .before .before .before .before .before .before .before .record-size .ensures .0) at (c .before .before .before .before .before .before .clear-list .ensures)) (c .before .before .clear-list2 .ensures)
 
 pub flush-lists-spec : {M : Type 1} → statement M
 flush-lists-spec =
@@ -44,4 +47,5 @@ flush-lists-spec =
     same-length
     same-length-2
     same-length-3
+    same-length-4
     returns)

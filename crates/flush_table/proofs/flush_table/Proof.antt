@@ -17,11 +17,14 @@ remove-deleted-requires c κs = search needs
 same-length : tie.Need-same-length
 same-length c = search needs
 
+same-length-2 : tie.Need-same-length-2
+same-length-2 c = search needs
+
 returns : tie.Need-returns
 returns c =
-    let a = c .before .before .before .before .before .before .before .before .before .before .before .args in
-    c .before .before .remove-deleted .ensures ∙ ap (remove-keys (edition-of (a .edition)) (keys 32 (a .deleted-count) (now (a .deleted)))) (c .before .before .before .before .before .before .put-undeleted .ensures .0)
+    let a = c .before .before .before .before .before .before .before .before .before .before .before .before .before .before .before .before .before .before .args in
+    c .before .before .before .before .remove-deleted .ensures ∙ ap (remove-keys (edition-of (a .edition)) (keys 32 (a .deleted-count) (now (a .deleted)))) (c .before .before .before .before .before .before .before .before .before .before .before .put-undeleted .ensures .0)
 
 pub flush-table-spec : {M : Type 1} → statement M
 flush-table-spec =
-    tie.close (tie.spec put-undeleted-requires remove-deleted-requires same-length returns)
+    tie.close (tie.spec put-undeleted-requires remove-deleted-requires same-length same-length-2 returns)

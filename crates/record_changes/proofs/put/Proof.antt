@@ -1,51 +1,21 @@
--- `record_changes::put` meets its contract: the record goes to the slot that the search gives.
+-- `record_changes::put` meets its contract: the key is looked for first.
 use borrow.Author.Needs.{needs}
-use native.Mathlib.Omega.{arith}
-use native.Mathlib.Nat.{mul-le-mul-left}
-use Rattle.records.specs.Changes.{put-record}
 use Rattle.record_changes.proofs.put.Statement.{statement}
 use Rattle.record_changes.proofs.put.Tie as tie
 
 find-requires : tie.Need-find-requires
 find-requires c κs = search needs
 
-slot-of-requires : tie.Need-slot-of-requires
-slot-of-requires c κs = search needs
-
-mul-store : tie.Need-mul-store
-mul-store c =
-    let s = c .before .before .before .before .before .before .before in
-    let r = rw (← c .before .before .find .ensures, ← c .before .slot-of .ensures) at (s .pre .3) in
-    omega arith
-
-store-requires : tie.Need-store-requires
-store-requires c κs =
-    let s = c .before .before .before .before .before .before .before in
-    (rw (← c .before .before .find .ensures, ← c .before .slot-of .ensures) at (s .pre .3), s .pre .1, s .pre .2)
-
-count-with-requires : tie.Need-count-with-requires
-count-with-requires c κs =
-    let s = c .before .before .before .before .before .before .before .before .before .before in
-    omega (arith, mul-le-mul-left {m = 34} {n = s .args .size} (s .args .count) (omega arith))
+put-found-requires : tie.Need-put-found-requires
+put-found-requires c κs =
+    let p = c .before .before .before .before .before .before .pre in
+    (p .0, p .1, p .2, rw (c .before .find .ensures) (p .3), c .before .find .ensures)
 
 same-length : tie.Need-same-length
 same-length c = search needs
 
 returns : tie.Need-returns
-unfolding put-record
-returns c = (
-  rw (← c .before .before .before .before .before .before .find .ensures) (c .count-with .ensures),
-  rw (← c .before .before .before .before .before .before .find .ensures, ← c .before .before .before .before .before .slot-of .ensures) (c .before .before .before .store .ensures),
-)
+returns c = search needs
 
 pub put-spec : {M : Type 1} → statement M
-put-spec =
-    tie.close
-    (tie.spec
-    find-requires
-    slot-of-requires
-    mul-store
-    store-requires
-    count-with-requires
-    same-length
-    returns)
+put-spec = tie.close (tie.spec find-requires put-found-requires same-length returns)

@@ -40,8 +40,8 @@ pop-step-requires c κs =
 enum-told : tie.Need-enum-told
 enum-told c = search needs
 
-flush-noted-requires : tie.Need-flush-noted-requires
-flush-noted-requires c κs =
+flush-step-requires : tie.Need-flush-step-requires
+flush-step-requires c κs =
     let s = c .before .before .before .before .before .before .before .before .before .before .before .before in
     let a = s .args in
     subst (λ (x : Call). StepReady x (state (now (a .ids)) (now (a .numbers)) (now (a .lengths)) (now (a .spills)) (lists-with (a .counts) (now (a .staged)) (now (a .table)) (now (a .deleted))))) (c .before .before .before .before .enum-told .given .1) (s .pre)
@@ -168,7 +168,7 @@ returns-4 : tie.Need-returns-4
 returns-4 c =
     let s = c .before .before .before .before .before .before .before .before .before .before .before .before .before .before .before .before .before .before .before .before .before in
     let a = s .args in
-    flush-returns (a .call) (now (a .ids)) (now (a .numbers)) (now (a .lengths)) (now (a .spills)) (now (a .staged)) (now (a .table)) (now (a .deleted)) (a .counts) _ _ _ _ (c .before .before .before .before .before .before .before .before .before .before .before .before .before .enum-told .given .1) (c .before .before .before .before .before .before .before .before .flush-noted .ensures)
+    flush-returns (a .call) (now (a .ids)) (now (a .numbers)) (now (a .lengths)) (now (a .spills)) (now (a .staged)) (now (a .table)) (now (a .deleted)) (a .counts) _ _ _ _ (c .before .before .before .before .before .before .before .before .before .before .before .before .before .enum-told .given .1) (c .before .before .before .before .before .before .before .before .flush-step .ensures)
 
 same-length-24 : tie.Need-same-length-24
 same-length-24 c = search needs
@@ -215,7 +215,7 @@ step-spec =
     enum-known-call-3
     pop-step-requires
     enum-told
-    flush-noted-requires
+    flush-step-requires
     enum-known-call-4
     change-step-requires
     enum-told-2

@@ -39,8 +39,8 @@ pop-step-requires c κs =
 enum-told-2 : tie.Need-enum-told-2
 enum-told-2 c = search needs
 
-flush-noted-requires : tie.Need-flush-noted-requires
-flush-noted-requires c κs =
+flush-step-requires : tie.Need-flush-step-requires
+flush-step-requires c κs =
     let s = c .before .before .before .before .before .before .before .before .before .before .before .before in
     let a = s .args in
     subst (λ (x : Call). StepReady x (state (now (a .ids)) (now (a .numbers)) (now (a .lengths)) (now (a .spills)) (lists-with (a .counts) (now (a .staged)) (now (a .table)) (now (a .deleted))))) (c .before .before .before .before .enum-told2 .given .1) (s .pre .0)
@@ -146,7 +146,7 @@ returns-4 : tie.Need-returns-4
 returns-4 c =
     let s = c .before .before .before .before .before .before .before .before .before .before .before .before .before .before .before .before .before .before .before .before .before in
     let a = s .args in
-    flush-returns (a .call) (now (a .ids)) (now (a .numbers)) (now (a .lengths)) (now (a .spills)) (now (a .staged)) (now (a .table)) (now (a .deleted)) (a .counts) _ _ _ _ (c .before .before .before .before .before .before .before .before .before .before .before .before .before .enum-told2 .given .1) (c .before .before .before .before .before .before .before .before .flush-noted .ensures)
+    flush-returns (a .call) (now (a .ids)) (now (a .numbers)) (now (a .lengths)) (now (a .spills)) (now (a .staged)) (now (a .table)) (now (a .deleted)) (a .counts) _ _ _ _ (c .before .before .before .before .before .before .before .before .before .before .before .before .before .enum-told2 .given .1) (c .before .before .before .before .before .before .before .before .flush-step .ensures)
 
 returns-5 : tie.Need-returns-5
 returns-5 c =
@@ -179,7 +179,7 @@ undo-step-spec =
     enum-known-call-2
     pop-step-requires
     enum-told-2
-    flush-noted-requires
+    flush-step-requires
     enum-told-3
     no-call-requires-2
     enum-told-4

@@ -1,0 +1,2 @@
+-- Laws of a balance in its places.
+pub mod PlaceLaws

@@ -1,3 +1,0 @@
--- The definitions that the contracts of `driver_batch` cite beside those of `driver_core`.
-pub mod Batch
-pub mod Internal

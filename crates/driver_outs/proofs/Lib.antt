@@ -1,0 +1,2 @@
+-- Laws and proofs of `driver_outs`.
+pub mod OutLaws

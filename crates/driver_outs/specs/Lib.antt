@@ -1,0 +1,2 @@
+-- The definitions that the contracts of `driver_outs` cite.
+pub mod Outs

@@ -1,0 +1,2 @@
+-- Laws and proofs of `driver_turns`.
+pub mod TurnLaws

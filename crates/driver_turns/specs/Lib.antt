@@ -1,0 +1,3 @@
+-- The definitions that the contracts of `driver_turns` cite beside those of `driver_core`.
+pub mod Batch
+pub mod Internal

@@ -1,0 +1,2 @@
+-- The laws that the exports' proofs cite: one for each.
+pub mod DriverLaws
