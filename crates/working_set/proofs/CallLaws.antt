@@ -45,12 +45,12 @@ use Rattle.working_set.proofs.Places.{reads-alike, reads-12, stages-ali
 use Rattle.working_set.proofs.Searches.{sought, Stands, walked, gathered}
 
 -- ---- a test that comes out alike on both sides
-by-test : {A : Type 0} (m : ℕ → Bool) (t : Bool) (z : A) (a b c : A) (qs rs : List ℕ) → Outcome m qs rs (a ≡ b) (a ≡ z)
+pub by-test : {A : Type 0} (m : ℕ → Bool) (t : Bool) (z : A) (a b c : A) (qs rs : List ℕ) → Outcome m qs rs (a ≡ b) (a ≡ z)
     → Outcome m (cond t [] qs) (cond t [] rs) (cond t c a ≡ cond t c b) (cond t c a ≡ z)
 by-test m true z a b c qs rs o = none m refl
 by-test m false z a b c qs rs o = o
 
-unless-test : {A : Type 0} (m : ℕ → Bool) (t : Bool) (z : A) (a b c : A) (qs rs : List ℕ) → Outcome m qs rs (a ≡ b) (a ≡ z)
+pub unless-test : {A : Type 0} (m : ℕ → Bool) (t : Bool) (z : A) (a b c : A) (qs rs : List ℕ) → Outcome m qs rs (a ≡ b) (a ≡ z)
     → Outcome m (cond t qs []) (cond t rs []) (cond t a c ≡ cond t b c) (cond t a c ≡ z)
 unless-test m true z a b c qs rs o = o
 unless-test m false z a b c qs rs o = none m refl
@@ -66,10 +66,10 @@ module _ (E : Edition) (parent staged : List ℕ) (s : ℕ) (work : List ℕ) (w
   abbrev m : ℕ → Bool
   m n = lacks E Box W n
 
-  checked-alike : (n : ℕ) → m n ≡ false → row-checked E W n ≡ row-checked E T n
+  pub checked-alike : (n : ℕ) → m n ≡ false → row-checked E W n ≡ row-checked E T n
   checked-alike n h = ap check-row (reads-alike E parent staged s work w table t part Box n h)
 
-  checked-12 : (n : ℕ) → m n ≡ true → row-checked E W n ≡ bad 12
+  pub checked-12 : (n : ℕ) → m n ≡ true → row-checked E W n ≡ bad 12
   checked-12 n h = ap check-row (reads-12 E parent staged s work w table t part Box n h)
 
   lead-alike : (n : ℕ) → m n ≡ false → lead-at E W n ≡ lead-at E T n

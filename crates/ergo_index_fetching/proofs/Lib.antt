@@ -1,0 +1,2 @@
+-- The ways out of the export.
+pub mod FetchingLaws

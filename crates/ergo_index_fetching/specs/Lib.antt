@@ -1,0 +1,2 @@
+-- What the export leaves, from the definition of its public call.
+pub mod Fetching

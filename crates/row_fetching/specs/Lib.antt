@@ -1,0 +1,3 @@
+-- What putting a row does, and what is promised of it.
+pub mod Putting
+pub mod Laws

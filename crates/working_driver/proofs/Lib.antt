@@ -1,0 +1,3 @@
+-- A driver over a working set in the terms of the fork-undo theorem.
+pub mod PairLaws
+pub mod MoveLaws

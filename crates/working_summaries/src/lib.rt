@@ -1,0 +1,1 @@
+// Calls with a summary over a working set of the table: definitions and laws, no code.
