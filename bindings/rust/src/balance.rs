@@ -6,6 +6,9 @@ use crate::refusal::{accepted, Refusal};
 /// The most tokens of a balance.
 pub const MAX_TOKENS: usize = 128;
 
+/// A box of no more tokens is passed on without an allocation.
+const FEW_TOKENS: usize = 4;
+
 /// A token id and an amount.
 #[derive(Clone, Copy, Debug, PartialEq, Eq)]
 pub struct Token {
@@ -75,8 +78,20 @@ impl Balance {
     }
 
     fn change(&mut self, call: BoxCall, nanos: i64, tokens: &[Token]) -> Result<(), Refusal> {
+        if tokens.len() <= FEW_TOKENS {
+            let (mut ids, mut amounts) = ([0; 32 * FEW_TOKENS], [0; FEW_TOKENS]);
+            for (place, token) in tokens.iter().enumerate() {
+                ids[32 * place..32 * place + 32].copy_from_slice(&token.id);
+                amounts[place] = token.amount;
+            }
+            return self.change_by(call, nanos, &ids[..32 * tokens.len()], &amounts[..tokens.len()]);
+        }
         let ids: Vec<u8> = tokens.iter().flat_map(|token| token.id).collect();
         let amounts: Vec<i64> = tokens.iter().map(|token| token.amount).collect();
+        self.change_by(call, nanos, &ids, &amounts)
+    }
+
+    fn change_by(&mut self, call: BoxCall, nanos: i64, ids: &[u8], amounts: &[i64]) -> Result<(), Refusal> {
         // SAFETY: each pointer comes from a live borrow, each length is that of its slice or array, and nothing that is written overlaps anything else.
         accepted(unsafe {
             call(
@@ -89,7 +104,7 @@ impl Balance {
                 ids.len(),
                 amounts.as_ptr(),
                 amounts.len(),
-                tokens.len(),
+                amounts.len(),
             )
         })
     }

@@ -4,7 +4,8 @@
 //! buffers that it borrows and to end. This crate adds owned buffers, types for numbers and refusals, and nothing else.
 //!
 //! A call that is refused changes nothing and answers a [`Refusal`], whose number is [`Refusal::code`]. [`Index`] applies blocks of
-//! calls over many parents and takes them back; [`Batch`] makes calls in the format of the call runner.
+//! calls over many parents with one table and takes them back, [`Accounts`] over parents with a table each; [`Batch`] makes calls in the format of the call
+//! runner.
 //!
 //! ```
 //! use ergo_index::*;
@@ -36,8 +37,10 @@
 #![warn(missing_docs)]
 #![deny(unsafe_op_in_unsafe_fn)]
 
+mod accounts;
 mod balance;
 mod batch;
+mod block_call;
 mod codec;
 mod convert;
 mod edition;
@@ -47,6 +50,7 @@ mod flat;
 mod index;
 mod lists;
 mod load;
+mod memory;
 mod pages;
 mod parents;
 mod rank;
@@ -58,8 +62,10 @@ mod summary;
 mod trial;
 mod working_set;
 
+pub use accounts::{Account, Accounts};
 pub use balance::{statement_milli_ergs, Balance, Token, MAX_TOKENS};
 pub use batch::{Batch, BatchAnswer, END_CUT_CALL, END_NO_CALL, END_NO_ROOM, END_OF_INPUT, MAX_PARENTS};
+pub use block_call::BlockCall;
 pub use codec::{blake2b256, box_segment_id, tx_segment_id, VlqReader, VlqWriter};
 pub use convert::{SpillId, Unconverted};
 pub use edition::{row_to_first, row_to_second, Edition, First, RowKind, Second};

@@ -4,6 +4,7 @@ use std::marker::PhantomData;
 
 use crate::edition::{Edition, First};
 use crate::ffi;
+use crate::memory::zeroed;
 use crate::refusal::{accepted, Refusal};
 
 /// The bytes of a record of edition 1: 32 of the key, 2 of the row's length (high byte first), then the row and zeros.
@@ -29,7 +30,7 @@ pub(crate) struct List {
 impl List {
     fn with_capacity(size: usize, capacity: usize) -> Self {
         let bytes = capacity.checked_mul(size).expect("the list fits the address space");
-        List { size, count: 0, bytes: vec![0; bytes].into_boxed_slice() }
+        List { size, count: 0, bytes: zeroed(bytes) }
     }
 
     fn from_bytes(size: usize, bytes: Vec<u8>, count: usize) -> Self {
@@ -43,9 +44,9 @@ impl List {
     /// Room for at least this many records more.
     pub(crate) fn grow(&mut self, records: usize) {
         let capacity = (2 * self.capacity()).max(self.count + records);
-        let mut bytes = std::mem::take(&mut self.bytes).into_vec();
-        bytes.resize(capacity * self.size, 0);
-        self.bytes = bytes.into_boxed_slice();
+        let mut bytes = zeroed(capacity * self.size);
+        bytes[..self.bytes.len()].copy_from_slice(&self.bytes);
+        self.bytes = bytes;
     }
 
     fn records(&self) -> impl Iterator<Item = &[u8]> {
@@ -258,14 +259,32 @@ pub fn flush_staged_spills<E: Edition>(
     table: &mut SegmentTable<E>,
     deleted: &mut DeletedSpills,
 ) -> Result<(), Refusal> {
+    let (places, keys) = (staged.capacity(), deleted.capacity());
+    flush_places(staged, places, table, deleted, keys)
+}
+
+/// The same of lists whose unused places are zero: only the used ones are cleared.
+pub(crate) fn flush_used(staged: &mut StagedSpills, table: &mut SegmentTable, deleted: &mut DeletedSpills) -> Result<(), Refusal> {
+    let (places, keys) = (staged.len(), deleted.len());
+    flush_places(staged, places, table, deleted, keys)
+}
+
+/// A flush that borrows so many places of the staged spills, and so many keys of the deleted ones: it clears them all.
+fn flush_places<E: Edition>(
+    staged: &mut StagedSpills<E>,
+    places: usize,
+    table: &mut SegmentTable<E>,
+    deleted: &mut DeletedSpills,
+    keys: usize,
+) -> Result<(), Refusal> {
     let (s, t, d) = (&mut staged.list, &mut table.list, &mut deleted.list);
-    let (s_capacity, t_capacity, d_capacity) = (s.capacity(), t.capacity(), d.capacity());
+    let t_capacity = t.capacity();
     // SAFETY: as in `inspect_spill`; the three lists are borrowed apart.
     accepted(unsafe {
         ffi::ergo_index_flush_staged_spills_in_edition(
             E::SECOND,
             &mut s.count,
-            s_capacity,
+            places,
             s.bytes.as_mut_ptr(),
             s.bytes.len(),
             &mut t.count,
@@ -273,7 +292,7 @@ pub fn flush_staged_spills<E: Edition>(
             t.bytes.as_mut_ptr(),
             t.bytes.len(),
             &mut d.count,
-            d_capacity,
+            keys,
             d.bytes.as_mut_ptr(),
             d.bytes.len(),
         )

@@ -2,9 +2,7 @@
 
 use std::collections::VecDeque;
 
-use ergo_index::{Load, LoadCall, Token};
-
-use crate::indexer::BlockCall;
+use ergo_index::{BlockCall, Load, LoadCall, Token};
 
 /// What a chain is like.
 #[derive(Clone, Copy, Debug, PartialEq, Eq)]

@@ -3,28 +3,11 @@
 use std::collections::HashMap;
 use std::fmt;
 
-use ergo_index::{
-    prune_below_window, BoxNumber, CallAnswer, Capacities, Index, IndexedAddress, Journal, Key, ParentNumber, Refusal, Rows, Token, TxNumber,
-};
+use ergo_index::{prune_below_window, BlockCall, CallAnswer, Capacities, Index, IndexedAddress, Journal, Key, ParentNumber, Refusal, Rows};
 
 use crate::account::Account;
 use crate::record::{Tip, UndoRecord};
 use crate::store::{Space, Store, StoreError, Transaction};
-
-/// A call of a block, to a parent.
-#[derive(Clone, Debug, PartialEq, Eq)]
-pub enum BlockCall {
-    /// A box of the parent.
-    AppendBox(BoxNumber),
-    /// A transaction of the parent.
-    AppendTx(TxNumber),
-    /// A box is spent.
-    Spend(BoxNumber),
-    /// NanoErgs and tokens come in.
-    Credit(i64, Vec<Token>),
-    /// NanoErgs and tokens go out.
-    Debit(i64, Vec<Token>),
-}
 
 /// Why a block was not applied or not taken back. The store is as it was before the block.
 #[derive(Clone, Debug, PartialEq, Eq)]
@@ -239,13 +222,7 @@ impl<S: Store> Indexer<S> {
         for (id, call) in calls {
             let parent = self.number_of(id)?;
             block.place(parent);
-            match call {
-                BlockCall::AppendBox(number) => self.index.append_box(parent, *number),
-                BlockCall::AppendTx(number) => self.index.append_tx(parent, *number),
-                BlockCall::Spend(target) => self.index.spend(parent, *target),
-                BlockCall::Credit(nanos, tokens) => self.index.credit(parent, *nanos, tokens),
-                BlockCall::Debit(nanos, tokens) => self.index.debit(parent, *nanos, tokens),
-            };
+            self.index.queue(parent, call);
         }
         let answers = self.index.apply_with(&mut Fetch { store: &self.store, fetched: &mut self.counters.fetched })?;
         for ((_, call), answer) in calls.iter().zip(&answers) {

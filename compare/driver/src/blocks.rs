@@ -2,7 +2,7 @@
 
 use std::collections::HashMap;
 
-use ergo_index::{BoxNumber, Capacities, Index, ParentNumber, Token, TxNumber};
+use ergo_index::{Accounts, BlockCall, BoxNumber, CallAnswer, Capacities, Index, ParentNumber, Token, TxNumber};
 use reference::address::{BalanceInfo, IndexedAddress};
 use reference::calls::Spills;
 use reference::segment::Segment;
@@ -13,19 +13,13 @@ use crate::random::Random;
 
 const PARENTS: usize = 1_000;
 const DRAWS: usize = 110;
+/// Rounds of a line, of which the first are not timed; every third one has a fork.
+const ROUNDS: usize = 480;
+const WARM_UP: usize = 48;
 const ROW: i64 = 512;
 
-/// The call of a block: on both sides the same.
-#[derive(Clone)]
-pub enum Call {
-    Box(i64),
-    Tx(i64),
-    Spend(i64),
-    Credit(i64, Vec<Token>),
-    Debit(i64, Vec<Token>),
-}
-
-pub type Block = Vec<(usize, Call)>;
+/// The calls of a block: on both sides the same.
+pub type Block = Vec<(usize, BlockCall)>;
 
 /// Draws the blocks of a chain.
 pub struct Blocks {
@@ -84,17 +78,17 @@ impl Blocks {
             let nanos = 1_000_000 + self.random.below(1 << 20) as i64;
             match self.random.below(10) {
                 0..=4 => {
-                    calls.push((parent, Call::Box(self.next[parent])));
-                    calls.push((parent, Call::Credit(nanos, self.tokens())));
+                    calls.push((parent, BlockCall::AppendBox(BoxNumber(self.next[parent]))));
+                    calls.push((parent, BlockCall::Credit(nanos, self.tokens())));
                     self.next[parent] += 1;
                 }
                 5..=8 => {
                     if let Some(target) = self.target(parent) {
-                        calls.push((parent, Call::Spend(target)));
-                        calls.push((parent, Call::Debit(nanos, self.tokens())));
+                        calls.push((parent, BlockCall::Spend(BoxNumber(target))));
+                        calls.push((parent, BlockCall::Debit(nanos, self.tokens())));
                     }
                 }
-                _ => calls.push((parent, Call::Tx(self.random.below(1 << 40) as i64))),
+                _ => calls.push((parent, BlockCall::AppendTx(TxNumber(self.random.below(1 << 40) as i64)))),
             }
         }
         calls
@@ -127,17 +121,17 @@ impl Theirs {
     }
 
     /// Makes a call; whether it was accepted.
-    pub fn make(&mut self, parent: usize, call: &Call) -> bool {
+    pub fn make(&mut self, parent: usize, call: &BlockCall) -> bool {
         let address = &mut self.addresses[parent];
         match call {
-            Call::Box(n) => self.spills.append_box(address, *n).is_ok(),
-            Call::Tx(n) => self.spills.append_tx(address, *n).is_ok(),
-            Call::Spend(n) => self.spills.flip(address, *n).is_ok(),
-            Call::Credit(nanos, tokens) => {
+            BlockCall::AppendBox(n) => self.spills.append_box(address, n.0).is_ok(),
+            BlockCall::AppendTx(n) => self.spills.append_tx(address, n.0).is_ok(),
+            BlockCall::Spend(n) => self.spills.flip(address, n.0).is_ok(),
+            BlockCall::Credit(nanos, tokens) => {
                 address.balance.as_mut().expect("a balance").add_box(*nanos, &digests(tokens));
                 true
             }
-            Call::Debit(nanos, tokens) => {
+            BlockCall::Debit(nanos, tokens) => {
                 address
                     .balance
                     .as_mut()
@@ -148,18 +142,18 @@ impl Theirs {
         }
     }
 
-    pub fn undo(&mut self, parent: usize, call: &Call) {
+    pub fn undo(&mut self, parent: usize, call: &BlockCall) {
         let address = &mut self.addresses[parent];
         match call {
-            Call::Box(_) => drop(self.spills.pop_box(address).expect("a pop")),
-            Call::Tx(_) => drop(self.spills.pop_tx(address).expect("a pop")),
-            Call::Spend(n) => self.spills.unflip(address, *n).expect("an unspend"),
-            Call::Credit(nanos, tokens) => address
+            BlockCall::AppendBox(_) => drop(self.spills.pop_box(address).expect("a pop")),
+            BlockCall::AppendTx(_) => drop(self.spills.pop_tx(address).expect("a pop")),
+            BlockCall::Spend(n) => self.spills.unflip(address, n.0).expect("an unspend"),
+            BlockCall::Credit(nanos, tokens) => address
                 .balance
                 .as_mut()
                 .expect("a balance")
                 .subtract_box(*nanos, &digests(tokens)),
-            Call::Debit(nanos, tokens) => address.balance.as_mut().expect("a balance").add_box(*nanos, &digests(tokens)),
+            BlockCall::Debit(nanos, tokens) => address.balance.as_mut().expect("a balance").add_box(*nanos, &digests(tokens)),
         }
     }
 
@@ -187,24 +181,16 @@ fn digests(tokens: &[Token]) -> Vec<(Digest32, i64)> {
         .collect()
 }
 
-/// The index: all parents over one table, or an index for each parent.
+/// The index: all parents over one table, or parents with a table each.
 enum Ours {
     Shared(Index, Vec<ParentNumber>),
-    Apart(Vec<(Index, ParentNumber)>),
+    Apart(Accounts, Vec<ParentNumber>),
 }
 
-fn queue(index: &mut Index, parent: ParentNumber, call: &Call) {
-    match call {
-        Call::Box(n) => index.append_box(parent, BoxNumber(*n)),
-        Call::Tx(n) => index.append_tx(parent, TxNumber(*n)),
-        Call::Spend(n) => index.spend(parent, BoxNumber(*n)),
-        Call::Credit(nanos, tokens) => index.credit(parent, *nanos, tokens),
-        Call::Debit(nanos, tokens) => index.debit(parent, *nanos, tokens),
-    };
-}
+/// Rows of one parent that are staged at a time, where parents have a table each.
+const STAGED_OF_A_PARENT: usize = 16;
 
-fn applied(index: &mut Index) {
-    let answers = index.apply().expect("lists in order");
+fn accepted(answers: &[CallAnswer]) {
     assert!(answers.iter().all(Result::is_ok), "a call of the block is accepted");
 }
 
@@ -220,18 +206,10 @@ impl Ours {
         Ours::Shared(index, parents)
     }
 
-    fn apart(staged: usize) -> Self {
-        let one = |p| {
-            let mut index = Index::new(Capacities {
-                staged,
-                deleted: staged,
-                rows: 4,
-                journal: 1 << 12,
-            });
-            let parent = index.add_parent(id(p));
-            (index, parent)
-        };
-        Ours::Apart((0..PARENTS).map(one).collect())
+    fn apart() -> Self {
+        let mut accounts = Accounts::new(STAGED_OF_A_PARENT);
+        let parents = (0..PARENTS).map(|p| accounts.add_parent(id(p))).collect();
+        Ours::Apart(accounts, parents)
     }
 
     /// Several blocks by one call.
@@ -240,52 +218,32 @@ impl Ours {
             Ours::Shared(index, parents) => {
                 for block in blocks {
                     for (parent, call) in block {
-                        queue(index, parents[*parent], call);
+                        index.queue(parents[*parent], call);
                     }
                     index.end_block(0);
                 }
-                applied(index);
+                accepted(&index.apply().expect("lists in order"));
             }
-            Ours::Apart(indexes) => {
+            Ours::Apart(accounts, parents) => {
                 for block in blocks {
-                    let mut touched: Vec<usize> = Vec::new();
-                    for (parent, call) in block {
-                        let (index, number) = &mut indexes[*parent];
-                        if index.waiting() == 0 {
-                            touched.push(*parent);
-                        }
-                        queue(index, *number, call);
-                    }
-                    for parent in touched {
-                        let index = &mut indexes[parent].0;
-                        index.end_block(0);
-                        applied(index);
-                    }
+                    let calls = block.iter().map(|(parent, call)| (parents[*parent], call.clone())).collect();
+                    accepted(&accounts.apply(0, calls).expect("tables in order"));
                 }
             }
         }
     }
 
-    fn take_back(&mut self, blocks: &[Block]) {
+    fn take_back(&mut self, blocks: usize) {
         match self {
-            Ours::Shared(index, _) => index.roll_back_blocks(blocks.len()).expect("undone"),
-            Ours::Apart(indexes) => {
-                for block in blocks.iter().rev() {
-                    let mut touched: Vec<usize> = block.iter().map(|(parent, _)| *parent).collect();
-                    touched.sort_unstable();
-                    touched.dedup();
-                    for parent in touched {
-                        indexes[parent].0.roll_back_blocks(1).expect("undone");
-                    }
-                }
-            }
+            Ours::Shared(index, _) => index.roll_back_blocks(blocks).expect("undone"),
+            Ours::Apart(accounts, _) => accounts.roll_back_blocks(blocks).expect("undone"),
         }
     }
 
     fn forget(&mut self) {
         match self {
             Ours::Shared(index, _) => index.remember(8),
-            Ours::Apart(indexes) => indexes.iter_mut().for_each(|(index, _)| index.remember(8)),
+            Ours::Apart(accounts, _) => accounts.remember(8),
         }
     }
 }
@@ -301,7 +259,9 @@ fn side_by_side(name: &str, rows: usize, at_once: usize, mut ours: Ours) {
     let mut blocks = Blocks::new(7, rows);
     let mut theirs = Theirs::with(Spills::default(), PARENTS, id);
     for parent in 0..PARENTS {
-        let filled: Block = (0..blocks.next[parent]).map(|n| (parent, Call::Box(n))).collect();
+        let filled: Block = (0..blocks.next[parent])
+            .map(|n| (parent, BlockCall::AppendBox(BoxNumber(n))))
+            .collect();
         for piece in filled.chunks(8 * ROW as usize) {
             let piece = vec![piece.to_vec()];
             ours.apply(&piece);
@@ -310,11 +270,11 @@ fn side_by_side(name: &str, rows: usize, at_once: usize, mut ours: Ours) {
     }
     ours.forget();
     let (mut applied, mut undone) = ((Vec::new(), Vec::new()), (Vec::new(), Vec::new()));
-    for round in 0..48 {
+    for round in 0..ROUNDS {
         let drawn: Vec<Block> = (0..at_once).map(|_| blocks.block()).collect();
         let a = timed(|| ours.apply(&drawn)) / at_once as f64;
         let b = timed(|| drawn.iter().for_each(|block| theirs.apply(block))) / at_once as f64;
-        if 8 <= round {
+        if WARM_UP <= round {
             applied.0.push(a * 1e3);
             applied.1.push(b * 1e3);
         }
@@ -329,17 +289,19 @@ fn side_by_side(name: &str, rows: usize, at_once: usize, mut ours: Ours) {
                     block
                 })
                 .collect();
-            let a = timed(|| ours.take_back(&fork)) / depth as f64;
+            let a = timed(|| ours.take_back(depth)) / depth as f64;
             let b = timed(|| theirs.take_back(&fork)) / depth as f64;
             for (parent, call) in fork.iter().flatten() {
                 match call {
-                    Call::Box(_) => blocks.next[*parent] -= 1,
-                    Call::Spend(target) => drop(blocks.spent[*parent].remove(target)),
+                    BlockCall::AppendBox(_) => blocks.next[*parent] -= 1,
+                    BlockCall::Spend(target) => drop(blocks.spent[*parent].remove(&target.0)),
                     _ => {}
                 }
             }
-            undone.0.push(a * 1e3);
-            undone.1.push(b * 1e3);
+            if WARM_UP <= round {
+                undone.0.push(a * 1e3);
+                undone.1.push(b * 1e3);
+            }
         }
         ours.forget();
     }
@@ -357,7 +319,7 @@ fn compare(ours: &mut Ours, theirs: &Theirs) {
     for (parent, address) in theirs.addresses.iter().enumerate() {
         let segment = match ours {
             Ours::Shared(index, parents) => index.segment(parents[parent]),
-            Ours::Apart(indexes) => indexes[parent].0.segment(indexes[parent].1),
+            Ours::Apart(accounts, parents) => accounts.account(parents[parent]).segment.clone(),
         };
         assert_eq!(segment.boxes(), address.segment.boxes, "the head of parent {parent}");
         assert_eq!(
@@ -389,7 +351,7 @@ pub fn lines() {
             &format!("block of 200 calls, a table for each parent, {rows} rows in all"),
             rows,
             1,
-            Ours::apart(2),
+            Ours::apart(),
         );
     }
 }

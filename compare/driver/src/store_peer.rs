@@ -8,7 +8,7 @@ use ergo_index_store::{BlockCall, Space, Store, Transaction};
 use reference::calls::{read_indexed_address, write_indexed_address, Spills};
 use reference::Digest32;
 
-use crate::blocks::{Call, Theirs};
+use crate::blocks::{Block, Theirs};
 
 type Id = [u8; 32];
 
@@ -26,26 +26,16 @@ pub struct Peer<S> {
     theirs: Theirs,
     numbers: HashMap<Id, usize>,
     /// The accepted calls of each block, newest last.
-    stood: Vec<Vec<(usize, Call)>>,
+    stood: Vec<Block>,
     parents: usize,
     pub boxes: u64,
     pub written: u64,
 }
 
-fn same(call: &BlockCall) -> Call {
-    match call {
-        BlockCall::AppendBox(n) => Call::Box(n.0),
-        BlockCall::AppendTx(n) => Call::Tx(n.0),
-        BlockCall::Spend(n) => Call::Spend(n.0),
-        BlockCall::Credit(nanos, tokens) => Call::Credit(*nanos, tokens.clone()),
-        BlockCall::Debit(nanos, tokens) => Call::Debit(*nanos, tokens.clone()),
-    }
-}
-
 /// As many bytes as a journal of the index has for the call.
-fn size(call: &Call) -> usize {
+fn size(call: &BlockCall) -> usize {
     match call {
-        Call::Credit(_, tokens) | Call::Debit(_, tokens) => 17 + 40 * tokens.len(),
+        BlockCall::Credit(_, tokens) | BlockCall::Debit(_, tokens) => 17 + 40 * tokens.len(),
         _ => 17,
     }
 }
@@ -86,10 +76,10 @@ impl<S: Store + 'static> Peer<S> {
         self.trim();
         let (mut accepted, mut touched) = (Vec::new(), Vec::new());
         for (id, call) in calls {
-            let (number, call) = (self.number(id), same(call));
+            let (number, call) = (self.number(id), call.clone());
             touched.push(number);
             if self.theirs.make(number, &call) {
-                self.boxes += u64::from(matches!(call, Call::Box(_)));
+                self.boxes += u64::from(matches!(call, BlockCall::AppendBox(_)));
                 accepted.push((number, call));
             }
         }
@@ -103,7 +93,7 @@ impl<S: Store + 'static> Peer<S> {
         for _ in 0..blocks {
             let block = self.stood.pop().expect("so many blocks stand");
             for (number, call) in block.iter().rev() {
-                self.boxes -= u64::from(matches!(call, Call::Box(_)));
+                self.boxes -= u64::from(matches!(call, BlockCall::AppendBox(_)));
                 self.theirs.undo(*number, call);
             }
             self.theirs.spills.flush().expect("a flush");

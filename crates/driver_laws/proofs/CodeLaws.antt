@@ -256,54 +256,55 @@ flip-coded d parent h z c staged e table head =
     by (flip-head i) n = tt
     by (stage slot count key row) n = tt
 
--- ---- credit and debit
-abbrev ChangedNotZero : Changed → Type 0
-ChangedNotZero (held h) = Unit {0}
-ChangedNotZero (refused-by r) = 0 < r
+-- ---- credit and debit: the refusals are 23, 24 and 25, so that what these have every one of them has
+abbrev pub AnswerHas : (ℕ → Type 0) → Answer → Type 0
+AnswerHas Q answer.Accepted = Unit {0}
+AnswerHas Q (answer.Refused r) = Q r
 
-token-coded : (adding : Bool) (h : Held) (key : List ℕ) (v : ℤ) → ChangedNotZero (change-token adding h key v)
-unfolding add-token subtract-token
-token-coded adding h key v =
-    both ChangedNotZero adding
-    (both ChangedNotZero (ltb (place-of key (h .ids) (h .count)) (h .count)) (sums (checked (getD (h .amounts) (place-of key (h .ids) (h .count)) (pos 0) +ℤ v)))
-    (both ChangedNotZero (ltb (h .count) 128) tt (omega arith)))
-    (both ChangedNotZero (ltb (place-of key (h .ids) (h .count)) (h .count)) (differences (checked (getD (h .amounts) (place-of key (h .ids) (h .count)) (pos 0) -ℤ v))) tt)
-  where
-    sums : (x : Checked) → ChangedNotZero (sum-at h (place-of key (h .ids) (h .count)) x)
-    sums (Is u) = tt
-    sums Out = omega arith
+module _ (Q : ℕ → Type 0) (q23 : Q 23) (q24 : Q 24) (q25 : Q 25) where
+  abbrev ChangedHas : Changed → Type 0
+  ChangedHas (held h) = Unit {0}
+  ChangedHas (refused-by r) = Q r
 
-    differences : (x : Checked) → ChangedNotZero (difference-at h (place-of key (h .ids) (h .count)) x)
-    differences (Is u) = tt
-    differences Out = omega arith
+  token-coded : (adding : Bool) (h : Held) (key : List ℕ) (v : ℤ) → ChangedHas (change-token adding h key v)
+  unfolding add-token subtract-token
+  token-coded adding h key v =
+      both ChangedHas adding
+      (both ChangedHas (ltb (place-of key (h .ids) (h .count)) (h .count)) (sums (checked (getD (h .amounts) (place-of key (h .ids) (h .count)) (pos 0) +ℤ v)))
+      (both ChangedHas (ltb (h .count) 128) tt q24))
+      (both ChangedHas (ltb (place-of key (h .ids) (h .count)) (h .count)) (differences (checked (getD (h .amounts) (place-of key (h .ids) (h .count)) (pos 0) -ℤ v))) tt)
+    where
+      sums : (x : Checked) → ChangedHas (sum-at h (place-of key (h .ids) (h .count)) x)
+      sums (Is u) = tt
+      sums Out = q23
 
-then-changed : (f : Held → Changed) → ((h : Held) → ChangedNotZero (f h)) → (x : Changed) → ChangedNotZero x → ChangedNotZero (and-then x f)
-then-changed f g (held h) k = g h
-then-changed f g (refused-by r) k = k
+      differences : (x : Checked) → ChangedHas (difference-at h (place-of key (h .ids) (h .count)) x)
+      differences (Is u) = tt
+      differences Out = q23
 
-tokens-coded : (adding : Bool) (ids : List ℕ) (amounts : List ℤ) (j n : ℕ) (h : Held) → ChangedNotZero (change-tokens adding ids amounts j n h)
-unfolding change-tokens
-tokens-coded adding ids amounts j zero h = tt
-tokens-coded adding ids amounts j (suc n) h =
-    then-changed (change-tokens adding ids amounts (suc j) n) (λ g. tokens-coded adding ids amounts (suc j) n g)
-    (change-token adding h (id-at ids j) (getD amounts j (pos 0))) (token-coded adding h (id-at ids j) (getD amounts j (pos 0)))
+  then-changed : (f : Held → Changed) → ((h : Held) → ChangedHas (f h)) → (x : Changed) → ChangedHas x → ChangedHas (and-then x f)
+  then-changed f g (held h) k = g h
+  then-changed f g (refused-by r) k = k
 
-abbrev AnswerNotZero : Answer → Type 0
-AnswerNotZero answer.Accepted = Unit {0}
-AnswerNotZero (answer.Refused r) = 0 < r
+  tokens-coded : (adding : Bool) (ids : List ℕ) (amounts : List ℤ) (j n : ℕ) (h : Held) → ChangedHas (change-tokens adding ids amounts j n h)
+  unfolding change-tokens
+  tokens-coded adding ids amounts j zero h = tt
+  tokens-coded adding ids amounts j (suc n) h =
+      then-changed (change-tokens adding ids amounts (suc j) n) (λ g. tokens-coded adding ids amounts (suc j) n g)
+      (change-token adding h (id-at ids j) (getD amounts j (pos 0))) (token-coded adding h (id-at ids j) (getD amounts j (pos 0)))
 
-box-coded : (adding : Bool) (b : Balance) (nanos : ℤ) (ids : List ℕ) (amounts : List ℤ) (n : ℕ) → AnswerNotZero (change-box adding b nanos ids amounts n .answer)
-unfolding change-box
-box-coded adding b nanos ids amounts n =
-    both (λ (o : Outcome). AnswerNotZero (o .answer)) (buffers-ok (b .count) ids amounts n) (by (nanos-after adding (b .nanos) nanos)) (omega arith)
-  where
-    settled-coded : (v : ℤ) (x : Changed) → ChangedNotZero x → AnswerNotZero (settled b v x .answer)
-    settled-coded v (held h) k = tt
-    settled-coded v (refused-by r) k = k
+  pub box-coded : (adding : Bool) (b : Balance) (nanos : ℤ) (ids : List ℕ) (amounts : List ℤ) (n : ℕ) → AnswerHas Q (change-box adding b nanos ids amounts n .answer)
+  unfolding change-box
+  box-coded adding b nanos ids amounts n =
+      both (λ (o : Outcome). AnswerHas Q (o .answer)) (buffers-ok (b .count) ids amounts n) (by (nanos-after adding (b .nanos) nanos)) q25
+    where
+      settled-coded : (v : ℤ) (x : Changed) → ChangedHas x → AnswerHas Q (settled b v x .answer)
+      settled-coded v (held h) k = tt
+      settled-coded v (refused-by r) k = k
 
-    by : (x : Checked) → AnswerNotZero (box-by adding b ids amounts n x .answer)
-    by (Is v) = settled-coded v (change-tokens adding ids amounts 0 n (held-by b)) (tokens-coded adding ids amounts 0 n (held-by b))
-    by Out = omega arith
+      by : (x : Checked) → AnswerHas Q (box-by adding b ids amounts n x .answer)
+      by (Is v) = settled-coded v (change-tokens adding ids amounts 0 n (held-by b)) (tokens-coded adding ids amounts 0 n (held-by b))
+      by Out = q23
 
 -- ---- the operations of the machine
 abbrev pub NotZero : {S A : Type 0} → Made S A → Type 0
@@ -345,8 +346,10 @@ module _ (ids : ledger.Parent → List ℕ) where
       by (flushed.Refused r) k = k
 
 pub change-coded : (adding : Bool) (b : Balance) (nanos : ℤ) (ts : Tokens) → NotZero (outcome-of (change-box adding b nanos (ids-of ts) (amounts-of ts) (length ts)))
-change-coded adding b nanos ts = by (change-box adding b nanos (ids-of ts) (amounts-of ts) (length ts) .answer) (box-coded adding b nanos (ids-of ts) (amounts-of ts) (length ts))
+change-coded adding b nanos ts =
+    by (change-box adding b nanos (ids-of ts) (amounts-of ts) (length ts) .answer)
+    (box-coded (λ r. 0 < r) (omega arith) (omega arith) (omega arith) adding b nanos (ids-of ts) (amounts-of ts) (length ts))
   where
-    by : (x : Answer) → AnswerNotZero x → NotZero (answered x (change-box adding b nanos (ids-of ts) (amounts-of ts) (length ts) .balance))
+    by : (x : Answer) → AnswerHas (λ r. 0 < r) x → NotZero (answered x (change-box adding b nanos (ids-of ts) (amounts-of ts) (length ts) .balance))
     by answer.Accepted k = tt
     by (answer.Refused r) k = k

@@ -2,7 +2,7 @@
 use Prim.Native.Nat.{ℕ, zero, suc, _+_}
 use mathlib.Core.Path.{_≡_, refl, sym, ap, _∙_, subst}
 use mathlib.Core.Logic.{_≢_}
-use mathlib.Core.Bool.{Bool, true, false, cond}
+use mathlib.Core.Bool.{Bool, true, false, cond, _&&_}
 use mathlib.Core.List.{List, [], _∷_, _++_}
 use native.Mathlib.Omega.{arith}
 use borrow.Author.Tests.{leb-false, eqb-true}
@@ -11,7 +11,7 @@ use lib.ListN.{length}
 use Rattle.index_types.specs.declared.RowEdition.the-variants.{One}
 use Rattle.buffer_core.specs.Edition.{edition-1}
 use Rattle.call_steps.specs.declared.Said.{Said}
-use Rattle.call_steps.specs.State.{State}
+use Rattle.call_steps.specs.State.{State, blocks-ok, lengths-ok, state-ok}
 use Rattle.ledger.specs.Ledger.{Rules}
 use Rattle.ledger.specs.Calls.{Parent, Call}
 use Rattle.ledger.specs.Run.{Step, call, undo, flush, MayUndo}
@@ -23,10 +23,11 @@ use Rattle.history.proofs.ForkUndoLaw.{fork-undo}
 use Rattle.history_runs.specs.View.{ids-in, filled}
 use Rattle.history_runs.specs.Runs.{M, Agrees}
 use Rattle.history_runs.proofs.StartLaws.{filled-long, borrowed, start-holds}
-use Rattle.driver_core.specs.Steps.{final}
-use Rattle.driver_core.specs.Apply.{driver-ok}
-use Rattle.working_steps.specs.Beside.{Beside}
+use Rattle.driver_core.specs.Steps.{final, may-be-lifted}
+use Rattle.driver_core.specs.Bytes.{Journal}
+use Rattle.driver_core.specs.Apply.{journal-ok, driver-ok}
 use Rattle.working_steps.proofs.BatchLaws.{ok-same}
+use Rattle.lent_steps.specs.Lent.{with-spills, Lent}
 use Rattle.driver_laws.specs.Driver.{Driver, driver, do-step, do-steps, UndoneTo, undo-code, flush-code, turns, undos-flushed}
 use Rattle.driver_laws.specs.Internal.{StepsAmong}
 use Rattle.driver_laws.specs.Journal.{Whole, tried}
@@ -39,7 +40,7 @@ use Rattle.driver_laws.proofs.OpLaws.{undone-rules, followed-rules, flush-clean
 use Rattle.driver_laws.proofs.OkLaws.{steps-fit, start-fits, passes}
 use Rattle.driver_laws.proofs.TheoremLaws.{no-calls, none-stand}
 use Rattle.driver_laws.proofs.TheoremLaws as driver-told
-use Rattle.working_driver.specs.Shared.{step-code, is-lack, shared, TableSays}
+use Rattle.working_driver.specs.Shared.{step-code, shared, TableSays}
 use Rattle.working_driver.specs.Theorem.{Move, does, borrows, on-work, on-table, move-steps, moved, table-moved, all-moved, table-after, all-steps, MoveOk, Keeps, MoveTold, MovesTold, WorkingDriverTheorem}
 use Rattle.working_driver.proofs.PairLaws.{Pair, Goes, both, skips, step-goes, steps-go, steps-told, shared-calls, shared-among}
 
@@ -141,7 +142,7 @@ module _ (parents : ℕ) (ids : Parent → List ℕ) (B : Borrowed edition-1) (p
     where
       by : G c d e undo
           → ((c₁ : Run.Conf W) (e₁ : Driver) → P c₁ (do-step d undo) e₁ → MayUndo (c₁ .phase) → TableSays (do-step d undo) e₁ ts → Rules (e₁ .journal) → LegalOn c₁ (do-step d undo) ts)
-          → Run.Legal W c (cond (is-lack (step-code d undo)) (shared (do-step d undo) ts) (undo ∷ shared (do-step d undo) ts))
+          → Run.Legal W c (cond (may-be-lifted (step-code d undo)) (shared (do-step d undo) ts) (undo ∷ shared (do-step d undo) ts))
       by (both z n q) on =
           let s : Rules (do-step e undo .journal) = undone-rules (e .journal) (e .now) r in
           let v = subst (λ (b : Bool). TableSays (do-step d undo) (cond b e (do-step e undo)) ts) n (k .2) in
@@ -159,7 +160,7 @@ module _ (parents : ℕ) (ids : Parent → List ℕ) (B : Borrowed edition-1) (p
     where
       by : G c d e flush
           → ((c₁ : Run.Conf W) (e₁ : Driver) → P c₁ (do-step d flush) e₁ → MayUndo (c₁ .phase) → TableSays (do-step d flush) e₁ ts → Rules (e₁ .journal) → LegalOn c₁ (do-step d flush) ts)
-          → Run.Legal W c (cond (is-lack (step-code d flush)) (shared (do-step d flush) ts) (flush ∷ shared (do-step d flush) ts))
+          → Run.Legal W c (cond (may-be-lifted (step-code d flush)) (shared (do-step d flush) ts) (flush ∷ shared (do-step d flush) ts))
       by (both z n q) on =
           let v = subst (λ (b : Bool). TableSays (do-step d flush) (cond b e (do-step e flush)) ts) n (k .2) in
           let c₁ = Run.step W c flush in
@@ -177,20 +178,20 @@ module _ (parents : ℕ) (ids : Parent → List ℕ) (B : Borrowed edition-1) (p
   unfolding TableSays shared Run.Legal
   begin-legal ts c d e p h o k r = by (step-goes parents ids B places c d e p flush tt (k .0) (k .1))
     where
-      by : G c d e flush → Run.Legal W c (cond (is-lack (step-code d flush)) (shared (do-step d flush) ts) (flush ∷ shared (do-step d flush) ts))
+      by : G c d e flush → Run.Legal W c (cond (may-be-lifted (step-code d flush)) (shared (do-step d flush) ts) (flush ∷ shared (do-step d flush) ts))
       by (both z n q) =
           let v = subst (λ (b : Bool). TableSays (do-step d flush) (cond b e (do-step e flush)) ts) n (k .2) in
           let c₁ = Run.step W c flush in
           let m : MayUndo (c₁ .phase) = subst MayUndo (sym (flush-clean parents ids B places c e (p .follows) (ap (λ (x : Said). x .code) (sym z) ∙ h))) tt in
           subst (λ (b : Bool). Run.Legal W c (cond b (shared (do-step d flush) ts) (flush ∷ shared (do-step d flush) ts))) (sym n)
           (tt, followed-rules parents ids B places c₁ (do-step e flush) (q .follows) r, undo-legal ts c₁ (do-step d flush) (do-step e flush) q m o v r)
-      by (skips n q) = let y : _≡_ {A = Bool} false true = ap is-lack (sym h) ∙ n in let w : _≡_ {A = ℕ} 0 1 = cc in absurd (omega arith)
+      by (skips n q) = let y : _≡_ {A = Bool} false true = ap may-be-lifted (sym h) ∙ n in let w : _≡_ {A = ℕ} 0 1 = cc in absurd (omega arith)
 
   one-legal : (c : Run.Conf W) (d e : Driver) → P c d e → TableSays d e (flush ∷ []) → Rules (e .journal) → LegalOn c d (flush ∷ [])
   unfolding TableSays shared Run.Legal
   one-legal c d e p k r = by (step-goes parents ids B places c d e p flush tt (k .0) (k .1))
     where
-      by : G c d e flush → Run.Legal W c (cond (is-lack (step-code d flush)) [] (flush ∷ []))
+      by : G c d e flush → Run.Legal W c (cond (may-be-lifted (step-code d flush)) [] (flush ∷ []))
       by (both z n q) =
           subst (λ (b : Bool). Run.Legal W c (cond b [] (flush ∷ []))) (sym n) (tt, followed-rules parents ids B places (Run.step W c flush) (do-step e flush) (q .follows) r, tt)
       by (skips n q) = subst (λ (b : Bool). Run.Legal W c (cond b [] (flush ∷ []))) (sym n) tt
@@ -272,19 +273,19 @@ module _ (parents : ℕ) (ids : Parent → List ℕ) (B : Borrowed edition-1) (p
       → Settles parents ids B places b c → Rules (calls-of parents d) → MoveOk parents b d t m → Moved c d t m
   unfolding do-steps Run.run
   move-moved (does w) b c d t p v m r k = does-moved w b c d t p v m r k
-  move-moved (borrows x work) b c d t p v m r k =
-      record { done = stands-still parents ids B places c (on-table parents d t) r; pair = record { follows = p .follows; beside = k; same = refl }; whole = v; told = λ _. tt }
+  move-moved (borrows x) b c d t p v m r k =
+      record { done = stands-still parents ids B places c (on-table parents d t) r; pair = record { follows = p .follows; lent = k; same = refl }; whole = v; told = λ _. tt }
 
   pub record AllMoved (c : Run.Conf W) (d : Given) (t : State) (ms : List Move) : Type 0 where
     pub done : Done parents ids B places c (on-table parents d t) (on-table parents (all-moved parents d t ms) (table-after parents d t ms)) (all-steps parents d t ms)
-    pub beside : Beside parents (all-moved parents d t ms .now) (table-after parents d t ms)
+    pub lent : Lent parents (all-moved parents d t ms .now) (table-after parents d t ms)
     pub whole : Whole parents (all-moved parents d t ms .kept .count) (all-moved parents d t ms .kept)
     pub told : StepsSaid (on-table parents d t) (all-steps parents d t ms) → MovesTold parents d t ms
 
   pub moves-moved : (ms : List Move) (b : Bool) (c : Run.Conf W) (d : Given) (t : State) → P c (on-work parents d) (on-table parents d t) → Whole parents (d .kept .count) (d .kept)
       → Settles parents ids B places b c → Rules (calls-of parents d) → Keeps parents b d t ms → AllMoved c d t ms
   unfolding Keeps all-moved table-after all-steps MovesTold
-  moves-moved [] b c d t p v m r k = record { done = stands-still parents ids B places c (on-table parents d t) r; beside = p .beside; whole = v; told = λ _. tt }
+  moves-moved [] b c d t p v m r k = record { done = stands-still parents ids B places c (on-table parents d t) r; lent = p .lent; whole = v; told = λ _. tt }
   moves-moved (x ∷ ms) b c d t p v m r k =
       let y = move-moved x b c d t p v m r (k .0) in
       let ts = move-steps parents d x in
@@ -295,12 +296,19 @@ module _ (parents : ℕ) (ids : Parent → List ℕ) (B : Borrowed edition-1) (p
       let z = moves-moved ms (settled b (on-table parents d t) ts) c₁ d₁ t₁ (y .pair) (y .whole) m₁ (y .done .rules) (k .1) in
       record {
         done = then-done parents ids B places c (on-table parents d t) (on-table parents d₁ t₁) (on-table parents (all-moved parents d₁ t₁ ms) (table-after parents d₁ t₁ ms)) ts (all-steps parents d₁ t₁ ms) (y .done) (z .done);
-        beside = z .beside;
+        lent = z .lent;
         whole = z .whole;
         told = λ h.
             let q = said-behind ts (all-steps parents d₁ t₁ ms) (on-table parents d t) h in
             (y .told (q .0), z .told (subst (λ (e : Driver). StepsSaid e (all-steps parents d₁ t₁ ms)) (sym (y .done .same)) (q .1)));
       }
+
+-- 25 is said of both or of neither
+lent-ok : (parents : ℕ) (w t : State) (j : Journal) → Lent parents w t → driver-ok parents w j ≡ driver-ok parents t j
+unfolding state-ok
+lent-ok parents w t j b =
+    ap (λ (x : Bool). (blocks-ok parents (w .ids) (w .numbers) (w .lengths) (w .spills) && (lengths-ok parents (w .lengths) && x)) && journal-ok j) (b .ready .listed ∙ sym (b .beside .work-ready .listed))
+    ∙ ok-same parents (with-spills (t .lists) w) t j (b .beside)
 
 pub working-driver-theorem : WorkingDriverTheorem
 working-driver-theorem parents places s E w bytes ms b k q =
@@ -315,7 +323,7 @@ working-driver-theorem parents places s E w bytes ms b k q =
     let g = subst (Follows parents ids B places (Run.start N)) (sym z) f in
     let r : Rules (calls-of parents d) = subst (λ (x : Driver). Rules (x .journal)) (sym z) tt in
     let ts = all-steps parents d s ms in
-    let p : Pair parents ids B places (Run.start N) (on-work parents d) (on-table parents d s) = record { follows = g; beside = b; same = refl } in
+    let p : Pair parents ids B places (Run.start N) (on-work parents d) (on-table parents d s) = record { follows = g; lent = b; same = refl } in
     let a = moves-moved parents ids B places ms true (Run.start N) d s p (no-calls parents bytes) (λ _. tt) r k in
     let x = all-moved parents d s ms in
     let e = on-table parents x (table-after parents d s ms) in
@@ -323,9 +331,9 @@ working-driver-theorem parents places s E w bytes ms b k q =
     let t = fork-undo One ids long B places ts (a .done .legal) q in
     let l = steps-follow parents ids B places ts (Run.start N) (driver s []) f (a .done .among) in
     record {
-      beside = a .beside;
+      lent = a .lent;
       passes =
-          ok-same parents (x .now) (e .now) (x .kept) (a .beside)
+          lent-ok parents (x .now) (e .now) (x .kept) (a .lent)
           ∙ passes parents ids B places (Run.run N (Run.start N) ts) e (x .kept) (subst (Follows parents ids B places (Run.run N (Run.start N) ts)) (sym same) l)
           (steps-fit parents ids B places ts (Run.start N) (driver s []) f (a .done .among) (start-fits parents ids B places)) (a .whole);
       said = a .told (subst (λ (x : Driver). StepsSaid x ts) (sym z) (driver-told.steps-told parents ids B places ts (Run.start N) (driver s []) f (a .done .among) (t .0)));

@@ -1,28 +1,31 @@
 -- A driver over a working set goes beside the one over the table, which the machine of the fork-undo theorem follows.
-use Prim.Native.Nat.{ℕ, _≤_}
+use Prim.Native.Nat.{ℕ}
 use mathlib.Core.Path.{_≡_, refl, sym, ap, _∙_, subst}
-use mathlib.Core.Logic.{inl, inr}
-use mathlib.Core.Bool.{Bool, true, false, cond, _||_}
+use mathlib.Core.Logic.{_≢_, inl, inr}
+use mathlib.Core.Bool.{Bool, true, false, cond}
 use mathlib.Core.List.{List, [], _∷_}
+use native.Mathlib.Omega.{arith}
 use borrow.Author.Tests.{ne-eqb}
 use lib.Dec.{eqb}
 use Rattle.buffer_core.specs.Edition.{edition-1}
 use Rattle.call_steps.specs.declared.Said.{Said}
 use Rattle.call_steps.specs.State.{State}
+use Rattle.call_steps.specs.Steps.{refused}
 use Rattle.ledger.specs.Calls.{Parent, Call, append, spend, credit, debit}
 use Rattle.ledger.specs.Run.{Step, call, undo, flush}
 use Rattle.ledger.specs.Run as Run
 use Rattle.history.specs.Machine.{Borrowed}
 use Rattle.history.specs.ForkUndo.{Places}
 use Rattle.history_runs.specs.Runs.{M}
-use Rattle.driver_core.specs.Steps.{make, unmake, flushing}
-use Rattle.working_steps.specs.Beside.{Beside, makes, unmakes, flushes, CallOf, Outcome, as-table, lacks, full, full-table}
-use Rattle.working_steps.proofs.StepLaws.{step-law}
+use Rattle.driver_core.specs.Steps.{make, unmake, flushing, may-be-lifted}
+use Rattle.working_steps.specs.Beside.{makes, unmakes, flushes, CallOf}
+use Rattle.lent_steps.specs.Lent.{Lent, Outcome, as-table, lacks, full-table}
+use Rattle.lent_steps.proofs.LentLaws.{lent-law}
 use Rattle.driver_laws.specs.Driver.{Driver, driver, do-step, do-steps}
 use Rattle.driver_laws.specs.Internal.{Names, StepAmong, StepsAmong, OnlyCalls}
 use Rattle.driver_laws.specs.Theorem.{UndoSaid, StepSaid, StepsSaid}
 use Rattle.driver_laws.proofs.HoldLaws.{CallsAmong, Follows, step-follows}
-use Rattle.working_driver.specs.Shared.{newest-said, step-said, step-code, is-lack, shared, TableSays, StepTold, StepsTold}
+use Rattle.working_driver.specs.Shared.{newest-said, step-said, step-code, shared, TableSays, StepTold, StepsTold}
 
 names : (parents : ℕ) (a : Call) → Names parents a → CallOf parents a
 names parents (append ch n) h = h
@@ -30,9 +33,13 @@ names parents (spend p t) h = h
 names parents (credit p n ts) h = h
 names parents (debit p n ts) h = h
 
--- what says neither 12 nor 22
-no-lack : (code : ℕ) → (code ≡ 12 → ⊥) → (code ≡ 22 → ⊥) → is-lack code ≡ false
-no-lack code m n = λ i. ne-eqb code 12 m i || ne-eqb code 22 n i
+-- what is not lifted says none of the four
+not-lifted : (k : ℕ) → may-be-lifted k ≡ true → (x : Said) → may-be-lifted (x .code) ≡ false → x ≢ refused k
+not-lifted k y x o q = let b : _≡_ {A = Bool} false true = sym o ∙ ap (λ (s : Said). may-be-lifted (s .code)) q ∙ y in let z : _≡_ {A = ℕ} 0 1 = cc in absurd (omega arith)
+
+-- what is lifted was not accepted
+not-zero : (code : ℕ) → may-be-lifted code ≡ true → eqb code 0 ≡ false
+not-zero code o = ne-eqb code 0 (λ q. let b : _≡_ {A = Bool} false true = ap may-be-lifted (sym q) ∙ o in let z : _≡_ {A = ℕ} 0 1 = cc in absurd (omega arith))
 
 module _ (parents : ℕ) (ids : Parent → List ℕ) (B : Borrowed edition-1) (places : Parent → Places) where
   abbrev W : Run.Machine
@@ -43,69 +50,61 @@ module _ (parents : ℕ) (ids : Parent → List ℕ) (B : Borrowed edition-1) (p
 
   pub record Pair (c : Run.Conf W) (d e : Driver) : Type 0 where
     pub follows : F c e
-    pub beside : Beside parents (d .now) (e .now)
+    pub lent : Lent parents (d .now) (e .now)
     pub same : d .journal ≡ e .journal
 
   -- a step that both make, or one that leaves W as it was
   pub data Goes (c : Run.Conf W) (d e : Driver) (t : Step) : Type 0 where
-    both : step-said d t ≡ step-said e t → is-lack (step-code d t) ≡ false → Pair (Run.step W c t) (do-step d t) (do-step e t) → Goes c d e t
-    skips : is-lack (step-code d t) ≡ true → Pair c (do-step d t) e → Goes c d e t
+    both : step-said d t ≡ step-said e t → may-be-lifted (step-code d t) ≡ false → Pair (Run.step W c t) (do-step d t) (do-step e t) → Goes c d e t
+    skips : may-be-lifted (step-code d t) ≡ true → Pair c (do-step d t) e → Goes c d e t
 
   call-goes : (c : Run.Conf W) (d e : Driver) → Pair c d e → (a : Call) → StepAmong parents (call a) → (step-code e (call a) ≡ 12 → ⊥) → (step-code e (call a) ≡ 22 → ⊥) → Goes c d e (call a)
-  call-goes c d e p a m n k = by (step-law parents (makes a) (names parents a (m .0)) (d .now) (e .now) (p .beside))
+  call-goes c d e p a m n k = by (lent-law parents (makes a) (names parents a (m .0)) (d .now) (e .now) (p .lent))
     where
       by : Outcome parents (d .now) (e .now) (make a (d .now)) (make a (e .now)) → Goes c d e (call a)
-      by (as-table q b) =
-          let z : step-code d (call a) ≡ step-code e (call a) = ap (λ (w : Said). w .code) q in
-          both q (no-lack (step-code d (call a)) (λ y. n (sym z ∙ y)) (λ y. k (sym z ∙ y)))
-          (record { follows = step-follows parents ids B places c e (p .follows) (call a) m; beside = b; same = λ i. cond (eqb (q i .code) 0) (a ∷ p .same i) (p .same i) })
-      by (lacks q b) =
-          skips (ap (λ (w : Said). is-lack (w .code)) q)
-          (record { follows = p .follows; beside = subst (λ (s : State). Beside parents s (e .now)) (sym b) (p .beside); same = ap (λ (w : Said). cond (eqb (w .code) 0) (a ∷ d .journal) (d .journal)) q ∙ p .same })
-      by (full q b) =
-          skips (ap (λ (w : Said). is-lack (w .code)) q)
-          (record { follows = p .follows; beside = subst (λ (s : State). Beside parents s (e .now)) (sym b) (p .beside); same = ap (λ (w : Said). cond (eqb (w .code) 0) (a ∷ d .journal) (d .journal)) q ∙ p .same })
-      by (full-table q b) = absurd (k (ap (λ (w : Said). w .code) q))
+      by (as-table q o b) =
+          both q o
+          (record { follows = step-follows parents ids B places c e (p .follows) (call a) m; lent = b; same = λ i. cond (eqb (q i .code) 0) (a ∷ p .same i) (p .same i) })
+      by (lacks o b) =
+          skips o
+          (record {
+            follows = p .follows;
+            lent = subst (λ (s : State). Lent parents s (e .now)) (sym b) (p .lent);
+            same = ap (λ (w : Bool). cond w (a ∷ d .journal) (d .journal)) (not-zero (step-code d (call a)) o) ∙ p .same;
+          })
+      by (full-table q) = absurd (k (ap (λ (w : Said). w .code) q))
 
   flush-goes : (c : Run.Conf W) (d e : Driver) → Pair c d e → (step-code e flush ≡ 12 → ⊥) → (step-code e flush ≡ 22 → ⊥) → Goes c d e flush
-  flush-goes c d e p n k = by (step-law parents flushes tt (d .now) (e .now) (p .beside))
+  flush-goes c d e p n k = by (lent-law parents flushes tt (d .now) (e .now) (p .lent))
     where
       by : Outcome parents (d .now) (e .now) (flushing (d .now)) (flushing (e .now)) → Goes c d e flush
-      by (as-table q b) =
-          let z : step-code d flush ≡ step-code e flush = ap (λ (w : Said). w .code) q in
-          both q (no-lack (step-code d flush) (λ y. n (sym z ∙ y)) (λ y. k (sym z ∙ y)))
-          (record { follows = step-follows parents ids B places c e (p .follows) flush tt; beside = b; same = p .same })
-      by (lacks q b) =
-          skips (ap (λ (w : Said). is-lack (w .code)) q) (record { follows = p .follows; beside = subst (λ (s : State). Beside parents s (e .now)) (sym b) (p .beside); same = p .same })
-      by (full q b) =
-          skips (ap (λ (w : Said). is-lack (w .code)) q) (record { follows = p .follows; beside = subst (λ (s : State). Beside parents s (e .now)) (sym b) (p .beside); same = p .same })
-      by (full-table q b) = absurd (k (ap (λ (w : Said). w .code) q))
+      by (as-table q o b) =
+          both q o
+          (record { follows = step-follows parents ids B places c e (p .follows) flush tt; lent = b; same = p .same })
+      by (lacks o b) = skips o (record { follows = p .follows; lent = subst (λ (s : State). Lent parents s (e .now)) (sym b) (p .lent); same = p .same })
+      by (full-table q) = absurd (k (ap (λ (w : Said). w .code) q))
 
   -- the newest call of the same journal
-  undo-goes : (c : Run.Conf W) (w t : State) (l : List Call) → F c (driver t l) → CallsAmong parents l → Beside parents w t
+  undo-goes : (c : Run.Conf W) (w t : State) (l : List Call) → F c (driver t l) → CallsAmong parents l → Lent parents w t
       → (step-code (driver t l) undo ≡ 12 → ⊥) → (step-code (driver t l) undo ≡ 22 → ⊥) → Goes c (driver w l) (driver t l) undo
   unfolding CallsAmong
-  undo-goes c w t [] f m b n k = both refl refl (record { follows = step-follows parents ids B places c (driver t []) f undo tt; beside = b; same = refl })
-  undo-goes c w t (a ∷ cs) f m b n k = by (step-law parents (unmakes a) (names parents a (m .0 .0)) w t b)
+  undo-goes c w t [] f m b n k = both refl refl (record { follows = step-follows parents ids B places c (driver t []) f undo tt; lent = b; same = refl })
+  undo-goes c w t (a ∷ cs) f m b n k = by (lent-law parents (unmakes a) (names parents a (m .0 .0)) w t b)
     where
       by : Outcome parents w t (unmake a w) (unmake a t) → Goes c (driver w (a ∷ cs)) (driver t (a ∷ cs)) undo
-      by (as-table q h) =
-          let z : unmake a w .said .code ≡ unmake a t .said .code = ap (λ (x : Said). x .code) q in
-          both q (no-lack (unmake a w .said .code) (λ y. n (sym z ∙ y)) (λ y. k (sym z ∙ y)))
-          (record { follows = step-follows parents ids B places c (driver t (a ∷ cs)) f undo tt; beside = h; same = λ i. cond (eqb (q i .code) 0) cs (a ∷ cs) })
-      by (lacks q h) =
-          skips (ap (λ (x : Said). is-lack (x .code)) q)
-          (record { follows = f; beside = subst (λ (s : State). Beside parents s t) (sym h) b; same = ap (λ (x : Said). cond (eqb (x .code) 0) cs (a ∷ cs)) q })
-      by (full q h) =
-          skips (ap (λ (x : Said). is-lack (x .code)) q)
-          (record { follows = f; beside = subst (λ (s : State). Beside parents s t) (sym h) b; same = ap (λ (x : Said). cond (eqb (x .code) 0) cs (a ∷ cs)) q })
-      by (full-table q h) = absurd (k (ap (λ (x : Said). x .code) q))
+      by (as-table q o h) =
+          both q o
+          (record { follows = step-follows parents ids B places c (driver t (a ∷ cs)) f undo tt; lent = h; same = λ i. cond (eqb (q i .code) 0) cs (a ∷ cs) })
+      by (lacks o h) =
+          skips o
+          (record { follows = f; lent = subst (λ (s : State). Lent parents s t) (sym h) b; same = ap (λ (x : Bool). cond x cs (a ∷ cs)) (not-zero (unmake a w .said .code) o) })
+      by (full-table q) = absurd (k (ap (λ (x : Said). x .code) q))
 
   pub step-goes : (c : Run.Conf W) (d e : Driver) → Pair c d e → (t : Step) → StepAmong parents t → (step-code e t ≡ 12 → ⊥) → (step-code e t ≡ 22 → ⊥) → Goes c d e t
   step-goes c d e p (call a) m n k = call-goes c d e p a m n k
   step-goes c d e p undo m n k =
       let q : driver (d .now) (e .journal) ≡ d = λ i. driver (d .now) (sym (p .same) i) in
-      subst (λ (x : Driver). Goes c x e undo) q (undo-goes c (d .now) (e .now) (e .journal) (p .follows) (p .follows .among) (p .beside) n k)
+      subst (λ (x : Driver). Goes c x e undo) q (undo-goes c (d .now) (e .now) (e .journal) (p .follows) (p .follows .among) (p .lent) n k)
   step-goes c d e p flush m n k = flush-goes c d e p n k
 
   -- ---- all steps
@@ -118,8 +117,8 @@ module _ (parents : ℕ) (ids : Parent → List ℕ) (B : Borrowed edition-1) (p
       by : Goes c d e t
           → ((c₁ : Run.Conf W) (e₁ : Driver) → Pair c₁ (do-step d t) e₁ → TableSays (do-step d t) e₁ ts
           → Pair (Run.run W c₁ (shared (do-step d t) ts)) (do-steps (do-step d t) ts) (do-steps e₁ (shared (do-step d t) ts)))
-          → Pair (Run.run W c (cond (is-lack (step-code d t)) (shared (do-step d t) ts) (t ∷ shared (do-step d t) ts))) (do-steps (do-step d t) ts)
-          (do-steps e (cond (is-lack (step-code d t)) (shared (do-step d t) ts) (t ∷ shared (do-step d t) ts)))
+          → Pair (Run.run W c (cond (may-be-lifted (step-code d t)) (shared (do-step d t) ts) (t ∷ shared (do-step d t) ts))) (do-steps (do-step d t) ts)
+          (do-steps e (cond (may-be-lifted (step-code d t)) (shared (do-step d t) ts) (t ∷ shared (do-step d t) ts)))
       by (both z n q) on =
           let more = shared (do-step d t) ts in
           subst (λ (b : Bool). Pair (Run.run W c (cond b more (t ∷ more))) (do-steps (do-step d t) ts) (do-steps e (cond b more (t ∷ more)))) (sym n)
@@ -129,19 +128,19 @@ module _ (parents : ℕ) (ids : Parent → List ℕ) (B : Borrowed edition-1) (p
           subst (λ (b : Bool). Pair (Run.run W c (cond b more (t ∷ more))) (do-steps (do-step d t) ts) (do-steps e (cond b more (t ∷ more)))) (sym n)
           (on c e q (subst (λ (b : Bool). TableSays (do-step d t) (cond b e (do-step e t)) ts) n (k .2)))
 
-  -- ---- what W says of the undos is what the table says
-  undo-told : (w t : State) (l : List Call) → Beside parents w t → newest-said l w ≡ newest-said l t → UndoSaid l t → UndoSaid l w
-  undo-told w t [] b q h = tt
-  undo-told w t (a ∷ cs) b q (inl h) = inl (q ∙ h)
-  undo-told w t (a ∷ cs) b q (inr (inl h)) = inr (inl (q ∙ h .0, subst (λ (y : State). y .lists .staged-counts .capacity ≤ y .lists .staged-counts .count) (sym (b .same)) (h .1)))
-  undo-told w t (a ∷ cs) b q (inr (inr h)) = inr (inr (q ∙ h .0, subst (λ (y : State). y .lists .deleted-counts .capacity ≤ y .lists .deleted-counts .count) (sym (b .same)) (h .1)))
+  -- ---- what W says of the undos is what the table says, unless it is lifted
+  undo-told : (w t : State) (l : List Call) → may-be-lifted (newest-said l w .code) ≡ false → newest-said l w ≡ newest-said l t → UndoSaid l t → UndoSaid l w
+  undo-told w t [] o q h = tt
+  undo-told w t (a ∷ cs) o q (inl h) = inl (q ∙ h)
+  undo-told w t (a ∷ cs) o q (inr (inl h)) = absurd (not-lifted 16 refl (unmake a w .said) o (q ∙ h .0))
+  undo-told w t (a ∷ cs) o q (inr (inr h)) = absurd (not-lifted 21 refl (unmake a w .said) o (q ∙ h .0))
 
   pub told : (c : Run.Conf W) (d e : Driver) → Pair c d e → (t : Step) → Goes c d e t → StepSaid e t → StepTold d t
   told c d e p (call a) g h = tt
   told c d e p undo (both q n r) h =
       let l = e .journal in
-      inl (subst (λ (j : List Call). UndoSaid j (d .now)) (sym (p .same))
-      (undo-told (d .now) (e .now) l (p .beside) (ap (λ (j : List Call). newest-said j (d .now)) (sym (p .same)) ∙ q) h))
+      let z : newest-said l (d .now) ≡ newest-said (d .journal) (d .now) = ap (λ (j : List Call). newest-said j (d .now)) (sym (p .same)) in
+      inl (subst (λ (j : List Call). UndoSaid j (d .now)) (sym (p .same)) (undo-told (d .now) (e .now) l (ap (λ (x : Said). may-be-lifted (x .code)) z ∙ n) (z ∙ q) h))
   told c d e p undo (skips n r) h = inr n
   told c d e p flush g h = tt
 
@@ -161,7 +160,7 @@ module _ (parents : ℕ) (ids : Parent → List ℕ) (B : Borrowed edition-1) (p
           let y = subst (λ (b : Bool). StepsSaid e (cond b (shared (do-step d t) ts) (t ∷ shared (do-step d t) ts))) n h in
           (skipped t n, on c e q (subst (λ (b : Bool). TableSays (do-step d t) (cond b e (do-step e t)) ts) n (k .2)) y)
         where
-          skipped : (t : Step) → is-lack (step-code d t) ≡ true → StepTold d t
+          skipped : (t : Step) → may-be-lifted (step-code d t) ≡ true → StepTold d t
           skipped (call a) n = tt
           skipped undo n = inr n
           skipped flush n = tt
@@ -170,13 +169,13 @@ module _ (parents : ℕ) (ids : Parent → List ℕ) (B : Borrowed edition-1) (p
 pub shared-calls : (ts : List Step) (d : Driver) → OnlyCalls ts → OnlyCalls (shared d ts)
 unfolding OnlyCalls shared
 shared-calls [] d o = tt
-shared-calls (call a ∷ ts) d o = by (is-lack (step-code d (call a))) (shared-calls ts (do-step d (call a)) o)
+shared-calls (call a ∷ ts) d o = by (may-be-lifted (step-code d (call a))) (shared-calls ts (do-step d (call a)) o)
   where
     by : (b : Bool) → OnlyCalls (shared (do-step d (call a)) ts) → OnlyCalls (cond b (shared (do-step d (call a)) ts) (call a ∷ shared (do-step d (call a)) ts))
     by true h = h
     by false h = h
 shared-calls (undo ∷ ts) d o = absurd o
-shared-calls (flush ∷ ts) d o = by (is-lack (step-code d flush)) (shared-calls ts (do-step d flush) o)
+shared-calls (flush ∷ ts) d o = by (may-be-lifted (step-code d flush)) (shared-calls ts (do-step d flush) o)
   where
     by : (b : Bool) → OnlyCalls (shared (do-step d flush) ts) → OnlyCalls (cond b (shared (do-step d flush) ts) (flush ∷ shared (do-step d flush) ts))
     by true h = h
@@ -185,7 +184,7 @@ shared-calls (flush ∷ ts) d o = by (is-lack (step-code d flush)) (shared-calls
 pub shared-among : (parents : ℕ) (ts : List Step) (d : Driver) → StepsAmong parents ts → StepsAmong parents (shared d ts)
 unfolding StepsAmong shared
 shared-among parents [] d m = tt
-shared-among parents (t ∷ ts) d m = by (is-lack (step-code d t)) (shared-among parents ts (do-step d t) (m .1))
+shared-among parents (t ∷ ts) d m = by (may-be-lifted (step-code d t)) (shared-among parents ts (do-step d t) (m .1))
   where
     by : (b : Bool) → StepsAmong parents (shared (do-step d t) ts) → StepsAmong parents (cond b (shared (do-step d t) ts) (t ∷ shared (do-step d t) ts))
     by true h = h

@@ -37,10 +37,19 @@ impl Queue {
         self.calls += 1;
     }
 
-    pub(super) fn flush() -> Self {
-        let mut queue = Queue::default();
-        queue.push(ffi::CALL_FLUSH, 0, 0, &[]);
-        queue
+    /// Begins with a flush, behind what the journal holds now.
+    pub(super) fn begin(&mut self, start: (u64, usize)) {
+        self.clear();
+        self.start = start;
+        self.push(ffi::CALL_FLUSH, 0, 0, &[]);
+    }
+
+    /// No call waits; the buffers are kept.
+    pub(super) fn clear(&mut self) {
+        self.bytes.clear();
+        self.answers.clear();
+        self.ends.clear();
+        (self.calls, self.at) = (0, 0);
     }
 
     /// The flush in front has nothing to do: it is answered, and not made.
@@ -57,9 +66,9 @@ impl Queue {
     }
 
     /// Of a queue whose calls were all made: for each block that ended its height, and the accepted calls before its end with their bytes.
-    pub(super) fn ended(&self) -> Vec<(u64, usize, usize)> {
+    pub(super) fn ended(&self) -> impl Iterator<Item = (u64, usize, usize)> + '_ {
         let (mut at, mut call, mut accepted, mut bytes) = (0, 0, 0, 0);
-        let end = |&(height, calls): &(u64, usize)| {
+        self.ends.iter().map(move |&(height, calls)| {
             while call < calls {
                 let size = HEADER + TOKEN * count_in(&self.bytes[at..]);
                 let journaled = self.answers[call] == 0 && self.bytes[at] != ffi::CALL_FLUSH;
@@ -68,8 +77,7 @@ impl Queue {
                 (at, call) = (at + size, call + 1);
             }
             (height, accepted, bytes)
-        };
-        self.ends.iter().map(end).collect()
+        })
     }
 }
 

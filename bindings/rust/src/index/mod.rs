@@ -4,6 +4,9 @@ mod calls;
 mod changes;
 mod fetching;
 mod journal;
+mod lists;
+mod parents;
+mod places;
 mod run;
 
 use std::collections::{HashMap, VecDeque};
@@ -14,20 +17,27 @@ pub use fetching::{Rows, WholeTable};
 pub use journal::{Journal, Mark};
 
 use crate::balance::{Balance, Token};
-use crate::entry::{BoxEntry, BoxNumber, TxNumber};
+use crate::block_call::BlockCall;
+use crate::entry::{BoxNumber, TxNumber};
 use crate::ffi;
-use crate::lists::{flush_staged_spills, DeletedSpills, SegmentTable, StagedSpills};
-use crate::parents::{Parents, Side};
+use crate::lists::{DeletedSpills, SegmentTable, StagedSpills};
+use crate::parents::Parents;
 use crate::refusal::Refusal;
 use crate::segment::Segment;
 use calls::Queue;
 use changes::Changes;
+use places::Places;
 
 /// A parent of an index, by its number there.
 #[derive(Clone, Copy, Debug, PartialEq, Eq, PartialOrd, Ord, Hash)]
 pub struct ParentNumber(u32);
 
 impl ParentNumber {
+    /// The number of a place among the parents.
+    pub(crate) fn at(place: usize) -> Self {
+        ParentNumber(u32::try_from(place).expect("fewer than 2^32 parents"))
+    }
+
     /// The place among the parents, from 0.
     pub fn place(self) -> usize {
         self.0 as usize
@@ -105,6 +115,7 @@ pub struct Index {
     journal: Journal,
     blocks: VecDeque<Block>,
     queue: Queue,
+    places: Places,
     changes: Option<Changes>,
     /// Calls may be made without a flush before them: no undo was left half way.
     settled: bool,
@@ -142,6 +153,7 @@ impl Index {
             journal,
             blocks: VecDeque::new(),
             queue: Queue::default(),
+            places: Places::default(),
             changes: None,
             settled: false,
         };
@@ -156,84 +168,12 @@ impl Index {
         IndexParts { parents: self.parents.to_vec(), staged: self.staged, table: self.table, deleted: self.deleted, journal: self.journal }
     }
 
-    // ---- parents
-
-    /// One parent more, with nothing in it.
-    pub fn add_parent(&mut self, id: [u8; 32]) -> ParentNumber {
-        self.add_parent_with(&Segment::new(id), &Balance::new())
-    }
-
-    /// One parent more, as it was stored. Two parents of one id share the keys of their rows: [`Index::parent`] names the later one.
-    ///
-    /// # Panics
-    /// If there are 2^32 parents.
-    pub fn add_parent_with(&mut self, segment: &Segment, balance: &Balance) -> ParentNumber {
-        let number = ParentNumber(u32::try_from(self.parents.push(segment, balance)).expect("fewer than 2^32 parents"));
-        self.numbers.insert(*segment.parent(), number);
-        number
-    }
-
-    /// The parent of an id.
-    pub fn parent(&self, id: &[u8; 32]) -> Option<ParentNumber> {
-        self.numbers.get(id).copied()
-    }
-
-    /// All parents, by ascending number.
-    pub fn parents(&self) -> impl ExactSizeIterator<Item = ParentNumber> {
-        (0..self.parents.count as u32).map(ParentNumber)
-    }
-
-    /// A parent's id.
-    pub fn id(&self, parent: ParentNumber) -> &[u8; 32] {
-        self.parents.id(parent.place())
-    }
-
-    /// The entries of the head of boxes: the newest boxes, each with its mark.
-    pub fn boxes(&self, parent: ParentNumber) -> &[BoxEntry] {
-        BoxEntry::of(self.parents.entries(parent.place(), Side::Boxes))
-    }
-
-    /// The numbers of the head of transactions.
-    pub fn txs(&self, parent: ParentNumber) -> &[TxNumber] {
-        TxNumber::of(self.parents.entries(parent.place(), Side::Txs))
-    }
-
-    /// A parent's nanoErgs.
-    pub fn nano_ergs(&self, parent: ParentNumber) -> i64 {
-        self.parents.nanos(parent.place())
-    }
-
-    /// A copy of a parent's segment.
-    pub fn segment(&self, parent: ParentNumber) -> Segment {
-        self.parents.segment(parent.place())
-    }
-
-    /// A copy of a parent's balance.
-    pub fn balance(&self, parent: ParentNumber) -> Balance {
-        self.parents.balance(parent.place())
-    }
-
-    /// A parent's address record, as [`IndexedAddress::to_bytes`](crate::IndexedAddress::to_bytes) writes it with the balance known; none where the parent holds
-    /// nothing.
-    pub fn address_record(&self, parent: ParentNumber) -> Option<Vec<u8>> {
-        self.parents.record(parent.place())
-    }
-
-    /// The parents go, and with them the journal, whose calls name them, and the calls that wait. The lists stay.
-    pub fn forget_parents(&mut self) {
-        self.parents.clear();
-        self.numbers.clear();
-        self.journal.clear();
-        self.blocks.clear();
-        self.queue = Queue::default();
-    }
-
     // ---- calls that wait
 
     fn wait(&mut self, kind: u8, parent: ParentNumber, number: i64, tokens: &[Token]) -> &mut Self {
         assert!(parent.place() < self.parents.count, "parent {} of {}", parent.0, self.parents.count);
         if self.queue.calls == 0 {
-            self.queue = Queue { start: (self.journal.mark().0, self.journal.used), ..Queue::flush() };
+            self.queue.begin((self.journal.mark().0, self.journal.used));
         }
         self.queue.push(kind, parent.0, number, tokens);
         self
@@ -262,6 +202,17 @@ impl Index {
     /// Queues [`Balance::subtract_box`].
     pub fn debit(&mut self, parent: ParentNumber, nanos: i64, tokens: &[Token]) -> &mut Self {
         self.wait(ffi::CALL_DEBIT, parent, nanos, tokens)
+    }
+
+    /// Queues a call of a block.
+    pub fn queue(&mut self, parent: ParentNumber, call: &BlockCall) -> &mut Self {
+        match call {
+            BlockCall::AppendBox(number) => self.append_box(parent, *number),
+            BlockCall::AppendTx(number) => self.append_tx(parent, *number),
+            BlockCall::Spend(target) => self.spend(parent, *target),
+            BlockCall::Credit(nanos, tokens) => self.credit(parent, *nanos, tokens),
+            BlockCall::Debit(nanos, tokens) => self.debit(parent, *nanos, tokens),
+        }
     }
 
     /// How many calls wait.
@@ -331,82 +282,6 @@ impl Index {
         self.blocks.drain(..forgotten);
         self.blocks.iter_mut().for_each(|block| block.bytes -= bytes);
         self.journal.forget((end.0 - self.journal.forgotten) as usize, bytes);
-    }
-
-    // ---- lists and journal
-
-    /// Writes the staged rows to the table and removes the deleted ones. Refused by 25.
-    pub fn flush(&mut self) -> Result<(), Refusal> {
-        self.make_room();
-        if let Some(changes) = &mut self.changes {
-            changes.note_flush(&self.staged, &self.deleted);
-        }
-        flush_staged_spills(&mut self.staged, &mut self.table, &mut self.deleted)
-    }
-
-    /// Room in the table for every staged row.
-    fn make_room(&mut self) {
-        let free = self.table.capacity() - self.table.len().min(self.table.capacity());
-        if free < self.staged.len() {
-            self.table.list.grow(self.staged.len());
-        }
-    }
-
-    /// The staged spills.
-    pub fn staged(&self) -> &StagedSpills {
-        &self.staged
-    }
-
-    /// The segments table.
-    pub fn table(&self) -> &SegmentTable {
-        &self.table
-    }
-
-    /// The deleted spills.
-    pub fn deleted(&self) -> &DeletedSpills {
-        &self.deleted
-    }
-
-    /// The calls that stand.
-    pub fn journal(&self) -> &Journal {
-        &self.journal
-    }
-
-    /// No call stands any more that could be taken back.
-    pub fn forget_journal(&mut self) {
-        self.journal.clear();
-        self.blocks.clear();
-    }
-
-    /// The calls that stand are these, of the parents by their numbers here; no block has ended.
-    pub fn set_journal(&mut self, entries: &[u8], standing: usize) {
-        self.journal.replace(entries, standing);
-        self.blocks.clear();
-    }
-
-    // ---- rows that are kept elsewhere
-
-    /// From now on changed rows are noted for [`Index::changes`].
-    pub fn note_changes(&mut self) {
-        self.changes.get_or_insert_with(Changes::default);
-    }
-
-    /// The rows that flushes changed since [`Index::changes_written`], and those that the next flush will change, each as it will stand then, in no order. Nothing unless
-    /// [`Index::note_changes`] was called.
-    pub fn changes(&self) -> Vec<RowChange<'_>> {
-        self.changes.as_ref().map_or_else(Vec::new, |changes| changes.list(&self.staged, &self.table, &self.deleted))
-    }
-
-    /// The changed rows are kept elsewhere now.
-    pub fn changes_written(&mut self) {
-        if let Some(changes) = &mut self.changes {
-            *changes = Changes { written: true, ..Changes::default() };
-        }
-    }
-
-    /// Holds no row any more: each is kept elsewhere, as [`Index::changes`] told, and fetched when a call needs it.
-    pub fn forget_rows(&mut self) {
-        (self.staged.list.count, self.table.list.count, self.deleted.list.count) = (0, 0, 0);
     }
 }
 

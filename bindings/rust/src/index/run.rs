@@ -7,10 +7,10 @@ use crate::ffi;
 use crate::refusal::{accepted, Refusal};
 
 /// Where a batch stopped: the next byte of its input, the calls made, and why.
-struct Stop {
-    at: usize,
-    made: usize,
-    end: u8,
+pub(super) struct Stop {
+    pub(super) at: usize,
+    pub(super) made: usize,
+    pub(super) end: u8,
 }
 
 /// What was refused: the first call of an input, or the undo of the newest standing call.
@@ -33,11 +33,13 @@ impl Index {
             return Err(error);
         }
         let (start, used) = queue.start;
-        for (height, calls, bytes) in queue.ended() {
-            self.blocks.push_back(Block { height, end: Mark(start + calls as u64), bytes: used + bytes });
-        }
+        let block = |(height, calls, bytes)| Block { height, end: Mark(start + calls as u64), bytes: used + bytes };
+        self.blocks.extend(queue.ended().map(block));
         // the first answer is that of the flush
-        Ok(queue.answers.get(1..).unwrap_or_default().iter().map(|&code| accepted(code)).collect())
+        let answers = queue.answers.get(1..).unwrap_or_default().iter().map(|&code| accepted(code)).collect();
+        queue.clear();
+        self.queue = queue;
+        Ok(answers)
     }
 
     /// Makes the calls of a queue that were not made yet.
@@ -53,6 +55,7 @@ impl Index {
             queue.at += stop.at;
             match stop.end {
                 ffi::END_OF_INPUT => {
+                    self.places.used(self.staged.len(), self.table.len());
                     self.settled = true;
                     return Ok(());
                 }
@@ -68,7 +71,8 @@ impl Index {
     /// If calls before the mark have left the journal.
     pub fn roll_back_with<R: Rows>(&mut self, mark: Mark, rows: &mut R) -> Result<(), R::Error> {
         let standing = mark.0.checked_sub(self.journal.forgotten).expect("the calls behind the mark are remembered") as usize;
-        (self.queue, self.settled) = (Queue::default(), false);
+        self.queue.clear();
+        self.settled = false;
         loop {
             self.make_room();
             if let Some(changes) = &mut self.changes {
@@ -88,7 +92,7 @@ impl Index {
     }
 
     /// A batch begins with a flush.
-    fn before_a_flush(&mut self) {
+    pub(super) fn before_a_flush(&mut self) {
         self.make_room();
         if let Some(changes) = &mut self.changes {
             changes.note_flush(&self.staged, &self.deleted);
@@ -106,6 +110,7 @@ impl Index {
                 Step::Made(input) => self.fetch_for(&first(input), false, rows)?,
                 Step::Undone => self.fetch_for(&newest(self.journal.entries()), true, rows)?,
             },
+            STAGING_FULL if self.places.more(&self.staged.list) => {}
             STAGING_FULL if self.staged.is_empty() => self.staged.list.grow(1),
             DELETED_FULL if self.deleted.is_empty() => self.deleted.list.grow(1),
             STAGING_FULL | DELETED_FULL => self.flush()?,
@@ -115,10 +120,10 @@ impl Index {
         Ok(())
     }
 
-    fn batch(&mut self, input: &[u8], answers: &mut [u8]) -> Result<Stop, Refusal> {
+    pub(super) fn batch(&mut self, input: &[u8], answers: &mut [u8]) -> Result<Stop, Refusal> {
         let (p, j) = (&mut self.parents, &mut self.journal);
         let (s, t, d) = (&mut self.staged.list, &mut self.table.list, &mut self.deleted.list);
-        let (s_capacity, t_capacity, d_capacity) = (s.capacity(), t.capacity(), d.capacity());
+        let (s_capacity, t_capacity, d_capacity) = (self.places.for_batch(s), t.capacity(), d.capacity());
         let mut stop = Stop { at: 0, made: 0, end: 0 };
         // SAFETY: each pointer comes from a live borrow, each length is that of its slice, and nothing that is written overlaps anything else.
         accepted(unsafe {
@@ -163,7 +168,7 @@ impl Index {
     fn undo_to(&mut self, mark: usize) -> u8 {
         let (p, j) = (&mut self.parents, &mut self.journal);
         let (s, t, d) = (&mut self.staged.list, &mut self.table.list, &mut self.deleted.list);
-        let (s_capacity, t_capacity, d_capacity) = (s.capacity(), t.capacity(), d.capacity());
+        let (s_capacity, t_capacity, d_capacity) = (self.places.for_undo(s), t.capacity(), d.capacity());
         // SAFETY: as in `batch`.
         unsafe {
             ffi::ergo_index_undo_to(

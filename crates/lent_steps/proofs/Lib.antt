@@ -1,0 +1,3 @@
+-- The laws of `lent_steps`.
+pub mod LeaveLaws
+pub mod LentLaws

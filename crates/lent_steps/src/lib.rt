@@ -1,0 +1,1 @@
+// A driver's steps with lists of other capacities: laws only.
