@@ -23,6 +23,7 @@
 # make store-bench the index and the reference over the same LMDB (BOXES, STORE_PARENTS)
 # make fmt    the layout of all Rattle and antt files
 # make times  the seconds of the last gate, crate by crate
+# make facts  by which fact the prover refused each must-fail edit of the last gate
 
 SHELL := /bin/bash
 .SHELLFLAGS := -o pipefail -c
@@ -30,13 +31,15 @@ SHELL := /bin/bash
 export RT_JOBS ?= 6
 # The prover's allocator keeps its pages.
 export MIMALLOC_PURGE_DELAY ?= -1
+# Its temporary files stand in memory, where there is room.
+export TMPDIR := $(shell scripts/temporary-folder.sh)
 RT := $(shell command -v rt 2>/dev/null)
 NO_RT := the Rattle kit is missing: no command 'rt' on PATH (expected in /opt/rattle/bin)
 ARCHIVE := target/staticlib/libergo_index.a
 # What cargo is told of it.
 WITH_ARCHIVE := ERGO_INDEX_LIB_DIR=$(CURDIR)/target/staticlib
 
-.PHONY: setup indexer store-demo store-check crash-test store-bench run load histories fork-trial test times c-test bindings convert flat-view copies sorted-accounts compare compare-full compare-sample compare-build vectors bench all-checks fmt
+.PHONY: setup indexer store-demo store-check crash-test store-bench run load histories fork-trial test times facts c-test bindings convert flat-view copies sorted-accounts compare compare-full compare-sample compare-build vectors bench all-checks fmt
 
 run:
 ifeq ($(RT),)
@@ -143,6 +146,9 @@ HISTORY_CALLS := 3000
 copies: $(ARCHIVE)
 	@cd bindings/rust && $(WITH_ARCHIVE) cargo build --offline --locked --quiet --release --example copies
 	@bindings/rust/target/release/examples/copies $(HISTORIES) $(HISTORY_CALLS)
+
+facts:
+	@scripts/facts.py
 
 times:
 	@scripts/times.py

@@ -96,7 +96,7 @@ fn undo_noted(
 {
     let counts = u.counts;
     let held = counts.table;
-    if held.count <= driver_steps::FEW_RECORDS {
+    if held.count <= record_hints::FEW_RECORDS {
         let mut none = [0u16; 1];
         return undo_flushed(
             parents,
@@ -113,7 +113,7 @@ fn undo_noted(
             u,
         );
     }
-    let mut hints = [0u16; driver_steps::HINTS];
+    let mut hints = [0u16; record_hints::BATCH_HINTS];
     run_steps::note_table(counts, table, &mut hints);
     undo_flushed(
         parents,

@@ -10,11 +10,6 @@ use calls::Call;
 use driver_calls::Read;
 use index_types::SpillCounts;
 
-// A table of no more records needs no hints of where they stand; how many hints there are.
-pub const FEW_RECORDS: usize = 128;
-
-pub const HINTS: usize = 65536;
-
 // A step of the runner; or a credit where it adds, else a debit: parent, nanoErgs, where its tokens begin and how many they are.
 pub enum Move {
     Segment(Call),

@@ -193,7 +193,7 @@ pub fn apply_noted(
         ≡ apply-turns journaled parents (now (input .entry)) (length (now (input .entry)) + 1) (applying (state (now (ids .entry)) (now (numbers .entry)) (now (lengths .entry)) (now (spills .entry)) (lists-with counts (now (staged .entry)) (now (table .entry)) (now (deleted .entry)))) (journal (now (entries .entry)) used standing) 0 0 0 (now (answers .entry)) (now (popped .entry))) ⌝ }
 {
     let held = counts.table;
-    if held.count <= driver_steps::FEW_RECORDS {
+    if held.count <= record_hints::FEW_RECORDS {
         let mut none = [0u16; 1];
         return apply_ready(
             journaled,
@@ -215,7 +215,7 @@ pub fn apply_noted(
             standing,
         );
     }
-    let mut hints = [0u16; driver_steps::HINTS];
+    let mut hints = [0u16; record_hints::BATCH_HINTS];
     run_steps::note_table(counts, table, &mut hints);
     apply_ready(
         journaled,

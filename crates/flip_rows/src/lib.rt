@@ -96,7 +96,7 @@ fn flip_noted(
     ensures { λ r. ⌜ Stages edition (in-rows (edition-of edition) (sources (now (parent .entry)) (now (staged .entry)) («staged_counts» .count) (now (table .entry)) «table_count») («staged_counts» .capacity) target spend spills seen)
         «staged_counts» (now (staged .entry)) r (now (staged .exit)) ⌝ }
 {
-    let mut hints = [0u16; 16384];
+    let mut hints = [0u16; record_hints::HINTS];
     let size = buffer_core::record_size(edition);
     record_hints::note_places(table, size, table_count, &mut hints);
     flip_hinted(
@@ -137,7 +137,7 @@ pub fn flip_rows(
         return Flipped::Refused(code);
     }
     if hints.len() == 0 {
-        if 128 < table_count {
+        if record_hints::FEW_RECORDS < table_count {
             return flip_noted(
                 edition,
                 parent,

@@ -20,6 +20,8 @@ use index_types::Paged;
 use index_types::RowEdition;
 use index_types::SEGMENT_THRESHOLD;
 use page_entries::Filling;
+use record_hints::FEW_RECORDS;
+use record_hints::HINTS;
 use spill_rows::Read;
 
 // Puts the row of a spill number into a page. A refused row puts nothing; none is met, since all are checked before.
@@ -204,86 +206,6 @@ fn page_hinted<'a>(
     }
 }
 
-// page_hinted for a table of few records.
-fn page_few<'a>(
-    edition: RowEdition,
-    parent: &[u8; 32],
-    spills: usize,
-    head: &[i64],
-    len: usize,
-    staged: &'a [u8],
-    staged_count: usize,
-    table: &'a [u8],
-    table_count: usize,
-    offset: usize,
-    wanted: usize,
-    out: &mut [i64],
-) -> Paged
-    requires { ⌜ («staged_count» * record-size edition ≤ length (now staged)) × («table_count» * record-size edition ≤ length (now table)) × (spills < 2147483648)
-        × (distinct (keys (record-size edition) «table_count» (now table)) ≡ true) × (len ≤ length (now head)) × (wanted ≤ page-places) × (page-places ≤ length (now out)) ⌝ }
-    ensures { λ r. ⌜ paging r (now (out .exit))
-        ≡ page-over (rows-up (row-checked (edition-of edition) (sources (now (parent .entry)) (now (staged .entry)) «staged_count» (now (table .entry)) «table_count»)) 0 spills)
-        (take len (now (head .entry))) offset wanted (now (out .entry)) ⌝ }
-{
-    let none = [0u16; 1];
-    page_hinted(
-        edition,
-        parent,
-        spills,
-        head,
-        len,
-        staged,
-        staged_count,
-        table,
-        table_count,
-        &none[..0],
-        offset,
-        wanted,
-        out,
-    )
-}
-
-// page_hinted for a table of many records: where they stand is noted first.
-fn page_many<'a>(
-    edition: RowEdition,
-    parent: &[u8; 32],
-    spills: usize,
-    head: &[i64],
-    len: usize,
-    staged: &'a [u8],
-    staged_count: usize,
-    table: &'a [u8],
-    table_count: usize,
-    offset: usize,
-    wanted: usize,
-    out: &mut [i64],
-) -> Paged
-    requires { ⌜ («staged_count» * record-size edition ≤ length (now staged)) × («table_count» * record-size edition ≤ length (now table)) × (spills < 2147483648)
-        × (distinct (keys (record-size edition) «table_count» (now table)) ≡ true) × (len ≤ length (now head)) × (wanted ≤ page-places) × (page-places ≤ length (now out)) ⌝ }
-    ensures { λ r. ⌜ paging r (now (out .exit))
-        ≡ page-over (rows-up (row-checked (edition-of edition) (sources (now (parent .entry)) (now (staged .entry)) «staged_count» (now (table .entry)) «table_count»)) 0 spills)
-        (take len (now (head .entry))) offset wanted (now (out .entry)) ⌝ }
-{
-    let mut hints = [0u16; 16384];
-    let size = buffer_core::record_size(edition);
-    record_hints::note_places(table, size, table_count, &mut hints);
-    page_hinted(
-        edition,
-        parent,
-        spills,
-        head,
-        len,
-        staged,
-        staged_count,
-        table,
-        table_count,
-        &hints,
-        offset,
-        wanted,
-        out,
-    )
-}
-
 // The page over the rows and the first numbers of the head, or the code of the first row that is refused.
 pub fn page_rows<'a>(
     edition: RowEdition,
@@ -305,8 +227,9 @@ pub fn page_rows<'a>(
         ≡ page-over (rows-up (row-checked (edition-of edition) (sources (now (parent .entry)) (now (staged .entry)) «staged_count» (now (table .entry)) «table_count»)) 0 spills)
         (take len (now (head .entry))) offset wanted (now (out .entry)) ⌝ }
 {
-    if table_count <= 128 {
-        return page_few(
+    if table_count <= FEW_RECORDS {
+        let none = [0u16; 1];
+        return page_hinted(
             edition,
             parent,
             spills,
@@ -316,12 +239,16 @@ pub fn page_rows<'a>(
             staged_count,
             table,
             table_count,
+            &none[..0],
             offset,
             wanted,
             out,
         );
     }
-    page_many(
+    let mut hints = [0u16; HINTS];
+    let size = buffer_core::record_size(edition);
+    record_hints::note_places(table, size, table_count, &mut hints);
+    page_hinted(
         edition,
         parent,
         spills,
@@ -331,6 +258,7 @@ pub fn page_rows<'a>(
         staged_count,
         table,
         table_count,
+        &hints,
         offset,
         wanted,
         out,

@@ -11,17 +11,11 @@ use index_types::RowEdition;
 use index_types::TOKEN_ID_BYTES;
 use index_types::TOKEN_LIMIT;
 
-// The hints on where the records of a table stand.
-const HINTS: usize = 16384;
-
-// A table of so many records is searched without hints.
-const FEW_RECORDS: usize = 128;
-
 // Notes where the records of a table stand, if they are many.
 fn note_table(edition: RowEdition, table: &[u8], count: usize, hints: &mut [u16])
     requires { ⌜ count * record-size edition ≤ length (now table) ⌝ }
 {
-    if FEW_RECORDS < count {
+    if record_hints::FEW_RECORDS < count {
         let size = buffer_core::record_size(edition);
         record_hints::note_places(table, size, count, hints);
     }
@@ -57,8 +51,8 @@ fn rank_noted<'a>(
 {
     let table_counts = counts.table;
     let other_table_counts = other_counts.table;
-    let mut hints = [0u16; HINTS];
-    let mut other_hints = [0u16; HINTS];
+    let mut hints = [0u16; record_hints::HINTS];
+    let mut other_hints = [0u16; record_hints::HINTS];
     note_table(edition, table, table_counts.count, &mut hints);
     note_table(
         other_edition,

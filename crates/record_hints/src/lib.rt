@@ -10,6 +10,15 @@ ghost use Rattle.records.specs.Find.{find-key, distinct, locate-key};
 use records::Found;
 use records::Place;
 
+// Of a list of more records it is noted where they stand before its rows are read.
+pub const FEW_RECORDS: usize = 128;
+
+// The hints of a single call.
+pub const HINTS: usize = 16384;
+
+// The hints of a batch.
+pub const BATCH_HINTS: usize = 65536;
+
 // ---- noting
 
 fn clear_hints(hints: &mut [u16]) {

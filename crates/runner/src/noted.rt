@@ -29,7 +29,7 @@ pub fn run_noted(
         ≡ runs edition-1 parents (now (input .entry)) (length (now (input .entry)) + 1) (start (state (now (ids .entry)) (now (numbers .entry)) (now (lengths .entry)) (now (spills .entry)) (lists-with counts (now (staged .entry)) (now (table .entry)) (now (deleted .entry)))) (now (answers .entry)) (now (popped .entry))) ⌝ }
 {
     let held = counts.table;
-    if held.count <= 128 {
+    if held.count <= record_hints::FEW_RECORDS {
         let mut none = [0u16; 1];
         return super::run_ready(
             input,
@@ -47,7 +47,7 @@ pub fn run_noted(
             counts,
         );
     }
-    let mut hints = [0u16; 65536];
+    let mut hints = [0u16; record_hints::BATCH_HINTS];
     run_steps::note_table(counts, table, &mut hints);
     super::run_ready(
         input,

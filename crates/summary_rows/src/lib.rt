@@ -22,6 +22,8 @@ use index_types::RowEdition;
 use index_types::SEGMENT_THRESHOLD;
 use index_types::SUMMARY_LINE;
 use index_types::Summarized;
+use record_hints::FEW_RECORDS;
+use record_hints::HINTS;
 use spill_rows::Read;
 
 // Writes the line of the row of a spill number. A refused row writes nothing; none is met, since all are checked before.
@@ -179,74 +181,6 @@ fn summarize_hinted<'a>(
     }
 }
 
-// summarize_hinted for a table of few records.
-fn summarize_few<'a>(
-    edition: RowEdition,
-    parent: &[u8; 32],
-    spills: usize,
-    staged: &'a [u8],
-    staged_count: usize,
-    table: &'a [u8],
-    table_count: usize,
-    lines: usize,
-    summary: &mut [u64],
-) -> Summarized
-    requires { ⌜ («staged_count» * record-size edition ≤ length (now staged)) × («table_count» * record-size edition ≤ length (now table)) × (spills < 2147483648)
-        × (distinct (keys (record-size edition) «table_count» (now table)) ≡ true) × (spills ≤ lines) × (lines * summary-line ≤ length (now summary)) ⌝ }
-    ensures { λ r. ⌜ with-summary r (now (summary .exit))
-        ≡ put-lines (rows-up (row-checked (edition-of edition) (sources (now (parent .entry)) (now (staged .entry)) «staged_count» (now (table .entry)) «table_count»)) 0 spills)
-        spills lines (now (summary .entry)) ⌝ }
-{
-    let none = [0u16; 1];
-    summarize_hinted(
-        edition,
-        parent,
-        spills,
-        staged,
-        staged_count,
-        table,
-        table_count,
-        &none[..0],
-        lines,
-        summary,
-    )
-}
-
-// summarize_hinted for a table of many records: where they stand is noted first.
-fn summarize_many<'a>(
-    edition: RowEdition,
-    parent: &[u8; 32],
-    spills: usize,
-    staged: &'a [u8],
-    staged_count: usize,
-    table: &'a [u8],
-    table_count: usize,
-    lines: usize,
-    summary: &mut [u64],
-) -> Summarized
-    requires { ⌜ («staged_count» * record-size edition ≤ length (now staged)) × («table_count» * record-size edition ≤ length (now table)) × (spills < 2147483648)
-        × (distinct (keys (record-size edition) «table_count» (now table)) ≡ true) × (spills ≤ lines) × (lines * summary-line ≤ length (now summary)) ⌝ }
-    ensures { λ r. ⌜ with-summary r (now (summary .exit))
-        ≡ put-lines (rows-up (row-checked (edition-of edition) (sources (now (parent .entry)) (now (staged .entry)) «staged_count» (now (table .entry)) «table_count»)) 0 spills)
-        spills lines (now (summary .entry)) ⌝ }
-{
-    let mut hints = [0u16; 16384];
-    let size = buffer_core::record_size(edition);
-    record_hints::note_places(table, size, table_count, &mut hints);
-    summarize_hinted(
-        edition,
-        parent,
-        spills,
-        staged,
-        staged_count,
-        table,
-        table_count,
-        &hints,
-        lines,
-        summary,
-    )
-}
-
 // The summary of the rows, or the code of the first row that is refused.
 fn summarize_spills<'a>(
     edition: RowEdition,
@@ -265,8 +199,9 @@ fn summarize_spills<'a>(
         ≡ put-lines (rows-up (row-checked (edition-of edition) (sources (now (parent .entry)) (now (staged .entry)) «staged_count» (now (table .entry)) «table_count»)) 0 spills)
         spills lines (now (summary .entry)) ⌝ }
 {
-    if table_count <= 128 {
-        return summarize_few(
+    if table_count <= FEW_RECORDS {
+        let none = [0u16; 1];
+        return summarize_hinted(
             edition,
             parent,
             spills,
@@ -274,11 +209,15 @@ fn summarize_spills<'a>(
             staged_count,
             table,
             table_count,
+            &none[..0],
             lines,
             summary,
         );
     }
-    summarize_many(
+    let mut hints = [0u16; HINTS];
+    let size = buffer_core::record_size(edition);
+    record_hints::note_places(table, size, table_count, &mut hints);
+    summarize_hinted(
         edition,
         parent,
         spills,
@@ -286,6 +225,7 @@ fn summarize_spills<'a>(
         staged_count,
         table,
         table_count,
+        &hints,
         lines,
         summary,
     )

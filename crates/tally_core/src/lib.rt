@@ -18,69 +18,11 @@ use index_types::ListCounts;
 use index_types::RowEdition;
 use index_types::Tallied;
 use index_types::Tally;
+use record_hints::FEW_RECORDS;
+use record_hints::HINTS;
 pub use row_tallies::check_rows;
 
-// `row_tallies::count_rows` for a table of few records.
-fn count_few<'a>(
-    edition: RowEdition,
-    parent: &[u8; 32],
-    spills: usize,
-    so_far: Tally,
-    staged: &'a [u8],
-    staged_count: usize,
-    table: &'a [u8],
-    table_count: usize,
-) -> Tallied
-    requires { ⌜ («staged_count» * record-size edition ≤ length (now staged)) × («table_count» * record-size edition ≤ length (now table)) × (spills < 2147483648)
-        × («so_far» .unspent ≤ segment-threshold) × («so_far» .spent ≤ segment-threshold) × («so_far» .unknown ≤ segment-threshold) × (distinct (keys (record-size edition) «table_count» (now table)) ≡ true) ⌝ }
-    ensures { λ r. ⌜ r ≡ tally-rows (row-checked (edition-of edition) (sources (now (parent .entry)) (now (staged .entry)) «staged_count» (now (table .entry)) «table_count»)) 0 spills «so_far» ⌝ }
-{
-    let none = [0u16; 1];
-    row_tallies::count_rows(
-        edition,
-        parent,
-        spills,
-        so_far,
-        staged,
-        staged_count,
-        table,
-        table_count,
-        &none[..0],
-    )
-}
-
-// `row_tallies::count_rows` for a table of many records: where they stand is noted first.
-fn count_many<'a>(
-    edition: RowEdition,
-    parent: &[u8; 32],
-    spills: usize,
-    so_far: Tally,
-    staged: &'a [u8],
-    staged_count: usize,
-    table: &'a [u8],
-    table_count: usize,
-) -> Tallied
-    requires { ⌜ («staged_count» * record-size edition ≤ length (now staged)) × («table_count» * record-size edition ≤ length (now table)) × (spills < 2147483648)
-        × («so_far» .unspent ≤ segment-threshold) × («so_far» .spent ≤ segment-threshold) × («so_far» .unknown ≤ segment-threshold) × (distinct (keys (record-size edition) «table_count» (now table)) ≡ true) ⌝ }
-    ensures { λ r. ⌜ r ≡ tally-rows (row-checked (edition-of edition) (sources (now (parent .entry)) (now (staged .entry)) «staged_count» (now (table .entry)) «table_count»)) 0 spills «so_far» ⌝ }
-{
-    let mut hints = [0u16; 16384];
-    let size = buffer_core::record_size(edition);
-    record_hints::note_places(table, size, table_count, &mut hints);
-    row_tallies::count_rows(
-        edition,
-        parent,
-        spills,
-        so_far,
-        staged,
-        staged_count,
-        table,
-        table_count,
-        &hints,
-    )
-}
-
-// The entries of all rows, on top of those of the head.
+// The entries of all rows, on top of those of the head. Where the records of a larger table stand is noted first.
 fn count_spills<'a>(
     edition: RowEdition,
     parent: &[u8; 32],
@@ -95,8 +37,9 @@ fn count_spills<'a>(
         × («so_far» .unspent ≤ segment-threshold) × («so_far» .spent ≤ segment-threshold) × («so_far» .unknown ≤ segment-threshold) × (distinct (keys (record-size edition) «table_count» (now table)) ≡ true) ⌝ }
     ensures { λ r. ⌜ r ≡ tally-rows (row-checked (edition-of edition) (sources (now (parent .entry)) (now (staged .entry)) «staged_count» (now (table .entry)) «table_count»)) 0 spills «so_far» ⌝ }
 {
-    if table_count <= 128 {
-        return count_few(
+    if table_count <= FEW_RECORDS {
+        let none = [0u16; 1];
+        return row_tallies::count_rows(
             edition,
             parent,
             spills,
@@ -105,9 +48,13 @@ fn count_spills<'a>(
             staged_count,
             table,
             table_count,
+            &none[..0],
         );
     }
-    count_many(
+    let mut hints = [0u16; HINTS];
+    let size = buffer_core::record_size(edition);
+    record_hints::note_places(table, size, table_count, &mut hints);
+    row_tallies::count_rows(
         edition,
         parent,
         spills,
@@ -116,6 +63,7 @@ fn count_spills<'a>(
         staged_count,
         table,
         table_count,
+        &hints,
     )
 }
 
