@@ -23,7 +23,7 @@ pub struct AddressRead {
 }
 
 // Whether there is a balance, its nanoErgs and token count, and the position after it; or the refusal code.
-#[derive(Drop)]
+#[derive(Clone, Copy)]
 pub enum Flagged {
     Held(bool, i64, usize, usize),
     Refused(u8),

@@ -2,7 +2,7 @@
 // Internal: ids are found and moved by `token_ids`, tokens added and subtracted by `token_changes`. The public calls are those of `balance`.
 
 // How many tokens are held after a change, or its refusal code.
-#[derive(Drop)]
+#[derive(Clone, Copy)]
 pub enum Counted {
     Count(usize),
     Refused(u8),

@@ -15,7 +15,7 @@ pub const LONGEST_RECORD: usize = 10326;
 
 pub const LONGEST_ROW: usize = 10292;
 
-#[derive(Drop)]
+#[derive(Clone, Copy)]
 pub enum Direction {
     Spend,
     Unspend,
@@ -34,21 +34,21 @@ pub fn is_spend(direction: Direction) -> bool
 // ---- the steps of a spend
 
 // The absolute value of a row's first number, or the row's refusal code.
-#[derive(Drop)]
+#[derive(Clone, Copy)]
 pub enum Lead {
     Leads(u64),
     NoLead(u8),
 }
 
 // How many rows, from spill 0 on, begin at or below the target, or the refusal code of a row that was read.
-#[derive(Drop)]
+#[derive(Clone, Copy)]
 pub enum Low {
     Upto(usize),
     Broken(u8),
 }
 
 // What a row shows: the place of the entry to take; that the walk ends, or goes on, and whether the target was seen; or the row's refusal code.
-#[derive(Drop)]
+#[derive(Clone, Copy)]
 pub enum Look {
     Take(usize),
     Stop(bool),
@@ -57,7 +57,7 @@ pub enum Look {
 }
 
 // Where the walk found the entry, as a spill number and a place; that it ended, and whether the target was seen; or a row's refusal code.
-#[derive(Drop)]
+#[derive(Clone, Copy)]
 pub enum Walk {
     Hit(usize, usize),
     Ended(bool),

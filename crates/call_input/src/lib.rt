@@ -7,7 +7,7 @@ ghost use Rattle.call_input.specs.Waiting.{Fed};
 use libc::STDIN_FILENO;
 
 // What is done next. `Read` and `End` hold the refusal, or 0, that stands behind the calls made where the input has no more bytes.
-#[derive(Drop)]
+#[derive(Clone, Copy)]
 pub enum Next {
     Run,
     Read(u8),
@@ -17,7 +17,7 @@ pub enum Next {
 }
 
 // The next byte of the buffer, the bytes in it, the calls made, and what is done next.
-#[derive(Drop)]
+#[derive(Clone, Copy)]
 pub struct Place {
     pub at: usize,
     pub have: usize,

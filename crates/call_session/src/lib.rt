@@ -24,7 +24,7 @@ use runner_start::{
 };
 
 // The counts of the lists, and where the session stands in its input.
-#[derive(Drop)]
+#[derive(Clone, Copy)]
 struct Session {
     counts: SpillCounts,
     place: Place,

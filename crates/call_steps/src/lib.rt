@@ -20,7 +20,7 @@ pub const AMOUNTS_AT: usize = 1024;
 pub const NANOS_AT: usize = 1152;
 
 // What a call says: the refusal or 0, and a number where one was popped.
-#[derive(Drop)]
+#[derive(Clone, Copy)]
 pub struct Said {
     pub code: u8,
     pub popped: bool,
@@ -28,7 +28,7 @@ pub struct Said {
 }
 
 // What a call says, and the counts of the lists after it.
-#[derive(Drop)]
+#[derive(Clone, Copy)]
 pub struct Stepped {
     pub said: Said,
     pub counts: SpillCounts,

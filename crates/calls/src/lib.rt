@@ -7,7 +7,7 @@ use segment_id::Kind;
 
 // A call with its parent and what it takes: a number, or a token byte with nanoErgs before it and its amount after it; `Change` is a credit where it adds.
 // `Bad` is no call, `Cut` the front of one, `End` the end of the bytes.
-#[derive(Drop)]
+#[derive(Clone, Copy)]
 pub enum Call {
     Append(Kind, usize, i64),
     Flip(Direction, usize, i64),

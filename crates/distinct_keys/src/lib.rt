@@ -10,7 +10,7 @@ use index_types::ListCounts;
 use records::Found;
 
 // Where a key goes in the trees of `keys_differ`: a slot that is free, or none, for the key is there.
-#[derive(Drop)]
+#[derive(Clone, Copy)]
 pub enum Spot {
     Free(usize),
     Taken,

@@ -13,7 +13,7 @@ pub const TOKEN_BYTES: usize = 40;
 
 // What stands at a place: a call with its parent and its number, an unspend or a pop, a flush, what is no call, the front of a call, or nothing. `Change` is a
 // credit where it adds; behind its nanoErgs: where its tokens begin, and how many they are.
-#[derive(Drop)]
+#[derive(Clone, Copy)]
 pub enum Read {
     Append(Kind, usize, i64),
     Spend(usize, i64),

@@ -8,7 +8,7 @@ ghost use Rattle.driver_journal.specs.Journals.{may_go, has_room, kept_by, place
 use driver_calls::HEADER_BYTES;
 
 // The journal's bytes and its standing calls.
-#[derive(Drop)]
+#[derive(Clone, Copy)]
 pub struct Place {
     pub used: usize,
     pub standing: usize,

@@ -7,7 +7,7 @@ ghost use Rattle.driver_outs.specs.Outs.{outs_of};
 use index_types::{Applied, ListCounts, SpillCounts};
 
 // The code and what goes to the outs that are numbers.
-#[derive(Drop)]
+#[derive(Clone, Copy)]
 pub struct Outs {
     pub code: u8,
     pub at: usize,

@@ -12,7 +12,7 @@ use driver_calls::Read;
 use index_types::SpillCounts;
 
 // A step of the runner; or a credit where it adds, else a debit: parent, nanoErgs, where its tokens begin and how many they are.
-#[derive(Drop)]
+#[derive(Clone, Copy)]
 pub enum Move {
     Segment(Call),
     Balance(bool, usize, i64, usize, usize),

@@ -13,7 +13,7 @@ use driver_calls::HEADER_BYTES;
 use index_types::Undone;
 
 // What an undo leaves, whether a flush came last, and whether the undos go on.
-#[derive(Drop)]
+#[derive(Clone, Copy)]
 pub struct Turned {
     pub undone: Undone,
     pub fresh: bool,

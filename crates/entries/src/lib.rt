@@ -2,7 +2,7 @@
 // The functions are those of `entry_order`, `entry_flips` and `entry_tallies`.
 
 // Where the entry stands that is to be flipped; or that only entries of the other sign were seen; or none.
-#[derive(Drop)]
+#[derive(Clone, Copy)]
 pub enum Position {
     At(usize),
     Seen,

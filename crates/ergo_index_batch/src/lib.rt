@@ -9,7 +9,7 @@ use index_types::{ListCounts, SpillCounts};
 use runner::Progress;
 
 // The code and what goes to the outs that are numbers.
-#[derive(Drop)]
+#[derive(Clone, Copy)]
 struct Outs {
     code: u8,
     at: usize,

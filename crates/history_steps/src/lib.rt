@@ -5,7 +5,7 @@ ghost use Rattle.history_steps.specs.Ranks.{ranks, number, ranks_in};
 ghost use Rattle.history_steps.specs.Legal.{count, none, some, before, lets_call, lets_undo, may, stood};
 
 // The calls, ranked in this sequence.
-#[derive(Drop)]
+#[derive(Clone, Copy)]
 pub enum Rank {
     Append1,
     Append2,
@@ -16,7 +16,7 @@ pub enum Rank {
 }
 
 // At most five calls, the newest first: `a` and so on, as many as `len` says.
-#[derive(Drop)]
+#[derive(Clone, Copy)]
 pub struct RankList {
     pub len: u8,
     pub a: Rank,

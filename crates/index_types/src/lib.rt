@@ -36,69 +36,69 @@ pub const JOURNAL_FULL: u8 = 3;
 // ---- types
 
 // An edition of the spill rows. The second writes the parent, the kind and the spill number before the body.
-#[derive(Drop)]
+#[derive(Clone, Copy)]
 pub enum RowEdition {
     One,
     Two,
 }
 
 // How many records a list holds, and how many it has room for.
-#[derive(Drop)]
+#[derive(Clone, Copy)]
 pub struct ListCounts {
     pub count: usize,
     pub capacity: usize,
 }
 
 // How many numbers stand in a head, and how many rows it has spilled.
-#[derive(Drop)]
+#[derive(Clone, Copy)]
 pub struct HeadCounts {
     pub len: usize,
     pub spills: i32,
 }
 
 // The counts of the head and of the staged spills after an append.
-#[derive(Drop)]
+#[derive(Clone, Copy)]
 pub enum Appended {
     Done(HeadCounts, ListCounts),
     Refused(u8),
 }
 
 // The number of a box and the number of a transaction; neither takes the other's place.
-#[derive(Drop)]
+#[derive(Clone, Copy)]
 pub struct BoxNumber(pub i64);
 
-#[derive(Drop)]
+#[derive(Clone, Copy)]
 pub struct TxNumber(pub i64);
 
 // The number that was popped, and the counts of the head, of the staged and of the deleted spills after it.
-#[derive(Drop)]
+#[derive(Clone, Copy)]
 pub enum Popped {
     Number(i64, HeadCounts, ListCounts, ListCounts),
     Refused(u8),
 }
 
 // The number that was popped, and the counts of the head, of the staged and of the deleted spills after it.
-#[derive(Drop)]
+#[derive(Clone, Copy)]
 pub enum PoppedBox {
     Number(BoxNumber, HeadCounts, ListCounts, ListCounts),
     Refused(u8),
 }
 
-#[derive(Drop)]
+#[derive(Clone, Copy)]
 pub enum PoppedTx {
     Number(TxNumber, HeadCounts, ListCounts, ListCounts),
     Refused(u8),
 }
 
 // The counts of the staged spills after a spend or an unspend.
-#[derive(Drop)]
+#[derive(Clone, Copy)]
 pub enum Flipped {
     Done(ListCounts),
     Refused(u8),
 }
 
 // How many entries are unspent, spent and unknown: above, below and equal to 0.
-#[derive(Drop)]
+#[derive(Clone, Copy)]
 pub struct Tally {
     pub unspent: usize,
     pub spent: usize,
@@ -106,70 +106,70 @@ pub struct Tally {
 }
 
 // The figures of a tally.
-#[derive(Drop)]
+#[derive(Clone, Copy)]
 pub enum Tallied {
     Counts(Tally),
     Refused(u8),
 }
 
 // A summary was made afresh.
-#[derive(Drop)]
+#[derive(Clone, Copy)]
 pub enum Summarized {
     Done,
     Refused(u8),
 }
 
 // How many numbers stand in a page.
-#[derive(Drop)]
+#[derive(Clone, Copy)]
 pub enum Paged {
     Numbers(usize),
     Refused(u8),
 }
 
 // The counts of the table, the staged and the deleted spills after a flush.
-#[derive(Drop)]
+#[derive(Clone, Copy)]
 pub enum Flushed {
     Done(ListCounts, ListCounts, ListCounts),
     Refused(u8),
 }
 
 // How many numbers stand in a flat list after an append, a spend or an unspend.
-#[derive(Drop)]
+#[derive(Clone, Copy)]
 pub enum FlatChanged {
     Done(usize),
     Refused(u8),
 }
 
 // The number that was popped from a flat list, and how many stand in it after.
-#[derive(Drop)]
+#[derive(Clone, Copy)]
 pub enum FlatPopped {
     Number(BoxNumber, usize),
     Refused(u8),
 }
 
 // A signed 64-bit number that was read and the position after it, or the refusal code.
-#[derive(Drop)]
+#[derive(Clone, Copy)]
 pub enum Long {
     Number(i64, usize),
     Refused(u8),
 }
 
 // A signed 32-bit number that was read and the position after it, or the refusal code.
-#[derive(Drop)]
+#[derive(Clone, Copy)]
 pub enum Int {
     Number(i32, usize),
     Refused(u8),
 }
 
 // What a writer answers: the position after the bytes that it wrote, or the refusal code.
-#[derive(Drop)]
+#[derive(Clone, Copy)]
 pub enum Wrote {
     Next(usize),
     Refused(u8),
 }
 
 // A segment that was read: how many transactions and boxes, the spill counts, and the position after it; or the refusal code.
-#[derive(Drop)]
+#[derive(Clone, Copy)]
 pub enum Loaded {
     Read {
         txs: usize,
@@ -182,7 +182,7 @@ pub enum Loaded {
 }
 
 // The counts of the three lists of spills.
-#[derive(Drop)]
+#[derive(Clone, Copy)]
 pub struct SpillCounts {
     pub staged: ListCounts,
     pub table: ListCounts,
@@ -190,14 +190,14 @@ pub struct SpillCounts {
 }
 
 // The largest number of staged rows and of deleted keys at any one time, or the number that ended the trial.
-#[derive(Drop)]
+#[derive(Clone, Copy)]
 pub enum TriedForks {
     Figures(usize, usize),
     Refused(u8),
 }
 
 // How the first of two values stands to the second.
-#[derive(Drop)]
+#[derive(Clone, Copy)]
 pub enum Order {
     Less,
     Equal,
@@ -205,7 +205,7 @@ pub enum Order {
 }
 
 // The counts of an address: whether it has a balance, the balance's nanoErgs and how many tokens it holds, both heads, the staged spills and the table.
-#[derive(Drop)]
+#[derive(Clone, Copy)]
 pub struct AddressCounts {
     pub held: bool,
     pub nanos: i64,
@@ -217,14 +217,14 @@ pub struct AddressCounts {
 }
 
 // How two addresses rank, or the refusal code.
-#[derive(Drop)]
+#[derive(Clone, Copy)]
 pub enum Ranked {
     Ranks(Order),
     Refused(u8),
 }
 
 // Nothing is missing, or the row of a spill number, whose key is `segment_id::row_key` of it.
-#[derive(Drop)]
+#[derive(Clone, Copy)]
 pub enum Missing {
     Nothing,
     Spill(usize),
@@ -233,7 +233,7 @@ pub enum Missing {
 // How far a batch of a driver's calls has come: the counts of the lists, the next byte, the calls made, the journal's bytes and its standing calls, and how it
 // ended: one of the numbers above; the refusal 12, 16, 21 or 22 that the call at the next byte said, which the driver lifts; 31 at what is no call; or 25 where
 // the state or the journal was refused and no call made.
-#[derive(Drop)]
+#[derive(Clone, Copy)]
 pub struct Applied {
     pub counts: SpillCounts,
     pub at: usize,
@@ -244,7 +244,7 @@ pub struct Applied {
 }
 
 // What an undo of a driver's calls leaves: the counts of the lists, the journal's bytes and its standing calls, and 0 or the refusal.
-#[derive(Drop)]
+#[derive(Clone, Copy)]
 pub struct Undone {
     pub counts: SpillCounts,
     pub used: usize,

@@ -18,7 +18,7 @@ const PARENT: u8 = 0;
 const FLUSH: u8 = 7;
 
 // The bytes written, and the generator after them.
-#[derive(Drop)]
+#[derive(Clone, Copy)]
 pub enum Generated {
     Written(usize, Source),
     Refused(u8),

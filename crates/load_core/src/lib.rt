@@ -7,7 +7,7 @@ use calls::Call;
 use segment_id::Kind;
 
 // The generator: its state, and how many boxes and how many transactions it has appended so far.
-#[derive(Drop)]
+#[derive(Clone, Copy)]
 pub struct Source {
     pub state: u64,
     pub boxes: u64,
@@ -15,7 +15,7 @@ pub struct Source {
 }
 
 // A call, and the generator after it.
-#[derive(Drop)]
+#[derive(Clone, Copy)]
 pub struct Drawn {
     pub call: Call,
     pub next: Source,

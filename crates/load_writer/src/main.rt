@@ -17,7 +17,7 @@ fn say(message: &[u8]) {
 // ---- the arguments
 
 // A number of 64 bits, or that the text is none.
-#[derive(Drop)]
+#[derive(Clone, Copy)]
 enum Argument {
     Is(u64),
     NoNumber,
@@ -72,7 +72,7 @@ fn hand_calls(g: Source, count: u64, out: &[u8], end: usize) -> bool
 }
 
 // What follows a piece: the generator after it, or that no calls follow.
-#[derive(Drop)]
+#[derive(Clone, Copy)]
 enum Next {
     From(Source),
     Nothing,

@@ -5,7 +5,7 @@ ghost use Rattle.entries.specs.Unspent.{unspent_newest_first};
 ghost use Rattle.page_entries.specs.Internal.{Ready, Filled};
 
 // How many of the numbers to come are passed over, and how many stand in the page.
-#[derive(Drop)]
+#[derive(Clone, Copy)]
 pub struct Filling {
     pub skip: usize,
     pub put: usize,

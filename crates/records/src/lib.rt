@@ -9,14 +9,14 @@ ghost use Rattle.records.specs.Checks.{in_bounds, lengths_ok};
 use index_types::ListCounts;
 
 // Where a search found a key.
-#[derive(Drop)]
+#[derive(Clone, Copy)]
 pub enum Found {
     At(usize),
     Nothing,
 }
 
 // Where the row under a key stands.
-#[derive(Drop)]
+#[derive(Clone, Copy)]
 pub enum Place {
     Staged(usize),
     Table(usize),

@@ -150,14 +150,14 @@ fn codes() -> [u8; 41]
 }
 
 // What a call answers that gives nothing else.
-#[derive(Drop)]
+#[derive(Clone, Copy)]
 pub enum Answer {
     Accepted,
     Refused(u8),
 }
 
 // What is left of the answer of a flip in a derived index.
-#[derive(Drop)]
+#[derive(Clone, Copy)]
 pub enum Tolerated {
     Flipped,
     Skipped,

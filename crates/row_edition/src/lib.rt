@@ -10,7 +10,7 @@ use segment_id::Kind;
 use vlq_core::Got;
 
 // How many numbers were read, or the refusal code.
-#[derive(Drop)]
+#[derive(Clone, Copy)]
 pub enum SpillRead {
     Numbers(usize),
     Refused(u8),

@@ -6,7 +6,7 @@ ghost use Rattle.row_fetching.specs.Putting.{putting, put_of};
 use index_types::{ListCounts, RowEdition};
 
 // The counts with the row put, or a refusal.
-#[derive(Drop)]
+#[derive(Clone, Copy)]
 pub enum RowPut {
     Done(ListCounts),
     Refused(u8),

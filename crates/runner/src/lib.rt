@@ -15,7 +15,7 @@ pub use run_checks::state_ok;
 // How far the calls have come: the counts of the lists, the next byte of the input, the calls made, and how reading ended: 0 not yet, the answers have no
 // more room; 1 at the end of the input, also where the answers are just full; 2 inside a call; else the refusal: 31 at what is no call, 25 where the state was
 // refused and no call made.
-#[derive(Drop)]
+#[derive(Clone, Copy)]
 pub struct Progress {
     pub counts: SpillCounts,
     pub at: usize,

@@ -4,7 +4,7 @@ ghost use Rattle.stores.specs.Stores.{Put};
 ghost use Rattle.segment_id.specs.Key.{separator, key_text, row_key};
 
 // The two lists that spill: boxes and transactions.
-#[derive(Drop)]
+#[derive(Clone, Copy)]
 pub enum Kind {
     Box,
     Tx,

@@ -17,7 +17,7 @@ use spill_rows::Read;
 
 // Where a comparison stands in a side: the number of the next row, the place in the row in hand, and how many numbers that row has. The head is the row
 // behind the last.
-#[derive(Drop)]
+#[derive(Clone, Copy)]
 pub struct Cursor {
     pub next: usize,
     pub at: usize,

@@ -37,7 +37,7 @@ pub fn negate(x: i64) -> i64
 }
 
 // A sum or difference, or that it leaves 64 signed bits.
-#[derive(Drop)]
+#[derive(Clone, Copy)]
 pub enum Checked {
     Is(i64),
     Out,

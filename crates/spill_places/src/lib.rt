@@ -7,7 +7,7 @@ use index_types::{ListCounts, RowEdition};
 use records::Place;
 
 // Where the row under a key stands, as the index of its record, or the refusal code.
-#[derive(Drop)]
+#[derive(Clone, Copy)]
 pub enum Located {
     Staged(usize),
     Table(usize),

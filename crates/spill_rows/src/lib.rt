@@ -18,7 +18,7 @@ use row_edition::SpillRead;
 use segment_id::Kind;
 
 // A row's numbers passed the checks, or its refusal code.
-#[derive(Drop)]
+#[derive(Clone, Copy)]
 pub enum Read {
     Good,
     Faulty(u8),

@@ -7,7 +7,7 @@ use index_types::{ListCounts, RowEdition};
 pub use spill_places::{Located, locate_spill};
 
 // What inspection answers: code 0 beside the row, as a part of the slice that holds it; or the refusal code beside an empty part.
-#[derive(Drop)]
+#[derive(Clone, Copy)]
 pub struct Inspected<'a> {
     pub code: u8,
     pub row: &'a [u8],

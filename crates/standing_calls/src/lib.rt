@@ -11,7 +11,7 @@ use segment_id::Kind;
 use trial_core::STOOD;
 
 // Which of calls and undos came last, or neither since the start.
-#[derive(Drop)]
+#[derive(Clone, Copy)]
 pub enum Side {
     Neither,
     Called,
@@ -20,7 +20,7 @@ pub enum Side {
 
 // Where a trial stands: the counts of the lists, the side, how many calls stand, the largest numbers of staged rows and of deleted keys so far, and the number
 // that ended it, or 0.
-#[derive(Drop)]
+#[derive(Clone, Copy)]
 pub struct TrialState {
     pub counts: SpillCounts,
     pub side: Side,
@@ -31,7 +31,7 @@ pub struct TrialState {
 }
 
 // How many calls stand after a call, and the number that ends the trial, or 0.
-#[derive(Drop)]
+#[derive(Clone, Copy)]
 pub struct Standing {
     pub stood: usize,
     pub end: u8,

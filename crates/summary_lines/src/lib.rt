@@ -8,7 +8,7 @@ ghost use Rattle.summary_lines.specs.Internal.{line_numbers};
 use index_types::{SEGMENT_THRESHOLD, SUMMARY_LINE};
 
 // A line: the first and the last absolute value of a row, and how many of its entries are above, equal to and below 0.
-#[derive(Drop)]
+#[derive(Clone, Copy)]
 pub struct Line {
     pub first: u64,
     pub last: u64,

@@ -17,7 +17,7 @@ use segment_id::Kind;
 use spill_rows::Read;
 
 // What a line comes to: the call ends with an answer; the walk stops, or goes on, and whether the target was seen.
-#[derive(Drop)]
+#[derive(Clone, Copy)]
 pub enum Tried {
     Ended(Flipped),
     Stop(bool),

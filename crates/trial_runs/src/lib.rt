@@ -10,14 +10,14 @@ use load_core::Source;
 use standing_calls::TrialState;
 
 // Where a trial stands, and the generator.
-#[derive(Drop)]
+#[derive(Clone, Copy)]
 pub struct Drawing {
     pub source: Source,
     pub state: TrialState,
 }
 
 // The same with the number of blocks that stand.
-#[derive(Drop)]
+#[derive(Clone, Copy)]
 pub struct TrialRun {
     pub source: Source,
     pub state: TrialState,

@@ -15,7 +15,7 @@ pub struct UndoEntry {
     pub boxes: u64,
 }
 
-#[derive(Drop)]
+#[derive(Clone, Copy)]
 pub enum Encoded {
     Written(usize),
     Refused(u8),

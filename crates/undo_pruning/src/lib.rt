@@ -6,13 +6,13 @@ ghost use Rattle.undo_pruning.specs.Prune.{Compacts, window_of, pruned_of, pruni
 // How many heights below the current one keep their undo entries where no window is named.
 pub const ROLLBACK_WINDOW: u64 = 720;
 
-#[derive(Drop)]
+#[derive(Clone, Copy)]
 pub enum Window {
     Named(u64),
     Unnamed,
 }
 
-#[derive(Drop)]
+#[derive(Clone, Copy)]
 pub enum Pruned {
     Kept(usize),
     Refused(u8),

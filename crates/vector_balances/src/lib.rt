@@ -6,7 +6,7 @@ use balance::{Balance, Outcome};
 use index_types::{TOKEN_ID_BYTES, TOKEN_LIMIT};
 
 // How a balance is changed.
-#[derive(Drop)]
+#[derive(Clone, Copy)]
 pub enum Change {
     Add,
     Subtract,

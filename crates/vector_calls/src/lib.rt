@@ -9,7 +9,7 @@ ghost use Rattle.std.specs.Prelude.{◌≡◌, ◌≤◌, length};
 
 use index_types::{HeadCounts, ListCounts, RowEdition, SEGMENT_THRESHOLD};
 
-#[derive(Drop)]
+#[derive(Clone, Copy)]
 pub enum Call {
     AppendBox,
     AppendTx,
@@ -31,7 +31,7 @@ pub enum Call {
 }
 
 // The edition of the rows, the counts of a call's buffers, and its number.
-#[derive(Drop)]
+#[derive(Clone, Copy)]
 pub struct Given {
     pub edition: RowEdition,
     pub counts: HeadCounts,
@@ -42,7 +42,7 @@ pub struct Given {
 }
 
 // A list's counts, how many of its bytes are borrowed, and the position behind it.
-#[derive(Drop)]
+#[derive(Clone, Copy)]
 struct List {
     counts: ListCounts,
     len: usize,

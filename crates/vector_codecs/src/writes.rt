@@ -51,7 +51,7 @@ pub fn int(name: &[u8], s: &[u8]) {
 // ---- segments
 
 // How many transactions and boxes are written, the two spill counts, and the position.
-#[derive(Drop)]
+#[derive(Clone, Copy)]
 struct Shape {
     n_txs: usize,
     n_boxes: usize,

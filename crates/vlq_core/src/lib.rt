@@ -3,14 +3,14 @@
 ghost use Rattle.std.specs.Prelude.{◌≡◌, ◌+◌, leb};
 
 // A coded number that was read and the position after it, or the refusal code.
-#[derive(Drop)]
+#[derive(Clone, Copy)]
 pub enum Got {
     Value(u64, usize),
     Refused(u8),
 }
 
 // A coded number of a few groups and how many they are; no group stands for any other number.
-#[derive(Drop)]
+#[derive(Clone, Copy)]
 pub struct Short {
     pub coded: u64,
     pub size: usize,

@@ -6,7 +6,7 @@ ghost use Rattle.vlq_positions.specs.Positions.{after_long, after_int, span_at, 
 use index_types::{Int, Long};
 
 // The bytes from the first position up to the second, or the refusal code.
-#[derive(Drop)]
+#[derive(Clone, Copy)]
 pub enum Span {
     Within(usize, usize),
     Refused(u8),

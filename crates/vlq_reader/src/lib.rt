@@ -10,7 +10,7 @@ use index_types::{Int, Long};
 // The n bytes at a position.
 pub use vlq_positions::{Span, get_bytes};
 
-#[derive(Drop)]
+#[derive(Clone, Copy)]
 pub struct VlqReader<'a> {
     pub src: &'a [u8],
     pub at: usize,
