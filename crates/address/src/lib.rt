@@ -1,4 +1,6 @@
 // The address record, written to and read from borrowed bytes: `IndexedAddress` and `read_indexed_address` of address.rs.
+#![tactic(auto)]
+
 ghost use Rattle.std.specs.Prelude.{◌≡◌};
 ghost use Rattle.vlq_core.specs.Writing.{written};
 ghost use Rattle.address_core.specs.Writing.{write_address};

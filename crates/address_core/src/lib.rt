@@ -1,5 +1,7 @@
 // The address record: a hash, a flag, a balance if the flag is set, and a segment: definitions and laws.
 // Internal: records are written by `address_writing` and read by `address_reading`. The public calls are those of `address`.
+#![tactic(auto)]
+
 use balance::Balance;
 use refusal::Answer;
 

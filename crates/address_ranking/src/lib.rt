@@ -1,5 +1,7 @@
 // Two whole addresses in a fixed order, each borrowed with its own staged spills and table: the definition of the rank, the checks of an address, and the
 // comparison of two balances.
+#![tactic(auto)]
+
 ghost use Rattle.std.specs.Prelude.{◌≡◌, true, not, ◌||◌, leb, List, ℤ};
 ghost use Rattle.index_types.specs.Limits.{token_limit};
 ghost use Rattle.segment_id.specs.declared.Kind.TheVariants.{Box, Tx};

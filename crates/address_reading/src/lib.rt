@@ -1,5 +1,7 @@
 // Reading an address record: into buffers of its own, so that a refusal changes no borrowed list.
 // Internal: the reader asks for lists of 512. The public calls are those of `address`.
+#![tactic(auto)]
+
 ghost use Rattle.std.specs.Prelude.{◌≡◌, ◌+◌, ◌*◌, ◌<◌, ◌≤◌, length, take};
 ghost use Rattle.index_types.specs.Limits.{segment_threshold, token_limit, token_id_bytes};
 ghost use Rattle.address_core.specs.Reading.{token_at, tokens_at, count_at, balance_at, flagged_at};

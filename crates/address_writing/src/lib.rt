@@ -1,5 +1,7 @@
 // Writing an address record: the size of each part, and the part written where it fits.
 // Internal: the parts of the record are asked for by size. The public calls are those of `address`.
+#![tactic(auto)]
+
 ghost use Rattle.std.specs.Prelude.{◌≡◌, List, ℕ, ◌+◌, ◌*◌, ◌≤◌, length, take, drop};
 ghost use Rattle.index_types.specs.Limits.{token_limit, token_id_bytes};
 ghost use Rattle.stores.specs.Stores.{Put};

@@ -1,4 +1,6 @@
 // Append for boxes and transactions alike, once refusal 25 is tested.
+#![tactic(auto)]
+
 ghost use Rattle.std.specs.Prelude.{◌≡◌};
 ghost use Rattle.buffer_core.specs.Edition.{edition_of};
 ghost use Rattle.buffer_core.specs.Append.{appending, append_core};

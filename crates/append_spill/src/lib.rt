@@ -1,4 +1,6 @@
 // An append to a head of 512, for boxes and transactions alike: the head's numbers become the next row.
+#![tactic(auto)]
+
 ghost use Rattle.std.specs.Prelude.{◌≡◌, ◌≤◌, ◌<◌, length, set};
 ghost use Rattle.index_types.specs.Limits.{segment_threshold};
 ghost use Rattle.buffer_core.specs.Edition.{edition_of};

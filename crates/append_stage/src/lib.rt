@@ -1,4 +1,6 @@
 // The row of a head's first 512 numbers, for boxes and transactions alike: written, and put among the staged spills.
+#![tactic(auto)]
+
 ghost use Rattle.std.specs.Prelude.{◌≡◌, ◌+◌, ◌*◌, ◌≤◌, ◌<◌, ◌++◌, pos, length, take};
 ghost use Rattle.index_types.specs.Limits.{segment_threshold};
 ghost use Rattle.stores.specs.Stores.{Put};

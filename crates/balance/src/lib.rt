@@ -1,4 +1,6 @@
 // A balance: nanoErgs and up to 128 tokens, passed and returned by value; a box added to it or subtracted from it.
+#![tactic(auto)]
+
 ghost use Rattle.std.specs.Prelude.{◌≡◌};
 ghost use Rattle.balance.specs.Boxes.{buffers_ok, nanos_after, change_box, add_box, subtract_box};
 

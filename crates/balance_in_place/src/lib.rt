@@ -1,4 +1,6 @@
 // A balance changed in place: `add_box` and `subtract_box` by mutable reference, as the Rust has them.
+#![tactic(auto)]
+
 ghost use Rattle.std.specs.Prelude.{◌≡◌};
 ghost use Rattle.balance.specs.Boxes.{add_box, subtract_box};
 ghost use Rattle.balance_in_place.specs.InPlace.{left};

@@ -1,1 +1,2 @@
 // The laws of balances that the fork-undo theorem uses; no function.
+#![tactic(auto)]

@@ -1,4 +1,6 @@
 // A balance changed in its borrowed parts: ids, amounts, count and nanoErgs. A refusal leaves them as they were.
+#![tactic(auto)]
+
 ghost use Rattle.std.specs.Prelude.{◌≡◌, ◌*◌, ◌≤◌, length};
 ghost use Rattle.index_types.specs.Limits.{token_limit};
 ghost use Rattle.balance_tokens.specs.Tokens.{change_tokens};

@@ -1,4 +1,6 @@
 // A box added to or subtracted from the balance of a parent in its places, among those of all parents. A refusal leaves them as they were.
+#![tactic(auto)]
+
 ghost use Rattle.std.specs.Prelude.{◌≡◌, ◌+◌, ◌*◌, ◌≤◌, length};
 ghost use borrow.Rule.Slice.PartMut.{mid_of};
 ghost use Rattle.index_types.specs.Limits.{token_limit, token_id_bytes};

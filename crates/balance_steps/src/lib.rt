@@ -1,4 +1,6 @@
 // A credit and a debit of the runner on the state of all parents.
+#![tactic(auto)]
+
 ghost use Rattle.std.specs.Prelude.{◌≡◌, ◌+◌, ◌*◌, ◌≤◌, length};
 ghost use Rattle.call_steps.specs.State.{balance_of, ids_with, numbers_with, lengths_with, parent_numbers, parent_ids};
 ghost use Rattle.call_steps.specs.Steps.{said_by, change_step, change_of};

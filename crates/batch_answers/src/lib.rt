@@ -1,4 +1,6 @@
 // What the export of the batch tells of how a run ended: its result, and its outs, which a refused state leaves.
+#![tactic(auto)]
+
 ghost use Rattle.std.specs.Prelude.{◌≡◌};
 ghost use Rattle.batch_answers.specs.Answers.{code_of, kept};
 

@@ -1,4 +1,6 @@
 // Numbers of 64 bits as eight bytes, high byte first.
+#![tactic(auto)]
+
 ghost use Rattle.std.specs.Prelude.{◌≡◌, ◌+◌, ◌≤◌, length};
 ghost use Rattle.stores.specs.Stores.{Put};
 ghost use Rattle.big_endian.specs.BigEndian.{eight_bytes, value_at};

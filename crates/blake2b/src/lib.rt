@@ -1,4 +1,6 @@
 // BLAKE2b-256 of RFC 7693, unkeyed.
+#![tactic(auto)]
+
 ghost use Rattle.std.specs.Prelude.{◌≡◌, length};
 ghost use Rattle.blake2b_core.specs.Blake2b as spec;
 

@@ -1,4 +1,6 @@
 // The compression function F of section 3.2, with the mixing function G of 3.1.
+#![tactic(auto)]
+
 ghost use Rattle.std.specs.Prelude.{◌≡◌, ◌+◌, ◌%◌, ◌^◌, ◌<◌, ◌≤◌, slice_index};
 ghost use Rattle.blake2b_spec.specs.Blake2b as spec;
 

@@ -1,4 +1,6 @@
 // BLAKE2b of RFC 7693, unkeyed, for any input and a digest of 1 to 64 bytes.
+#![tactic(auto)]
+
 ghost use Rattle.std.specs.Prelude.{◌≡◌, ◌/◌, ◌%◌, ◌^◌, ◌<◌, ◌≤◌, length};
 ghost use Rattle.blake2b_spec.specs.Blake2b as spec;
 

@@ -1,4 +1,6 @@
 // What refusal 25 asks of the buffers that a call on a parent's segment borrows, and the types that tell box numbers from transaction numbers.
+#![tactic(auto)]
+
 ghost use Rattle.std.specs.Prelude.{◌≡◌};
 ghost use Rattle.records.specs.Checks.{records_ok};
 ghost use Rattle.buffer_core.specs.Edition.{edition_of, record_size, row_limit_of};

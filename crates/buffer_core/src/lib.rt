@@ -1,5 +1,7 @@
 // The types and leaves of the segment buffer's calls. A parent has a head of boxes and a head of transactions; each is a borrowed list of 512
 // numbers beside its counts. Staged spills and the segments table are record lists, deleted spills a key list.
+#![tactic(auto)]
+
 ghost use Rattle.std.specs.Prelude.{◌≡◌, ◌≤◌};
 ghost use Rattle.buffer_core.specs.Edition.{row_limit_of, record_size};
 ghost use Rattle.buffer_core.specs.Spills.{head_ok};

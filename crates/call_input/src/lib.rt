@@ -1,5 +1,7 @@
 // The input of the call runner passes through one buffer: the bytes from `at` up to `have` wait in it. Here is where a session stands in its input,
 // what is done next, and how the buffer is filled.
+#![tactic(auto)]
+
 ghost use Rattle.std.specs.Prelude.{◌≡◌, ◌+◌, ◌-◌, ◌≤◌, ◌<◌, length};
 ghost use Rattle.call_input.specs.Place.{at_start, goes_on, after_read, taken, after_calls, called};
 ghost use Rattle.call_input.specs.Waiting.{Fed};

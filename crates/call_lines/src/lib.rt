@@ -1,4 +1,6 @@
 // The lines that the call runner prints of its calls, written into borrowed bytes: each writer answers the position behind what it wrote.
+#![tactic(auto)]
+
 ghost use Rattle.std.specs.Prelude.{◌+◌, ◌*◌, ◌<◌, ◌≤◌, length};
 ghost use Rattle.stores.specs.Stores.{Put};
 ghost use Rattle.call_lines.specs.Lines.{popped_part, line, lines_from};

@@ -1,5 +1,7 @@
 // The output of the call runner: the lines of the calls made, and behind them those of the end, put into one buffer and handed to standard output.
 // What a descriptor takes no contract says: the functions that hand bytes over ask that these are the lines.
+#![tactic(auto)]
+
 ghost use Rattle.std.specs.Prelude.{◌≡◌, ◌+◌, ◌*◌, ◌≤◌, ◌<◌, length, take};
 ghost use Rattle.std.proofs.lemmas.List.Edits.{sets};
 ghost use Rattle.call_lines.specs.Lines.{lines_from};

@@ -4,6 +4,8 @@
 // after its key was deleted, full lists, and a 129th token; then calls of all kinds, so many that two of them straddle the end of the input's buffer.
 // The programs call_runner_unknown_kind, call_runner_unknown_parent and call_runner_cut_call reach 31. The files stdout were made by
 // compare/runner_model.py.
+#![tactic(auto)]
+
 fn main() {
     call_session::make_calls_of_input();
 }

@@ -2,6 +2,8 @@
 // The input passes through one buffer, the answers of at most 1,024 calls and their lines through others, so that memory stays constant whatever
 // the input's length. A read or a write that fails ends the program with a message to standard error, and then no parent's line is printed: an output
 // is whole where it ends with the parents' lines. (A program of Rattle has no exit status of its own.)
+#![tactic(auto)]
+
 ghost use Rattle.std.specs.Prelude.{◌≡◌, ◌+◌, ◌≤◌, ◌<◌, length};
 ghost use Rattle.std.proofs.lemmas.List.Edits.{sets};
 ghost use Rattle.buffer_core.specs.Edition.{edition_1};

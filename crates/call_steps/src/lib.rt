@@ -1,5 +1,7 @@
 // One call of the runner on the state of all parents: the types and the definitions, the places of a parent, and what a call says by what a core answered.
 // The steps over these are those of `segment_steps` and `balance_steps`.
+#![tactic(auto)]
+
 ghost use Rattle.std.specs.Prelude.{◌≡◌, ◌+◌, ◌*◌, ◌≤◌, ◌<◌, length};
 ghost use Rattle.index_types.specs.Limits.{segment_threshold};
 ghost use Rattle.call_steps.specs.State.{kind_number, parent_id, head_at, head_counts, parent_numbers, parent_ids};

@@ -1,4 +1,6 @@
 // The calls that the runner's input holds, read from borrowed bytes.
+#![tactic(auto)]
+
 ghost use Rattle.std.specs.Prelude.{◌≡◌, ◌+◌, ◌≤◌, ◌<◌, pos, length};
 ghost use Rattle.calls.specs.Calls.{signed_of, number_at, with_number, with_token, with_parent, call_at, size_of, end_of};
 

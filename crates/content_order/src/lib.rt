@@ -1,5 +1,7 @@
 // Two addresses that pass refusals 25 and 41: both read wholly as a pop reads them, then compared: the hashes, the balances, the box entries, the transaction
 // entries.
+#![tactic(auto)]
+
 ghost use Rattle.std.specs.Prelude.{◌≡◌, List, ℤ};
 ghost use Rattle.segment_id.specs.declared.Kind.TheVariants.{Box, Tx};
 ghost use Rattle.buffer_core.specs.Spills.{sources};

@@ -1,4 +1,6 @@
 // Whether a key stands twice in a list, and with that what refusal 25 asks of a record list and of a key list.
+#![tactic(auto)]
+
 ghost use Rattle.std.specs.Prelude.{◌≡◌, ◌+◌, ◌-◌, ◌*◌, ◌%◌, ◌^◌, ◌<◌, ◌≤◌, true, false, length, take, drop};
 ghost use Rattle.stores.specs.Equal.{same_bytes};
 ghost use Rattle.records.specs.Records.{keys};

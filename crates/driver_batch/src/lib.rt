@@ -1,4 +1,6 @@
 // A batch of a driver's calls over borrowed state for any number of parents: beside a borrowed journal of the accepted ones, or without one.
+#![tactic(auto)]
+
 ghost use Rattle.std.specs.Prelude.{◌≡◌, true, false, []};
 ghost use Rattle.call_steps.specs.State.{state};
 ghost use Rattle.call_steps.specs.Steps.{lists_with};

@@ -1,4 +1,6 @@
 // The calls of a driver's input and the newest entry of its journal, read from borrowed bytes.
+#![tactic(auto)]
+
 ghost use Rattle.std.specs.Prelude.{◌≡◌, ◌+◌, ◌≤◌, ◌<◌, length};
 ghost use Rattle.driver_core.specs.Bytes.{is_change, small_at, size_at};
 ghost use Rattle.driver_calls.specs.Reads.{taking_read, plain_read, headed_read, read_at, newest_read, end_of, is_call, is_entry};

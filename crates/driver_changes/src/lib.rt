@@ -1,4 +1,6 @@
 // A credit and a debit of a driver on the state of all parents: any number of tokens, which stand in borrowed bytes, the ids first and the amounts behind them.
+#![tactic(auto)]
+
 ghost use Rattle.std.specs.Prelude.{◌≡◌, ◌+◌, ◌*◌, ◌≤◌, length, take};
 ghost use Rattle.index_types.specs.Limits.{token_limit, token_id_bytes};
 ghost use Rattle.balance_tokens.specs.Tokens.{left_in};

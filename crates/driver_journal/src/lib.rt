@@ -1,4 +1,6 @@
 // The journal of a driver's accepted calls: a call of an input becomes its newest entry; and when a batch goes on.
+#![tactic(auto)]
+
 ghost use Rattle.std.specs.Prelude.{◌≡◌, true, ◌+◌, ◌≤◌, ◌<◌, length, set};
 ghost use Rattle.stores.specs.Stores.{write};
 ghost use Rattle.driver_core.specs.Bytes.{size_at, entry_of, journal};

@@ -1,4 +1,6 @@
 // What the exports of a driver's batches tell: the counts of the lists that go in, and the outs that are numbers.
+#![tactic(auto)]
+
 ghost use Rattle.std.specs.Prelude.{◌≡◌};
 ghost use Rattle.call_steps.specs.Steps.{spill_counts};
 ghost use Rattle.ergo_index_lists.specs.Lists.{list_of};

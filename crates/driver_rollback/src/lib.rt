@@ -1,4 +1,6 @@
 // A driver's standing calls undone down to a mark, with the flush at the change.
+#![tactic(auto)]
+
 ghost use Rattle.std.specs.Prelude.{◌≡◌};
 ghost use Rattle.call_steps.specs.State.{state};
 ghost use Rattle.call_steps.specs.Steps.{lists_with};

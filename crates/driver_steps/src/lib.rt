@@ -1,4 +1,6 @@
 // One step of a driver on the state of all parents, once refusal 25 has passed: a call made or undone, an unspend or a pop, or a flush.
+#![tactic(auto)]
+
 ghost use Rattle.std.specs.Prelude.{◌≡◌};
 ghost use Rattle.call_steps.specs.State.{state};
 ghost use Rattle.call_steps.specs.Steps.{left_by, lists_with};

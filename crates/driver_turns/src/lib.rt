@@ -1,4 +1,6 @@
 // The turns of a driver's batch, once refusal 25 has passed: a call each, and beside a journal the accepted ones are kept there.
+#![tactic(auto)]
+
 ghost use Rattle.std.specs.Prelude.{◌≡◌, ◌+◌, length};
 ghost use Rattle.call_steps.specs.State.{Ready, state};
 ghost use Rattle.call_steps.specs.Steps.{lists_with};

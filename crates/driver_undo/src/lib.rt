@@ -1,4 +1,6 @@
 // Undoing a driver's standing calls down to a mark, from the journal of `driver_batch`.
+#![tactic(auto)]
+
 ghost use Rattle.std.specs.Prelude.{◌≡◌, true, ◌*◌, ◌<◌};
 ghost use Rattle.call_steps.specs.State.{state};
 ghost use Rattle.call_steps.specs.Steps.{lists_with};

@@ -1,4 +1,6 @@
 // The lines behind those of the calls: the refusal where the input ends with no call, and a line for each parent, put into a buffer.
+#![tactic(auto)]
+
 ghost use Rattle.std.specs.Prelude.{◌≡◌, ◌+◌, ◌≤◌, ◌<◌, length};
 ghost use Rattle.stores.specs.Stores.{Put};
 ghost use Rattle.end_lines.specs.EndLines.{refusal_part, parent_part, end_lines};

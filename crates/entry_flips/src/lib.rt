@@ -1,4 +1,6 @@
 // The entry of a head or a row that a spend or an unspend takes: where it stands, and the entry negated.
+#![tactic(auto)]
+
 ghost use Rattle.std.specs.Prelude.{◌≡◌, true, false, cond, pos, nat_abs, length, take, get_or, ◌<◌, ◌≤◌};
 ghost use Rattle.entries.specs.declared.Position.{Position};
 ghost use Rattle.entries.specs.declared.Position.TheVariants.{Seen, Absent};

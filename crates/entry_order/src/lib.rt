@@ -1,4 +1,6 @@
 // The order of the signed entries of a head or a row.
+#![tactic(auto)]
+
 ghost use Rattle.std.specs.Prelude.{◌≡◌, ◌||◌, ◌≤◌, ltb, length, take};
 ghost use Rattle.entries.specs.Order.{order_ok};
 

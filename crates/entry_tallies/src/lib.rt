@@ -1,4 +1,6 @@
 // How many entries of a head or a row are unspent, spent and unknown, and the sums of these figures.
+#![tactic(auto)]
+
 ghost use Rattle.std.specs.Prelude.{◌≡◌, ◌+◌, ◌≤◌, ◌<◌, length, take};
 ghost use Rattle.signed.specs.Sign.{is_negative};
 ghost use Rattle.entries.specs.Tally.{is_above, one_if, figures, plus};

@@ -1,4 +1,6 @@
 // Address records. The writer moves the position behind what it wrote; the reader fills borrowed lists of 512 and the outs.
+#![tactic(auto)]
+
 ghost use Rattle.std.specs.Prelude.{◌≡◌};
 ghost use Rattle.address_core.specs.Writing.{write_address};
 ghost use Rattle.address_core.specs.Loading.{read_address};

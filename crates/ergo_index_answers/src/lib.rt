@@ -1,4 +1,6 @@
 // The drift rule on a flip's code, and the figure of a statement.
+#![tactic(auto)]
+
 ghost use Rattle.std.specs.Prelude.{◌≡◌};
 ghost use Rattle.refusal.specs.Refusal.{tolerated};
 ghost use Rattle.statement.specs.Statement.{milli_ergs};

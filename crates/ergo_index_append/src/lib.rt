@@ -1,5 +1,7 @@
 // Appends to one parent's heads. A head is a borrowed list of 512 numbers beside its length and spill count; each list of spills is borrowed bytes
 // beside a count and a capacity. Counts that a call changes are borrowed too.
+#![tactic(auto)]
+
 ghost use Rattle.std.specs.Prelude.{◌≡◌};
 ghost use Rattle.index_types.specs.declared.RowEdition.TheVariants.{One};
 ghost use Rattle.segment_id.specs.declared.Kind.TheVariants.{Box, Tx};

@@ -1,4 +1,6 @@
 // Balances: 128 ids of 32 bytes, their amounts, the count and the nanoErgs, all borrowed and changed in place. A refusal leaves them as they were.
+#![tactic(auto)]
+
 ghost use Rattle.std.specs.Prelude.{◌≡◌};
 ghost use Rattle.refusal.specs.Refusal.{code_of};
 ghost use Rattle.balance.specs.Boxes.{add_box, subtract_box};

@@ -1,5 +1,7 @@
 // Many calls over the state of many parents: refusal 25 is tested once, then each call of the input is made as its single export makes it. A state that is
 // refused leaves all as it was.
+#![tactic(auto)]
+
 ghost use Rattle.std.specs.Prelude.{◌≡◌};
 ghost use Rattle.call_steps.specs.Steps.{spill_counts};
 ghost use Rattle.ergo_index_lists.specs.Lists.{list_of};

@@ -1,4 +1,6 @@
 // A driver's batches of calls, beside a journal or without one, and undo to a mark. A state or a journal that is refused leaves all as it was.
+#![tactic(auto)]
+
 ghost use Rattle.std.specs.Prelude.{◌≡◌};
 ghost use Rattle.driver_core.specs.Bytes.{journal};
 ghost use Rattle.ergo_index_driver.specs.Driver.{state_in, state_out, apply_out, apply_call, make_out, make_call, undo_out, undo_call};

@@ -1,4 +1,6 @@
 // Rows turned from one edition into the other. How many bytes were written goes to the out.
+#![tactic(auto)]
+
 ghost use Rattle.std.specs.Prelude.{◌≡◌};
 ghost use Rattle.index_types.specs.declared.RowEdition.TheVariants.{One, Two};
 ghost use Rattle.row_converters.specs.Convert.{convert};

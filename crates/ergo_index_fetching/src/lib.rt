@@ -1,4 +1,6 @@
 // A row that was fetched, put into the records that are borrowed as the table.
+#![tactic(auto)]
+
 ghost use Rattle.std.specs.Prelude.{◌≡◌};
 ghost use Rattle.ergo_index_lists.specs.Lists.{named_edition};
 ghost use Rattle.ergo_index_fetching.specs.Fetching.{put_out, put_call};

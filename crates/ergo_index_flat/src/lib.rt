@@ -1,4 +1,6 @@
 // One parent's box numbers as one list: a borrowed list of 4,096 numbers or more beside its count, which is borrowed too.
+#![tactic(auto)]
+
 ghost use Rattle.std.specs.Prelude.{ℕ, ◌≡◌, true, false, List, ℤ};
 ghost use Rattle.flat_list.specs.Flat.{flat_append, flat_flip, flat_pop};
 ghost use Rattle.ergo_index_flat.specs.Exports.{change_out, change_by, change_export, pop_out, pop_export};

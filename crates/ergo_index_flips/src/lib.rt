@@ -1,4 +1,6 @@
 // Spends and unspends of one box, and the tally of one parent's boxes. Heads and lists of spills are borrowed as for appends and pops.
+#![tactic(auto)]
+
 ghost use Rattle.std.specs.Prelude.{◌≡◌};
 ghost use Rattle.buffer_core.specs.declared.Direction.TheVariants.{Spend, Unspend};
 ghost use Rattle.index_types.specs.declared.RowEdition.TheVariants.{One};

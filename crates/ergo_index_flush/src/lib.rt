@@ -1,4 +1,6 @@
 // The flush. Lists of spills are borrowed as for appends and pops.
+#![tactic(auto)]
+
 ghost use Rattle.std.specs.Prelude.{◌≡◌};
 ghost use Rattle.index_types.specs.declared.RowEdition.TheVariants.{One};
 ghost use Rattle.ergo_index_lists.specs.Lists.{named_edition};

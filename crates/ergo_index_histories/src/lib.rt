@@ -1,4 +1,6 @@
 // Every short history, listed. How many bytes were written goes to the out.
+#![tactic(auto)]
+
 ghost use Rattle.std.specs.Prelude.{◌≡◌};
 ghost use Rattle.vlq_core.specs.Writing.{put_bytes};
 ghost use Rattle.history_growth.specs.Listing.{histories, bytes_of};

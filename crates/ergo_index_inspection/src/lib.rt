@@ -1,4 +1,6 @@
 // Spill rows among the staged spills and in the segments table.
+#![tactic(auto)]
+
 ghost use Rattle.std.specs.Prelude.{◌≡◌, ◌+◌, ◌*◌, ◌≤◌, length};
 ghost use Rattle.index_types.specs.declared.RowEdition.TheVariants.{One};
 ghost use Rattle.records.specs.Find.{row_at};

@@ -1,4 +1,6 @@
 // Digests and row keys, which refuse nothing.
+#![tactic(auto)]
+
 ghost use Rattle.std.specs.Prelude.{◌≡◌};
 ghost use Rattle.blake2b_core.specs.Blake2b as spec;
 ghost use Rattle.segment_id.specs.declared.Kind.TheVariants.{Box, Tx};

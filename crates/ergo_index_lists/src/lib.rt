@@ -1,4 +1,6 @@
 // What the exports on lists of spills share: the edition of the rows, as a flag names it.
+#![tactic(auto)]
+
 ghost use Rattle.std.specs.Prelude.{◌≡◌};
 ghost use Rattle.ergo_index_lists.specs.Lists.{named_edition};
 

@@ -1,4 +1,6 @@
 // A load that can be repeated.
+#![tactic(auto)]
+
 ghost use Rattle.std.specs.Prelude.{◌≡◌};
 ghost use Rattle.load_core.specs.Draw.{source};
 ghost use Rattle.load.specs.Generated.{generate_load_of, go_on_of};

@@ -1,5 +1,7 @@
 // Which row a call needs next that is neither staged nor in the table that is borrowed, in either edition. Heads and lists of spills are borrowed as for the calls.
 // The result is 12 where a row is missing: its spill number and its key are in the outs. Else it is 0, and the outs are as they were.
+#![tactic(auto)]
+
 ghost use Rattle.std.specs.Prelude.{◌≡◌};
 ghost use Rattle.buffer_core.specs.declared.Direction.TheVariants.{Spend, Unspend};
 ghost use Rattle.segment_id.specs.declared.Kind.TheVariants.{Box, Tx};

@@ -1,4 +1,6 @@
 // Coded numbers at a position of borrowed bytes; an accepted call moves the position behind the number.
+#![tactic(auto)]
+
 ghost use Rattle.std.specs.Prelude.{ℕ, ◌≡◌, List};
 ghost use Rattle.vlq_core.specs.Zigzag.{zig};
 ghost use Rattle.vlq_core.specs.Groups.{enc};

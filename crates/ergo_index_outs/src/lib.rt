@@ -1,4 +1,6 @@
 // What a call answers goes to the outs of its export, and its code is the result; a refusal sets no out.
+#![tactic(auto)]
+
 ghost use Rattle.std.specs.Prelude.{ℕ, ◌≡◌, List, ℤ};
 ghost use Rattle.ergo_index_outs.specs.Outs.{append_out, append_by, pop_out, pop_by, flip_out, flip_by, tally_out, tally_export, flush_out, flush_by};
 

@@ -1,4 +1,6 @@
 // Pages of one parent's unspent boxes. Heads and lists of spills are borrowed as for a tally.
+#![tactic(auto)]
+
 ghost use Rattle.std.specs.Prelude.{◌≡◌};
 ghost use Rattle.index_types.specs.declared.RowEdition.TheVariants.{One};
 ghost use Rattle.ergo_index_lists.specs.Lists.{named_edition};

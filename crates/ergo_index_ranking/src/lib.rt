@@ -1,4 +1,6 @@
 // How two whole addresses rank. An address is borrowed as its hash, its balance if it has one, two heads, and its own staged spills and table.
+#![tactic(auto)]
+
 ghost use Rattle.std.specs.Prelude.{◌≡◌};
 ghost use Rattle.ergo_index_lists.specs.Lists.{named_edition};
 ghost use Rattle.address_ranking.specs.Rank.{address_of, rank_of};

@@ -1,4 +1,6 @@
 // Segment rows. The writer moves the position behind what it wrote; the reader fills borrowed lists of 512 and the outs.
+#![tactic(auto)]
+
 ghost use Rattle.std.specs.Prelude.{◌≡◌};
 ghost use Rattle.segment_core.specs.Row.{row_limit};
 ghost use Rattle.segment.specs.Calls.{write_of, read_of};

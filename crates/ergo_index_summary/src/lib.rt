@@ -1,5 +1,7 @@
 // The summary of one parent's box spills made afresh, and the tally by a summary. A summary is a borrowed list of numbers, five to a line, beside the number
 // of its lines. Heads and lists of spills are borrowed as for appends and pops.
+#![tactic(auto)]
+
 ghost use Rattle.std.specs.Prelude.{◌≡◌};
 ghost use Rattle.summary_core.specs.Lines.{with_summary};
 ghost use Rattle.ergo_index_lists.specs.Lists.{named_edition};

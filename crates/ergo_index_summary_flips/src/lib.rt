@@ -1,5 +1,7 @@
 // Spends and unspends of one box with a summary of the box spills, whose line of the row that is staged is made anew. Heads, lists of spills and the summary
 // are borrowed as for the other exports.
+#![tactic(auto)]
+
 ghost use Rattle.std.specs.Prelude.{◌≡◌};
 ghost use Rattle.buffer_core.specs.declared.Direction.TheVariants.{Spend, Unspend};
 ghost use Rattle.summary_core.specs.Lines.{with_summary};

@@ -1,5 +1,7 @@
 // Box appends and box pops with a summary of the box spills: the line of a row that an append makes is written, that of a row that a pop takes back cleared.
 // Heads, lists of spills and the summary are borrowed as for the other exports.
+#![tactic(auto)]
+
 ghost use Rattle.std.specs.Prelude.{◌≡◌};
 ghost use Rattle.summary_core.specs.Lines.{with_summary};
 ghost use Rattle.ergo_index_lists.specs.Lists.{named_edition};

@@ -1,4 +1,6 @@
 // Trying staging sizes with made-up forks.
+#![tactic(auto)]
+
 ghost use Rattle.std.specs.Prelude.{◌≡◌};
 ghost use Rattle.ergo_index_trials.specs.Trials.{trial_out, trial_by, TriesOut};
 

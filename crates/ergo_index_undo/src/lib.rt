@@ -1,4 +1,6 @@
 // Undo entries and their retention.
+#![tactic(auto)]
+
 ghost use Rattle.std.specs.Prelude.{◌≡◌};
 ghost use Rattle.undo_entries.specs.Entry.{encoded_of, decoded_of};
 ghost use Rattle.ergo_index_undo.specs.Undo.{entry, encode_out, encode_export, decode_out, decode_export, window, prune_out, prune_call};

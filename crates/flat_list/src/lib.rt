@@ -1,4 +1,6 @@
 // The box numbers of one parent as one list of at most 4,096: no rows, no keys and no staged spills. It is checked and searched as a head is.
+#![tactic(auto)]
+
 ghost use Rattle.std.specs.Prelude.{◌≡◌, true, false, ◌-◌, ◌≤◌, ◌<◌, pos, length, take, get_or, set};
 ghost use Rattle.entries.specs.Order.{order_ok};
 ghost use Rattle.flat_list.specs.Flat.{changing, popping, flat_ok, flat_append, flat_flip, flip_target, flat_pop};

@@ -1,4 +1,6 @@
 // Spend, unspend and tally, for any buffers.
+#![tactic(auto)]
+
 ghost use Rattle.std.specs.Prelude.{◌≡◌};
 ghost use Rattle.buffer_core.specs.declared.Direction.TheVariants.{Spend, Unspend};
 ghost use Rattle.buffer_core.specs.Edition.{edition_of};

@@ -1,4 +1,6 @@
 // Spend and unspend, once refusal 25 is tested: one core with the direction as a parameter. The hints say where the table's records may stand (`record_hints`).
+#![tactic(auto)]
+
 ghost use Rattle.std.specs.Prelude.{◌≡◌, true, ◌≤◌, ◌<◌, length, take};
 ghost use Rattle.entries.specs.Order.{order_ok};
 ghost use Rattle.buffer_core.specs.Edition.{edition_of};

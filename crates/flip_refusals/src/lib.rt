@@ -1,4 +1,6 @@
 // Which refusals a spend and an unspend give, and what 15 means: laws; and the refusal of a search that took no entry.
+#![tactic(auto)]
+
 ghost use Rattle.std.specs.Prelude.{◌≡◌, cond};
 
 // The refusal of a search that took no entry: by whether it saw the target.

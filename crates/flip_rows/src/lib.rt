@@ -1,4 +1,6 @@
 // The rows of a spend or an unspend, behind the head: the halving, the walk, and the match. The hints say where the table's records may stand (`record_hints`).
+#![tactic(auto)]
+
 ghost use Rattle.std.specs.Prelude.{◌<◌};
 ghost use Rattle.buffer_core.specs.Edition.{edition_of};
 ghost use Rattle.buffer_core.specs.Spills.{sources};

@@ -1,5 +1,7 @@
 // The halving over a parent's spill numbers: the newest row whose first absolute value is at most the target.
 // It takes hints of where the table's records may stand (`record_hints`).
+#![tactic(auto)]
+
 ghost use Rattle.std.specs.Prelude.{◌≡◌, true, ◌*◌, ◌≤◌, ◌<◌, length};
 ghost use Rattle.records.specs.Records.{keys};
 ghost use Rattle.records.specs.Find.{distinct};

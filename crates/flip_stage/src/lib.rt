@@ -1,4 +1,6 @@
 // A match in a row: the row is written anew with the entry negated, and staged. The hints say where the table's records may stand (`record_hints`).
+#![tactic(auto)]
+
 ghost use Rattle.std.specs.Prelude.{◌≡◌, ◌+◌, ◌*◌, ◌≤◌, ◌<◌, pos, length};
 ghost use Rattle.records.specs.Find.{row_at};
 ghost use Rattle.segment_id.specs.Key.{row_key};

@@ -1,5 +1,7 @@
 // The walk down a parent's rows from a spill number on: what each row shows, up to the entry to take or the end of the walk.
 // It takes hints of where the table's records may stand (`record_hints`).
+#![tactic(auto)]
+
 ghost use Rattle.std.specs.Prelude.{◌≡◌, true, ◌||◌, ◌*◌, ◌≤◌, ◌<◌, ltb, length, take};
 ghost use Rattle.index_types.specs.Limits.{segment_threshold};
 ghost use Rattle.records.specs.Records.{keys};

@@ -1,4 +1,6 @@
 // The flush, for any buffers.
+#![tactic(auto)]
+
 ghost use Rattle.std.specs.Prelude.{◌≡◌};
 ghost use Rattle.buffer_core.specs.Edition.{edition_of};
 ghost use Rattle.buffer_core.specs.Pop.{lists};

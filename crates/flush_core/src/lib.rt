@@ -1,4 +1,6 @@
 // The flush, once refusal 25 has passed: staged rows whose key is not deleted go to the table, then the deleted keys leave it. The table's records are found by hints (`record_hints`).
+#![tactic(auto)]
+
 ghost use Rattle.std.specs.Prelude.{◌≡◌, true, ◌*◌, ◌-◌, ◌≤◌, leb, length};
 ghost use Rattle.records.specs.Records.{keys};
 ghost use Rattle.records.specs.Find.{distinct};

@@ -1,4 +1,6 @@
 // What a flush that has room makes of the table: staged rows whose key is not deleted go to it, then the deleted keys leave it. Records are found by hints (`record_hints`).
+#![tactic(auto)]
+
 ghost use Rattle.std.specs.Prelude.{◌≡◌, true, ◌+◌, ◌*◌, ◌≤◌, length, take, drop};
 ghost use Rattle.records.specs.Records.{records, keys};
 ghost use Rattle.records.specs.Find.{find_key, is_found, distinct};

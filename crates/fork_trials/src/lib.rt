@@ -1,4 +1,6 @@
 // Trying staging sizes with made-up forks (document 02, U12): how many staged rows and deleted keys a run of generated blocks and forks needs at any one time.
+#![tactic(auto)]
+
 ghost use Rattle.std.specs.Prelude.{◌≡◌};
 ghost use Rattle.trial_core.specs.Trial.{figures, run_of};
 ghost use Rattle.fork_trials.specs.Tries.{Tries};

@@ -1,4 +1,6 @@
 // Changes of a record list in which no key stands twice, by hints of where its records stand (`record_hints`): the records that a change adds or moves are noted.
+#![tactic(auto)]
+
 ghost use Rattle.std.specs.Prelude.{◌≡◌, true, ◌+◌, ◌*◌, ◌≤◌, ◌<◌, length};
 ghost use Rattle.records.specs.Records.{keys, record_of};
 ghost use Rattle.records.specs.Find.{find_key, distinct};

@@ -1,4 +1,6 @@
 // The short histories that go on from some calls, written into borrowed bytes: each is a byte of its length and one byte per call, 1 to 6 by rank.
+#![tactic(auto)]
+
 ghost use Rattle.std.specs.Prelude.{[], ◌∷◌, map, ◌+◌, ◌≤◌, length};
 ghost use Rattle.stores.specs.Stores.{Put};
 ghost use Rattle.history_steps.specs.Ranks.{number, ranks_in};

@@ -1,5 +1,7 @@
 // Prints every short history (document 02, U10) to standard output, one on a line, its calls by name.
 // The file stdout was made by compare/histories_model.py.
+#![tactic(auto)]
+
 ghost use Rattle.std.specs.Prelude.{◌≡◌, ◌≤◌, length, take};
 ghost use Rattle.history_growth.specs.Listing.{histories, bytes_of};
 

@@ -1,4 +1,6 @@
 // The calls of a short history (document 02, U10), and which of them may come next.
+#![tactic(auto)]
+
 ghost use Rattle.std.specs.Prelude.{◌≡◌, ◌&&◌, [], ◌∷◌, ◌+◌, ◌-◌, ◌≤◌, ltb, get_or};
 ghost use Rattle.history_steps.specs.declared.Rank.TheVariants.{Flush};
 ghost use Rattle.history_steps.specs.Ranks.{ranks, number, ranks_in};

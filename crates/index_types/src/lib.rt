@@ -1,4 +1,5 @@
 // The types that the signatures of public calls show. They hold numbers only: what a call borrows stays with its caller.
+#![tactic(auto)]
 
 // ---- limits
 

@@ -1,4 +1,6 @@
 // The tokens of a box added to or subtracted from those of a balance in borrowed arrays, which a refusal leaves as they were.
+#![tactic(auto)]
+
 ghost use Rattle.std.specs.Prelude.{◌≡◌, true, List, ℕ, ◌*◌, ◌≤◌, length};
 ghost use Rattle.index_types.specs.Limits.{token_limit, token_id_bytes};
 ghost use Rattle.balance_tokens.specs.Tokens.{change_tokens};

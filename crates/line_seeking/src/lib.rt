@@ -1,4 +1,6 @@
 // The first row that is neither staged nor among the records borrowed as the table, of those that a spend or an unspend reads by a summary.
+#![tactic(auto)]
+
 ghost use Rattle.std.specs.Prelude.{◌≡◌, true, false, ◌+◌, ◌*◌, ◌<◌, ◌≤◌, ltb, length, take};
 ghost use Rattle.index_types.specs.Limits.{segment_threshold, summary_line};
 ghost use Rattle.entries.specs.Order.{order_ok};

@@ -1,4 +1,6 @@
 // A load that can be repeated (document 02, U11): as many calls of the runner as asked, written into borrowed bytes. Equal states give equal calls.
+#![tactic(auto)]
+
 ghost use Rattle.std.specs.Prelude.{◌≡◌, ◌+◌, ◌≤◌, leb, length};
 ghost use Rattle.stores.specs.Stores.{Put};
 ghost use Rattle.load.specs.Bytes.{append_byte, flip_byte, numbered, call_bytes, load_bytes};

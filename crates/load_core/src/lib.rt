@@ -1,4 +1,6 @@
 // The calls of a load that can be repeated (document 02, U11), drawn one after the other from a state of 64 bits.
+#![tactic(auto)]
+
 ghost use Rattle.std.specs.Prelude.{◌≡◌, ◌<◌};
 ghost use Rattle.load_core.specs.Draw.{draw, next_box, next_tx, next_spend, pick, draws};
 

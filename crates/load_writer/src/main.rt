@@ -1,6 +1,8 @@
 // Writes a load that can be repeated (document 02, U11) to standard output: its two arguments are the state and how many calls, in decimal digits.
 // The calls pass through one buffer, a piece at a time: each piece goes on from the generator that the one before left.
 // The files args and stdout are 8,000 calls from state 1, of more than one piece; stdout was made by compare/load_model.py.
+#![tactic(auto)]
+
 ghost use Rattle.std.specs.Prelude.{◌≡◌, ◌≤◌, ◌<◌, length, take};
 ghost use Rattle.load.specs.Bytes.{load_bytes};
 

@@ -1,4 +1,6 @@
 // The missing row of a call, told by the outs of the export that asks for it.
+#![tactic(auto)]
+
 ghost use Rattle.std.specs.Prelude.{◌≡◌};
 ghost use Rattle.missing_outs.specs.Outs.{missing_out, missing_by};
 ghost use Rattle.missing_outs.specs.Internal.{Numbered};

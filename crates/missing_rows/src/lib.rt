@@ -1,4 +1,6 @@
 // Which row a call reads next that is neither staged nor among the records borrowed as the table: a driver fetches it and asks again.
+#![tactic(auto)]
+
 ghost use Rattle.std.specs.Prelude.{◌≡◌, true, false, ◌≤◌, ◌<◌, length, take};
 ghost use Rattle.entries.specs.Order.{order_ok};
 ghost use Rattle.entries.specs.Flip.{position};

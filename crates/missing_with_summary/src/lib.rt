@@ -1,5 +1,7 @@
 // Which row a spend or an unspend with a summary needs next that is neither staged nor among the records borrowed as the table. The row that a pop with a summary
 // or a summary made afresh needs is the one that `missing_rows` names for the pop and for the tally.
+#![tactic(auto)]
+
 ghost use Rattle.std.specs.Prelude.{◌≡◌, true, false, ◌*◌, ◌≤◌, ◌<◌, length, take};
 ghost use Rattle.index_types.specs.Limits.{summary_line};
 ghost use Rattle.entries.specs.Order.{order_ok};

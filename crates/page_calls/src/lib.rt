@@ -1,4 +1,6 @@
 // Pages of unspent boxes, for any buffers.
+#![tactic(auto)]
+
 ghost use Rattle.std.specs.Prelude.{◌≡◌, ◌≤◌, length, take};
 ghost use Rattle.entries.specs.Unspent.{page_places};
 ghost use Rattle.buffer_core.specs.Edition.{edition_of};

@@ -1,5 +1,7 @@
 // A page of unspent boxes, once refusal 25 has passed. Every row is checked first, from spill 0 up; then the page is filled, the head first and the rows from
 // the newest down, and copied out.
+#![tactic(auto)]
+
 ghost use Rattle.std.specs.Prelude.{◌≡◌, true, ◌*◌, ◌≤◌, ◌<◌, ◌++◌, length, take};
 ghost use Rattle.records.specs.Records.{keys};
 ghost use Rattle.records.specs.Find.{distinct};

@@ -1,4 +1,6 @@
 // The entries above 0 of a head or a row, put into a page: the newest first, the first of them passed over, until the page has what is wanted.
+#![tactic(auto)]
+
 ghost use Rattle.std.specs.Prelude.{◌≡◌, [], ◌∷◌, ◌≤◌, length, take};
 ghost use Rattle.entries.specs.Tally.{is_above};
 ghost use Rattle.entries.specs.Unspent.{unspent_newest_first};

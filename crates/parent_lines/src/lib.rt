@@ -1,4 +1,6 @@
 // The lines that the call runner prints of its parents at the end, written into borrowed bytes: each writer answers the position behind what it wrote.
+#![tactic(auto)]
+
 ghost use Rattle.std.specs.Prelude.{◌∷◌, ◌+◌, ◌≤◌, length};
 ghost use Rattle.stores.specs.Stores.{Put};
 ghost use Rattle.line_parts.specs.Parts.{spaced};

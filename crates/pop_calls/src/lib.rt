@@ -1,4 +1,6 @@
 // Pop of a box number or a transaction number, for any buffers.
+#![tactic(auto)]
+
 ghost use Rattle.std.specs.Prelude.{◌≡◌};
 ghost use Rattle.segment_id.specs.declared.Kind.TheVariants.{Box, Tx};
 ghost use Rattle.buffer_core.specs.Edition.{edition_of};

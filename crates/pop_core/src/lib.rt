@@ -1,4 +1,6 @@
 // Pop for boxes and transactions alike, once refusal 25 is tested.
+#![tactic(auto)]
+
 ghost use Rattle.std.specs.Prelude.{◌≡◌, ◌≤◌};
 ghost use Rattle.index_types.specs.Limits.{segment_threshold};
 ghost use Rattle.buffer_core.specs.Edition.{edition_of};

@@ -1,4 +1,6 @@
 // A row merged back, for boxes and transactions alike: its numbers become the head, and its key leaves the staged spills and joins the deleted ones.
+#![tactic(auto)]
+
 ghost use Rattle.std.specs.Prelude.{◌≡◌, ◌*◌, ◌≤◌, ◌<◌, length};
 ghost use Rattle.records.specs.Records.{keys};
 ghost use Rattle.records.specs.Find.{find_key};

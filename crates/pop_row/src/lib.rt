@@ -1,4 +1,6 @@
 // A pop from an empty head, for boxes and transactions alike: the newest row becomes the head.
+#![tactic(auto)]
+
 ghost use Rattle.std.specs.Prelude.{◌≡◌, ◌<◌};
 ghost use Rattle.buffer_core.specs.Edition.{edition_of};
 ghost use Rattle.buffer_core.specs.Pop.{popping, lists, unspill_of};

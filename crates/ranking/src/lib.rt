@@ -1,4 +1,6 @@
 // Addresses in a fixed order: how two whole addresses rank, each borrowed with its own staged spills and table. Nothing is written.
+#![tactic(auto)]
+
 ghost use Rattle.std.specs.Prelude.{◌≡◌, ◌*◌, ◌≤◌, length};
 ghost use Rattle.buffer_core.specs.Edition.{record_size};
 ghost use Rattle.address_ranking.specs.Rank.{address_of, read_and_rank, rank_of};

@@ -1,4 +1,6 @@
 // Changes of record lists and key lists in borrowed bytes: put, remove, empty, and whether there is room for a record.
+#![tactic(auto)]
+
 ghost use Rattle.std.specs.Prelude.{◌≡◌, ◌+◌, ◌*◌, ◌≤◌, ◌<◌, length};
 ghost use Rattle.records.specs.Records.{keys, record_of};
 ghost use Rattle.records.specs.Find.{find_key};

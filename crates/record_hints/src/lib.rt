@@ -1,5 +1,7 @@
 // Finding a record without going through the whole list: hints say where a record may stand, and a hint is compared with the key before it is taken.
 // A hint is an index plus one; 0 stands for none. A key has two slots among the hints: by its first two bytes, and by the two after them.
+#![tactic(auto)]
+
 ghost use Rattle.std.specs.Prelude.{◌≡◌, true, ◌+◌, ◌*◌, ◌-◌, ◌≤◌, ◌<◌, length};
 ghost use Rattle.records.specs.declared.Found.{Found};
 ghost use Rattle.records.specs.Records.{keys};

@@ -1,4 +1,6 @@
 // A record of a key and a row, written at a position of a list.
+#![tactic(auto)]
+
 ghost use Rattle.std.specs.Prelude.{◌≡◌, [], ◌∷◌, ◌+◌, ◌/◌, ◌%◌, ◌≤◌, length};
 ghost use Rattle.stores.specs.Stores.{write};
 ghost use Rattle.records.specs.Records.{record_of};

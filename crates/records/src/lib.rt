@@ -1,5 +1,7 @@
 // Record lists and key lists in borrowed bytes: their types, the search for a key, the row of a record, and the bounds that refusal 25 asks for.
 // A record has its key in bytes 0 to 31, the length of its row in bytes 32 and 33, and its row from byte 34 on.
+#![tactic(auto)]
+
 ghost use Rattle.std.specs.Prelude.{◌≡◌, ◌+◌, ◌*◌, ◌≤◌, ◌<◌, length, get_or, take, drop};
 ghost use Rattle.stores.specs.Equal.{same_bytes};
 ghost use Rattle.records.specs.Records.{records, keys, stored_row};

@@ -1,4 +1,6 @@
 // The refusal codes of documents 01 ("Where a call is turned back") and 02, each by a name, and the answer of a call that returns nothing else.
+#![tactic(auto)]
+
 ghost use Rattle.std.specs.Prelude.{◌≡◌};
 ghost use Rattle.refusal.specs.Refusal.{tolerated, numbers_from};
 

@@ -1,4 +1,6 @@
 // A row turned from one edition into the other, with the parent, the kind and the spill number that are given.
+#![tactic(auto)]
+
 ghost use Rattle.std.specs.Prelude.{◌≡◌, true, ◌≤◌, length, drop};
 ghost use Rattle.vlq_core.specs.Writing.{written, put_bytes};
 ghost use Rattle.index_types.specs.declared.RowEdition.TheVariants.{One, Two};

@@ -1,4 +1,6 @@
 // One row of a spill, in either edition, read for the spill whose row it should be.
+#![tactic(auto)]
+
 ghost use Rattle.std.specs.Prelude.{◌≡◌, true, ◌<◌, ◌≤◌, pos, length};
 ghost use Rattle.index_types.specs.Limits.{segment_threshold};
 ghost use Rattle.segment_core.specs.Reading.{segment_at, ended};

@@ -1,4 +1,6 @@
 // A row that was fetched, put under its key into the records that are borrowed as the table.
+#![tactic(auto)]
+
 ghost use Rattle.std.specs.Prelude.{◌≡◌};
 ghost use Rattle.buffer_core.specs.Edition.{edition_of};
 ghost use Rattle.row_fetching.specs.Putting.{putting, put_of};

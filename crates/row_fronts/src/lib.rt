@@ -1,4 +1,6 @@
 // What stands before the body of a row of the second edition, with the kind as its byte: tested, and written.
+#![tactic(auto)]
+
 ghost use Rattle.std.specs.Prelude.{◌≡◌, ◌++◌, ◌+◌, ◌≤◌, length};
 ghost use Rattle.stores.specs.Stores.{Put};
 ghost use Rattle.vlq_core.specs.Zigzag.{zig};

@@ -1,4 +1,6 @@
 // What stands before the body of a spill's row, in either edition: the header written, what it says of whose row it is, and where the body begins.
+#![tactic(auto)]
+
 ghost use Rattle.std.specs.Prelude.{◌≡◌, ◌<◌, ◌≤◌, pos, length, set};
 ghost use Rattle.stores.specs.Stores.{Put};
 ghost use Rattle.buffer_core.specs.Edition.{number_at, header_limit, kind_byte, header, body_at, says};

@@ -1,4 +1,6 @@
 // The first row that is neither staged nor among the records borrowed as the table: of one spill, of the spills from 0 up, of a halving and its walk.
+#![tactic(auto)]
+
 ghost use Rattle.std.specs.Prelude.{◌≡◌, ◌<◌, [], ◌∷◌};
 ghost use Rattle.segment_id.specs.declared.Kind.TheVariants.{Box};
 ghost use Rattle.buffer_core.specs.Edition.{edition_of};

@@ -1,4 +1,6 @@
 // The rows of a tally: the figures of one row, of all rows from spill 0 up on top of those counted so far, and the check of all rows.
+#![tactic(auto)]
+
 ghost use Rattle.std.specs.Prelude.{◌≡◌, true, ◌*◌, ◌≤◌, ◌<◌, length};
 ghost use Rattle.index_types.specs.Limits.{segment_threshold};
 ghost use Rattle.records.specs.Records.{keys};

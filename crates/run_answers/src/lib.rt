@@ -1,4 +1,6 @@
 // What the runner writes between calls: an answer in its places, whether another has room, and how reading ended.
+#![tactic(auto)]
+
 ghost use Rattle.std.specs.Prelude.{◌≡◌, ◌+◌, ◌*◌, ◌≤◌, ◌<◌, length};
 ghost use Rattle.call_steps.specs.Steps.{refused, stepped};
 ghost use Rattle.run_answers.specs.Answers.{flag, with_code, with_number, has_room, end_at};

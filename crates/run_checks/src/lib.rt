@@ -1,4 +1,6 @@
 // Refusal 25 of the whole state, which the runner tests before the calls.
+#![tactic(auto)]
+
 ghost use Rattle.std.specs.Prelude.{◌≡◌, ◌+◌, ◌*◌, ◌≤◌, length};
 ghost use Rattle.buffer_core.specs.Edition.{edition_1};
 ghost use Rattle.buffer_core.specs.Pop.{lists_ok};

@@ -1,4 +1,6 @@
 // One call on the runner's state, once refusal 25 has passed, and the hints of where the table's records stand (`record_hints`), which a flush keeps.
+#![tactic(auto)]
+
 ghost use Rattle.std.specs.Prelude.{◌≡◌};
 ghost use Rattle.buffer_core.specs.Edition.{edition_1};
 ghost use Rattle.call_steps.specs.State.{state};

@@ -1,4 +1,6 @@
 // Runs the calls that an input holds, over borrowed state for any number of parents: refusal 25 is tested once, then each call is made by its core function.
+#![tactic(auto)]
+
 ghost use Rattle.std.specs.Prelude.{◌≡◌, ◌+◌, ◌*◌, ◌<◌, length};
 ghost use Rattle.buffer_core.specs.Edition.{edition_1};
 ghost use Rattle.call_steps.specs.State.{Ready, state};

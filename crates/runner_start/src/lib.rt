@@ -1,4 +1,6 @@
 // What the call runner starts with (document 01, "Call runner"): the ids of two parents, and empty lists.
+#![tactic(auto)]
+
 ghost use Rattle.std.specs.Prelude.{◌≡◌, length};
 ghost use Rattle.runner_start.specs.Start.{lists_empty, two_ids};
 

@@ -1,4 +1,6 @@
 // The segment row, written to and read from borrowed bytes: `write_segment` and `read_persisted_segment` of segment.rs.
+#![tactic(auto)]
+
 ghost use Rattle.std.specs.Prelude.{◌≡◌};
 ghost use Rattle.vlq_core.specs.Writing.{written};
 ghost use Rattle.segment_core.specs.Row.{row_limit};

@@ -1,6 +1,7 @@
 // The calls of the block applier and the rollback driver on one parent's segment: a head of boxes and a head of transactions, the staged spills, the
 // segments table and the deleted spills, all borrowed. Every call takes the edition of the spill rows first, and tests refusal 25 of what it borrows
 // before all else; a refusal changes nothing.
+#![tactic(auto)]
 
 // An edition of the spill rows.
 pub use index_types::RowEdition;

@@ -1,5 +1,6 @@
 // The segment row: two lists of numbers, each behind its length, and two spill counts: definitions and laws.
 // Internal: rows are written by `segment_writing`, and read by `segment_reading` and `segment_loading`. The public calls are those of `segment`.
+#![tactic(auto)]
 
 // The most bytes of a row.
 pub const ROW_LIMIT: usize = 10254;

@@ -1,4 +1,6 @@
 // Row keys: the ids of spilled segments.
+#![tactic(auto)]
+
 ghost use Rattle.std.specs.Prelude.{◌≡◌, ◌+◌, ◌≤◌, length};
 ghost use Rattle.stores.specs.Stores.{Put};
 ghost use Rattle.segment_id.specs.Key.{separator, key_text, row_key};

@@ -1,5 +1,7 @@
 // The segment row read into borrowed lists: into buffers of its own first, so that a refusal changes no borrowed list.
 // Internal: the readers ask for lists of 512. The public calls are those of `segment`.
+#![tactic(auto)]
+
 ghost use Rattle.std.specs.Prelude.{◌≡◌, true, not, ◌||◌, ◌≤◌, eqb, length};
 ghost use Rattle.index_types.specs.Limits.{segment_threshold};
 ghost use Rattle.stores.specs.Stores.{write};

@@ -1,5 +1,7 @@
 // The parts of a segment row read: lengths, lists, and the spill counts.
 // Internal: lists are read into buffers of 512. A whole row is read by `segment_loading`.
+#![tactic(auto)]
+
 ghost use Rattle.std.specs.Prelude.{◌≡◌, ◌≤◌};
 ghost use Rattle.index_types.specs.Limits.{segment_threshold};
 ghost use Rattle.segment_core.specs.Reading.{length_at, numbers_at, list_at, counts_at};

@@ -1,4 +1,6 @@
 // An append, a spend, an unspend, a pop and a flush of the runner on the state of all parents, once refusal 25 is tested.
+#![tactic(auto)]
+
 ghost use Rattle.std.specs.Prelude.{◌≡◌, true};
 ghost use Rattle.segment_id.specs.declared.Kind.TheVariants.{Box};
 ghost use Rattle.buffer_core.specs.Edition.{edition_1};

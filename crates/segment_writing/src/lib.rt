@@ -1,5 +1,7 @@
 // The segment row written: the size of each part, and the part written where it fits.
 // Internal: the writers ask for room and for lists within 512. The public calls are those of `segment`.
+#![tactic(auto)]
+
 ghost use Rattle.std.specs.Prelude.{◌≡◌, ◌+◌, ◌*◌, ◌≤◌, length, take};
 ghost use Rattle.stores.specs.Stores.{Put};
 ghost use Rattle.segment_core.specs.Row.{numbers_bytes, list_bytes, counts_bytes, row_bytes, row_limit, Held, Room};

@@ -1,5 +1,7 @@
 // Every short history, listed (document 02, U10): all lists of at most five calls for one fresh parent, over the numbers 1 and 2, that keep the history rules and
 // in which every call is accepted. Each is a byte of its length and one byte per call, 1 to 6 by rank.
+#![tactic(auto)]
+
 ghost use Rattle.std.specs.Prelude.{◌≡◌, ◌≤◌, length};
 ghost use Rattle.stores.specs.Stores.{Put};
 ghost use Rattle.vlq_core.specs.Writing.{written, put_bytes};

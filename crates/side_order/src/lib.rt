@@ -1,5 +1,7 @@
 // The entries of one kind of an address, spills and head as one list: every row checked as a pop checks it, and two such lists compared entry by entry
 // with one row of each decoded at a time.
+#![tactic(auto)]
+
 ghost use Rattle.std.specs.Prelude.{◌≡◌, List, ℤ, length, take};
 ghost use Rattle.index_types.specs.Limits.{segment_threshold};
 ghost use Rattle.buffer_core.specs.Edition.{edition_of};

@@ -1,4 +1,6 @@
 // Leaves on signed numbers: sign, absolute value, negation, checked sum and difference, conversions.
+#![tactic(auto)]
+
 ghost use Rattle.std.specs.Prelude.{◌≡◌, false, ◌<◌, pos, negsuc, nat_abs, neg_ℤ, ◌+ℤ◌, ◌-ℤ◌};
 ghost use Rattle.signed.specs.Sign.{is_negative, wanted};
 ghost use Rattle.signed.specs.Checked.{checked};

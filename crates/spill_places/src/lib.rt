@@ -1,4 +1,6 @@
 // Where the row under a key stands among the staged spills and in the segments table, and the row there. `spills` exports the search.
+#![tactic(auto)]
+
 ghost use Rattle.std.specs.Prelude.{◌≡◌};
 ghost use Rattle.buffer_core.specs.Edition.{record_size, row_limit_of};
 ghost use Rattle.spill_places.specs.Inspection.{spills_ok, locate_row, located_code, located_row, Within};

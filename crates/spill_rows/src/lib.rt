@@ -1,5 +1,7 @@
 // The rows of a parent's spills, in either edition: the key of a spill, its row, and its row checked. A row is looked for among the staged spills, then in
 // the table.
+#![tactic(auto)]
+
 ghost use Rattle.std.specs.Prelude.{◌≡◌, true, ◌*◌, ◌<◌, ◌≤◌, pos, length};
 ghost use Rattle.index_types.specs.Limits.{segment_threshold};
 ghost use Rattle.records.specs.Records.{keys};

@@ -1,4 +1,6 @@
 // Inspection of spill rows among the staged spills and in the segments table.
+#![tactic(auto)]
+
 ghost use Rattle.std.specs.Prelude.{◌≡◌};
 ghost use Rattle.buffer_core.specs.Edition.{record_size, row_limit_of};
 ghost use Rattle.spill_places.specs.Inspection.{locate_row, inspect_code, inspect_row};

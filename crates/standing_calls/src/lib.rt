@@ -1,4 +1,6 @@
 // Where a trial of staging sizes stands (document 02, U12): the state beside its buffers, the list of standing calls, and which of them a fork undoes.
+#![tactic(auto)]
+
 ghost use Rattle.std.specs.Prelude.{◌≡◌, ◌&&◌, ℕ, ◌+◌, ◌*◌, ◌-◌, ◌≤◌, ◌<◌, max, leb, ltb, length};
 ghost use Rattle.buffer_core.specs.Edition.{edition_1};
 ghost use Rattle.trial_core.specs.Trial.{depth_limit, changes, ends_run, undo_of};

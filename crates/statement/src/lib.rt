@@ -1,4 +1,6 @@
 // The figure that a statement shows for an amount of nanoErgs.
+#![tactic(auto)]
+
 ghost use Rattle.std.specs.Prelude.{◌≡◌};
 ghost use Rattle.statement.specs.Statement.{milli_ergs};
 

@@ -1,4 +1,6 @@
 // Copies, fills and moves within borrowed slices of bytes and of numbers, and equality of byte strings.
+#![tactic(auto)]
+
 ghost use Rattle.std.specs.Prelude.{◌≡◌, ◌+◌, ◌<◌, ◌≤◌, pos, length, take, drop, replicate, [], ◌∷◌};
 ghost use Rattle.stores.specs.Stores.{write, Put};
 ghost use Rattle.stores.specs.Equal.{same_bytes};

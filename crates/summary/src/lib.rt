@@ -1,6 +1,8 @@
 // The calls on one parent's boxes with a summary of its spills, a line of five numbers for each: made afresh, kept current by appends, pops, spends and unspends,
 // and added up by a tally. Every call that reads or writes rows takes the edition of the spill rows first. Every call tests refusal 25 of what it borrows before
 // all else, the summary included; a refusal changes nothing.
+#![tactic(auto)]
+
 ghost use Rattle.std.specs.Prelude.{◌≡◌};
 ghost use Rattle.buffer_core.specs.declared.Direction.TheVariants.{Spend, Unspend};
 ghost use Rattle.buffer_core.specs.Edition.{edition_of};

@@ -1,5 +1,7 @@
 // An append of a box number with a summary, once refusal 25 has passed: both tests of 36, the append as it is without a summary, then the line of the row that it
 // made.
+#![tactic(auto)]
+
 ghost use Rattle.std.specs.Prelude.{◌≡◌, false, ◌*◌, ◌≤◌, length};
 ghost use Rattle.index_types.specs.Limits.{segment_threshold, summary_line};
 ghost use Rattle.segment_id.specs.declared.Kind.TheVariants.{Box};

@@ -1,4 +1,6 @@
 // Pops, spends and unspends of boxes with a summary, for any buffers: refusal 25 is tested, then the core is called.
+#![tactic(auto)]
+
 ghost use Rattle.std.specs.Prelude.{◌≡◌};
 ghost use Rattle.buffer_core.specs.Edition.{edition_of};
 ghost use Rattle.buffer_core.specs.Pop.{popping, lists};

@@ -1,4 +1,6 @@
 // What refusal 25 asks of the buffers that a call with a summary borrows: what it asks without one, and that the summary is not too short for its stated lines.
+#![tactic(auto)]
+
 ghost use Rattle.std.specs.Prelude.{◌≡◌, ◌&&◌};
 ghost use Rattle.buffer_core.specs.Edition.{edition_of};
 ghost use Rattle.buffer_core.specs.Spills.{head_ok};

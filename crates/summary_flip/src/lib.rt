@@ -1,5 +1,7 @@
 // Spend and unspend with a summary, once refusal 25 is tested: one core with the direction as a parameter. The rows are found over the lines of the summary, so
 // that none is read but those that the walk searches.
+#![tactic(auto)]
+
 ghost use Rattle.std.specs.Prelude.{◌≡◌, true, false, ◌*◌, ◌≤◌, ◌<◌, length, take};
 ghost use Rattle.index_types.specs.Limits.{summary_line};
 ghost use Rattle.entries.specs.Order.{order_ok};

@@ -1,4 +1,6 @@
 // The lines of a summary of box spills: a line made of a row's numbers, written and cleared, and a number of a line read.
+#![tactic(auto)]
+
 ghost use Rattle.std.specs.Prelude.{◌≡◌, ◌+◌, ◌*◌, ◌≤◌, ◌<◌, length, take, replicate};
 ghost use Rattle.index_types.specs.Limits.{segment_threshold, summary_line};
 ghost use Rattle.stores.specs.Stores.{write};

@@ -1,4 +1,6 @@
 // What an append and a pop of a box number with a summary do to its lines: the tests of 36, the line of a row that was made, the line of a row that was taken.
+#![tactic(auto)]
+
 ghost use Rattle.std.specs.Prelude.{◌≡◌, true, false, cond, ◌||◌, ◌+◌, ◌*◌, ◌-◌, ◌≤◌, ◌<◌, nat_abs, length};
 ghost use Rattle.index_types.specs.Limits.{summary_line};
 ghost use Rattle.signed.specs.Sign.{is_negative};

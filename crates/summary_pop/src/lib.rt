@@ -1,4 +1,6 @@
 // A pop of a box number with a summary, once refusal 25 has passed: 36, the pop as it is without a summary, then the vacated line is cleared.
+#![tactic(auto)]
+
 ghost use Rattle.std.specs.Prelude.{◌≡◌, false, ◌*◌, ◌≤◌, length};
 ghost use Rattle.index_types.specs.Limits.{segment_threshold, summary_line};
 ghost use Rattle.segment_id.specs.declared.Kind.TheVariants.{Box};

@@ -1,5 +1,7 @@
 // A summary made afresh, once refusal 25 has passed. Every row is checked first, from spill 0 up, so that a refused call leaves the summary; then the lines are
 // written, and zeros behind them.
+#![tactic(auto)]
+
 ghost use Rattle.std.specs.Prelude.{◌≡◌, true, ◌+◌, ◌*◌, ◌-◌, ◌≤◌, ◌<◌, length, take, replicate};
 ghost use Rattle.index_types.specs.Limits.{summary_line};
 ghost use Rattle.stores.specs.Stores.{write};

@@ -1,4 +1,6 @@
 // The halving over the lines of a summary: the newest line whose first absolute value is at most the target. No row is read.
+#![tactic(auto)]
+
 ghost use Rattle.std.specs.Prelude.{◌≡◌, ◌*◌, ◌≤◌, length};
 ghost use Rattle.index_types.specs.Limits.{summary_line};
 ghost use Rattle.buffer_core.specs.declared.Low.TheVariants.{Upto};

@@ -1,4 +1,6 @@
 // A match in a row that was read, with a summary: the row is staged with the entry negated, and its line is made anew from the row as it is staged.
+#![tactic(auto)]
+
 ghost use Rattle.std.specs.Prelude.{◌≡◌, true, cond, ◌+◌, ◌*◌, ◌≤◌, ◌<◌, pos, length};
 ghost use Rattle.index_types.specs.Limits.{segment_threshold, summary_line};
 ghost use Rattle.segment_id.specs.Key.{row_key};

@@ -1,4 +1,6 @@
 // The tally with a summary, once refusal 25 has passed: the counts of the lines on top of the head's. No row is read.
+#![tactic(auto)]
+
 ghost use Rattle.std.specs.Prelude.{◌≡◌, ◌+◌, ◌*◌, ◌≤◌, ◌<◌, length, take};
 ghost use Rattle.index_types.specs.Limits.{segment_threshold, summary_line};
 ghost use Rattle.summary_core.specs.Tally.{add_lines, tally_lines};

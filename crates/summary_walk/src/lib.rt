@@ -1,5 +1,7 @@
 // The walk over the lines of a summary, from a line down: a row is read only if its line's last absolute value is not below the target, and where it has the
 // entry it is staged at once, under the key that it was found by.
+#![tactic(auto)]
+
 ghost use Rattle.std.specs.Prelude.{◌≡◌, cond, ◌+◌, ◌*◌, ◌≤◌, ◌<◌, ltb, length};
 ghost use Rattle.index_types.specs.Limits.{summary_line};
 ghost use Rattle.index_types.specs.declared.Flipped.TheVariants.{Refused};

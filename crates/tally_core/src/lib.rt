@@ -1,4 +1,6 @@
 // Tally, once refusal 25 has passed: how many entries of a parent's boxes are unspent, and how many spent.
+#![tactic(auto)]
+
 ghost use Rattle.std.specs.Prelude.{◌≡◌, true, ◌*◌, ◌≤◌, ◌<◌, length, take};
 ghost use Rattle.index_types.specs.Limits.{segment_threshold};
 ghost use Rattle.records.specs.Records.{keys};

@@ -2,6 +2,8 @@
 // stdin and stdout are made by compare/replayed.py: from compare/sample.txt, whose answers the reference Rust gave, and from sample/vectors.txt,
 // whose answers were written from document 01 and from independent outputs. A line that differs is an answer in which this index differs from them.
 // `vector_fields` says what a record is; the functions that are called here say which fields each kind has, and what stands on its line.
+#![tactic(auto)]
+
 ghost use Rattle.std.specs.Prelude.{◌<◌, length};
 
 use index_types::RowEdition;

@@ -1,4 +1,6 @@
 // Hex and decimal text, written into borrowed bytes: each writer answers the position behind what it wrote.
+#![tactic(auto)]
+
 ghost use Rattle.std.specs.Prelude.{◌≡◌, ◌+◌, ◌*◌, ◌<◌, ◌≤◌, length};
 ghost use Rattle.stores.specs.Stores.{Put};
 ghost use Rattle.text.specs.Text.{hex_digit, hex, decimal, number};

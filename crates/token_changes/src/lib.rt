@@ -1,4 +1,6 @@
 // The tokens of a balance changed: a token added, subtracted or dropped, and those of a box in list order.
+#![tactic(auto)]
+
 ghost use Rattle.std.specs.Prelude.{◌≡◌, ◌+◌, ◌*◌, ◌<◌, ◌≤◌, length, pos};
 ghost use Rattle.index_types.specs.Limits.{token_limit, token_id_bytes};
 ghost use Rattle.balance_tokens.specs.Tokens.{id_at, place_of, closed_up, add_token, subtract_token, change_token, change_tokens, left_in};

@@ -1,4 +1,6 @@
 // The ids of a balance's tokens, 32 bytes each in one array: compared, found, put at a place, and closed up where one leaves.
+#![tactic(auto)]
+
 ghost use Rattle.std.specs.Prelude.{◌≡◌, ◌+◌, ◌*◌, ◌<◌, ◌≤◌, length};
 ghost use Rattle.stores.specs.Stores.{write};
 ghost use Rattle.stores.specs.Equal.{same_bytes};

@@ -1,4 +1,6 @@
 // The tokens of two balances compared by ascending id. No sorted copy is made: the least id above the last one is looked for.
+#![tactic(auto)]
+
 ghost use Rattle.std.specs.Prelude.{◌≡◌, ◌+◌, ◌*◌, ◌<◌, ◌≤◌, pos, length, get_or};
 ghost use Rattle.balance_tokens.specs.Tokens.{id_at};
 ghost use Rattle.balance_laws.specs.Calls.{tokens_from};

@@ -1,4 +1,6 @@
 // The working buffers of a trial of staging sizes (document 02, U12): what is tested before it starts, and their zeros.
+#![tactic(auto)]
+
 ghost use Rattle.std.specs.Prelude.{◌≡◌, ◌*◌, ◌<◌, leb, pos, length, replicate};
 ghost use Rattle.trial_buffers.specs.Sizes.{sizes_ok, refused_by};
 

@@ -1,4 +1,6 @@
 // The blocks and forks of a trial of staging sizes (document 02, U12), once 25 and 38 are tested and the working buffers are zero.
+#![tactic(auto)]
+
 ghost use Rattle.std.specs.Prelude.{◌≡◌, false, nat_abs, length};
 ghost use Rattle.signed.specs.Sign.{is_negative};
 ghost use Rattle.call_steps.specs.State.{state};

@@ -1,4 +1,6 @@
 // One flush, one call and one undo of a trial of staging sizes (document 02, U12), once 25 and 38 are tested.
+#![tactic(auto)]
+
 ghost use Rattle.std.specs.Prelude.{◌≡◌, false};
 ghost use Rattle.call_steps.specs.State.{Ready, state};
 ghost use Rattle.call_steps.specs.Steps.{lists_with, StepReady};

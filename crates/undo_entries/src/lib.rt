@@ -1,4 +1,6 @@
 // Undo entries: what to restore when a block is taken back. Users name them by `undo::entry`.
+#![tactic(auto)]
+
 ghost use Rattle.std.specs.Prelude.{◌≡◌, [], ◌∷◌, ◌++◌, ◌+◌, ◌≤◌, length, take, drop};
 ghost use Rattle.stores.specs.Stores.{Put};
 ghost use Rattle.big_endian.specs.BigEndian.{eight_bytes};

@@ -1,4 +1,6 @@
 // Pruning: which heights keep their undo entries. Users name it by `undo::prune`.
+#![tactic(auto)]
+
 ghost use Rattle.std.specs.Prelude.{◌≡◌, ◌+◌, ◌-◌, ◌≤◌, length, take, drop, replicate};
 ghost use Rattle.stores.specs.Stores.{write};
 ghost use Rattle.undo_pruning.specs.Prune.{Compacts, window_of, pruned_of, pruning};

@@ -1,4 +1,6 @@
 // Balances after a box, by value and in place, a line each: the refusal code or 0, then the balance: nanoErgs, the tokens' ids and amounts.
+#![tactic(auto)]
+
 ghost use Rattle.std.specs.Prelude.{◌≡◌, ◌≤◌, length};
 ghost use Rattle.balance.specs.Boxes.{add_box, subtract_box};
 

@@ -1,5 +1,7 @@
 // One call of the segment buffer over the buffers of a record, a line each: the refusal code, or 0, what the call gave, and what it changed: the
 // numbers of the head, and of each list that the call may change the digest of all its bytes.
+#![tactic(auto)]
+
 mod asks;
 mod changes;
 mod show;

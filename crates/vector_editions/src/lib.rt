@@ -1,4 +1,6 @@
 // Rows turned from one edition into the other, a line each: the refusal code, or 0 and what was written, in hexadecimal.
+#![tactic(auto)]
+
 ghost use Rattle.std.specs.Prelude.{◌≤◌, length};
 
 use index_types::{RowEdition, Wrote};

@@ -2,6 +2,8 @@
 // A record is a byte of kind, how many bytes follow (two bytes, high byte first), and these: the length of a name (one byte), the name, and the fields.
 // A field is a coded number, or a list: its length, how many elements are given, and these, numbers coded and bytes as they are; the last one given
 // also stands in all places behind it. Where a field is cut, a number is 0.
+#![tactic(auto)]
+
 ghost use Rattle.std.specs.Prelude.{◌<◌, ◌≤◌, length};
 
 use index_types::{Int, Long};

@@ -1,4 +1,6 @@
 // Calls on a flat list, a line each: how many numbers stand in it, the number that was popped, and the list up to its third place behind them.
+#![tactic(auto)]
+
 use index_types::{BoxNumber, FlatChanged, FlatPopped};
 
 // The places of the list that a record may borrow: four more than it needs.

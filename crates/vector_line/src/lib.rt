@@ -1,4 +1,6 @@
 // What the vector programs print: a line for each case, its name and what came out.
+#![tactic(auto)]
+
 use libc::STDOUT_FILENO;
 use refusal::Answer;
 

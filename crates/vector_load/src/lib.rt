@@ -1,4 +1,6 @@
 // Loads, a line each: how many bytes were written, the generator after them, and the output.
+#![tactic(auto)]
+
 use load::{Generated, Source};
 
 fn show(name: &[u8], made: Generated, out: &[u8]) {

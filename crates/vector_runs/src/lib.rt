@@ -1,5 +1,7 @@
 // Histories, a line each: how many calls were made, the answer of each, which is a code and the number of an accepted
 // pop, and the state of both parents behind them.
+#![tactic(auto)]
+
 ghost use Rattle.std.specs.Prelude.{◌<◌};
 
 use call_steps::{AMOUNTS_AT, NANOS_AT, PARENT_NUMBERS};

@@ -1,4 +1,6 @@
 // Coded numbers, written to and read from borrowed bytes: the calls of `VlqWriter` and `VlqReader`.
+#![tactic(auto)]
+
 ghost use Rattle.std.specs.Prelude.{◌≡◌};
 ghost use Rattle.vlq_core.specs.Zigzag.{zig};
 ghost use Rattle.vlq_core.specs.Groups.{enc};

@@ -1,5 +1,7 @@
 // Coded numbers: a signed number as an unsigned one (zigzag), and that one in groups of 7 bits, lowest first: definitions and laws.
 // Internal: numbers are written by `vlq_writing` and read by `vlq_reading` and `vlq_short`. The public calls are those of `vlq`.
+#![tactic(auto)]
+
 ghost use Rattle.std.specs.Prelude.{◌≡◌, ◌+◌, leb};
 
 // A coded number that was read and the position after it, or the refusal code.

@@ -1,5 +1,7 @@
 // Positions of a reader of coded numbers, on a slice and numbers: where it stands after what it looked for.
 // Internal: the reader itself is the struct of `vlq_reader`.
+#![tactic(auto)]
+
 ghost use Rattle.std.specs.Prelude.{◌≡◌};
 ghost use Rattle.vlq_positions.specs.Positions.{after_long, after_int, span_at, after_span};
 

@@ -1,5 +1,7 @@
 // A reader of coded numbers: a struct over the row's bytes and a position in them, as `VlqReader` is.
 // Each function over it is thin and leaves the work to a function on a slice and a position.
+#![tactic(auto)]
+
 ghost use Rattle.std.specs.Prelude.{◌≡◌};
 ghost use Rattle.vlq_core.specs.Reading.{read_at, long_of, int_of};
 ghost use Rattle.vlq_positions.specs.Positions.{after_long, after_int, span_at, after_span};

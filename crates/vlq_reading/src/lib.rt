@@ -1,5 +1,7 @@
 // Coded numbers read: groups of 7 bits, lowest first, in the shortest form only, and the signed number of a coded one.
 // Internal: a number of few groups is read by `vlq_short`; the public calls are those of `vlq`.
+#![tactic(auto)]
+
 ghost use Rattle.std.specs.Prelude.{◌≡◌, ◌<◌, ◌≤◌, length, drop};
 ghost use Rattle.vlq_core.specs.Zigzag.{zag};
 ghost use Rattle.vlq_core.specs.Reading.{dec, shortest, read_at, long_of, int_of};

@@ -1,5 +1,7 @@
 // Coded numbers of at most four groups, which most numbers are: read without a loop.
 // Internal: any number is read by `vlq_reading`.
+#![tactic(auto)]
+
 ghost use Rattle.std.specs.Prelude.{◌≡◌};
 ghost use Rattle.vlq_core.specs.Reading.{read_at, short_of};
 

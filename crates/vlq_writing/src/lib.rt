@@ -1,5 +1,7 @@
 // Coded numbers written: a signed number as an unsigned one (zigzag), its length, and its groups of 7 bits, lowest first.
 // Internal: the writers ask for room. The public calls are those of `vlq`.
+#![tactic(auto)]
+
 ghost use Rattle.std.specs.Prelude.{◌≡◌, ◌+◌, ◌≤◌, length};
 ghost use Rattle.stores.specs.Stores.{Put};
 ghost use Rattle.vlq_core.specs.Zigzag.{zig};

@@ -7,10 +7,10 @@ use Rattle.blake2b_core.proofs.DigestLaws.{digest256_length}
 use Rattle.blake2b.proofs.blake2b256.Statement.{statement}
 use Rattle.blake2b.proofs.blake2b256.Tie as tie
 
-slice_aggregate_digest_into : tie.Need-slice-aggregate-digest-into
+slice_aggregate_digest_into : tie.Need-slice_bounds-digest_into-end
 slice_aggregate_digest_into c = search rules
 
-digest_into_requires : tie.Need-digest-into-requires
+digest_into_requires : tie.Need-digest_into-requires
 digest_into_requires c κs = search rules
 
 returns : tie.Need-returns

@@ -4,25 +4,25 @@ use Rattle.blake2b_spec.specs.Blake2b.{add}
 use Rattle.blake2b_compression.proofs.add.Statement.{statement}
 use Rattle.blake2b_compression.proofs.add.Tie as tie
 
-mul_sum3 : tie.Need-overflow-mul-sum3
+mul_sum3 : tie.Need-offset_bounds-v-a
 mul_sum3 c = search rules
 
-element_copy_out_sum3 : tie.Need-element-copy-out-sum3
+element_copy_out_sum3 : tie.Need-bounds-v-a
 element_copy_out_sum3 c = search rules
 
-mul_sum3_2 : tie.Need-overflow-mul-sum3-2
+mul_sum3_2 : tie.Need-offset_bounds-v-b
 mul_sum3_2 c = search rules
 
-element_copy_out_sum3_2 : tie.Need-element-copy-out-sum3-2
+element_copy_out_sum3_2 : tie.Need-bounds-v-b
 element_copy_out_sum3_2 c = search rules
 
 sum3_requires : tie.Need-sum3-requires
 sum3_requires c κs = search rules
 
-mul_v : tie.Need-overflow-mul-v
+mul_v : tie.Need-offset_bounds-v-a-2
 mul_v c = search rules
 
-element_write_v : tie.Need-element-write-v
+element_write_v : tie.Need-bounds-v-a-2
 element_write_v c = search rules
 
 returns : tie.Need-returns

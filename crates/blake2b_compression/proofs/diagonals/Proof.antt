@@ -4,33 +4,33 @@ use Rattle.blake2b_spec.specs.Blake2b.{diagonals}
 use Rattle.blake2b_compression.proofs.diagonals.Statement.{statement}
 use Rattle.blake2b_compression.proofs.diagonals.Tie as tie
 
-add_mix_words : tie.Need-overflow-add-mix-words
+add_mix_words : tie.Need-overflow_add-base
 add_mix_words c = search rules
 
-mix_words_requires : tie.Need-mix-words-requires
+mix_words_requires : tie.Need-mix_words-requires
 mix_words_requires c κs = search rules
 
-add_mix_words_2 : tie.Need-overflow-add-mix-words-2
+add_mix_words_2 : tie.Need-overflow_add-base-2
 add_mix_words_2 c = search rules
 
-mix_words_requires_2 : tie.Need-mix-words-requires-2
+mix_words_requires_2 : tie.Need-mix_words-requires-2
 mix_words_requires_2 c κs = search rules
 
-add_mix_words_3 : tie.Need-overflow-add-mix-words-3
+add_mix_words_3 : tie.Need-overflow_add-base-3
 add_mix_words_3 c = search rules
 
-mix_words_requires_3 : tie.Need-mix-words-requires-3
+mix_words_requires_3 : tie.Need-mix_words-requires-3
 mix_words_requires_3 c κs = search rules
 
-add_mix_words_4 : tie.Need-overflow-add-mix-words-4
+add_mix_words_4 : tie.Need-overflow_add-base-4
 add_mix_words_4 c = search rules
 
-mix_words_requires_4 : tie.Need-mix-words-requires-4
+mix_words_requires_4 : tie.Need-mix_words-requires-4
 mix_words_requires_4 c κs = search rules
 
 returns : tie.Need-returns
 unfolding diagonals
-returns c = rw (c.mix_words4.ensures, c.before.before.mix_words3.ensures, c.before.before.before.before.mix_words2.ensures, c.before.before.before.before.before.before.mix_words.ensures) (simp add_assoc)
+returns c = rw (c.mix_words-4.ensures, c.before.before.mix_words-3.ensures, c.before.before.before.before.mix_words-2.ensures, c.before.before.before.before.before.before.mix_words.ensures) (simp add_assoc)
 
 pub diagonals_spec : {M : Type 1} → statement M
 diagonals_spec =

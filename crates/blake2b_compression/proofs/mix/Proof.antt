@@ -7,37 +7,37 @@ use Rattle.blake2b_compression.proofs.mix.Tie as tie
 add_requires : tie.Need-add-requires
 add_requires c κs = search rules
 
-xor_rotr_requires : tie.Need-xor-rotr-requires
+xor_rotr_requires : tie.Need-xor_rotr-requires
 xor_rotr_requires c κs = search rules
 
 add_requires_2 : tie.Need-add-requires-2
 add_requires_2 c κs = search rules
 
-xor_rotr_requires_2 : tie.Need-xor-rotr-requires-2
+xor_rotr_requires_2 : tie.Need-xor_rotr-requires-2
 xor_rotr_requires_2 c κs = search rules
 
 add_requires_3 : tie.Need-add-requires-3
 add_requires_3 c κs = search rules
 
-xor_rotr_requires_3 : tie.Need-xor-rotr-requires-3
+xor_rotr_requires_3 : tie.Need-xor_rotr-requires-3
 xor_rotr_requires_3 c κs = search rules
 
 add_requires_4 : tie.Need-add-requires-4
 add_requires_4 c κs = search rules
 
-xor_rotr_requires_4 : tie.Need-xor-rotr-requires-4
+xor_rotr_requires_4 : tie.Need-xor_rotr-requires-4
 xor_rotr_requires_4 c κs = search rules
 
 returns : tie.Need-returns
 unfolding mix
 returns c =
     rw (
-      c.xor_rotr4.ensures,
-      c.before.before.add4.ensures,
-      c.before.before.before.before.xor_rotr3.ensures,
-      c.before.before.before.before.before.before.add3.ensures,
-      c.before.before.before.before.before.before.before.before.xor_rotr2.ensures,
-      c.before.before.before.before.before.before.before.before.before.before.add2.ensures,
+      c.xor_rotr-4.ensures,
+      c.before.before.add-4.ensures,
+      c.before.before.before.before.xor_rotr-3.ensures,
+      c.before.before.before.before.before.before.add-3.ensures,
+      c.before.before.before.before.before.before.before.before.xor_rotr-2.ensures,
+      c.before.before.before.before.before.before.before.before.before.before.add-2.ensures,
       c.before.before.before.before.before.before.before.before.before.before.before.before.xor_rotr.ensures,
       c.before.before.before.before.before.before.before.before.before.before.before.before.before.before.add.ensures,
     )

@@ -6,7 +6,7 @@ use Rattle.blake2b_compression.proofs.mix_words.Tie as tie
 word_requires : tie.Need-word-requires
 word_requires c κs = search rules
 
-add_word : tie.Need-overflow-add-word
+add_word : tie.Need-overflow_add-i
 add_word c = search rules
 
 word_requires_2 : tie.Need-word-requires-2

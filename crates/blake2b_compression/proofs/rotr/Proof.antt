@@ -4,13 +4,13 @@ use Rattle.blake2b_spec.specs.Blake2b.{rotr}
 use Rattle.blake2b_compression.proofs.rotr.Statement.{statement}
 use Rattle.blake2b_compression.proofs.rotr.Tie as tie
 
-shr_result : tie.Need-overflow-shr-result
+shr_result : tie.Need-overflow_shr-result
 shr_result c = search rules
 
-sub_result : tie.Need-overflow-sub-result
+sub_result : tie.Need-overflow_sub-result
 sub_result c = search rules
 
-shl_result : tie.Need-overflow-shl-result
+shl_result : tie.Need-overflow_shl-result
 shl_result c = search rules
 
 returns : tie.Need-returns

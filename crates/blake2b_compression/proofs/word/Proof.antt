@@ -5,16 +5,16 @@ use Rattle.blake2b_spec.proofs.Table.{below}
 use Rattle.blake2b_compression.proofs.word.Statement.{statement}
 use Rattle.blake2b_compression.proofs.word.Tie as tie
 
-element_copy_out_result : tie.Need-element-copy-out-result
+element_copy_out_result : tie.Need-bounds-sigma-i
 element_copy_out_result c = search rules
 
-cast_result : tie.Need-overflow-cast-result
+cast_result : tie.Need-overflow_cast-result
 cast_result c = omega (arith, below c.before.args.sigma.now c.before.args.i c.before.requires)
 
-mul_result : tie.Need-overflow-mul-result
+mul_result : tie.Need-offset_bounds-m-sigma
 mul_result c = omega (arith, below c.before.args.sigma.now c.before.args.i c.before.requires)
 
-element_copy_out_result_2 : tie.Need-element-copy-out-result-2
+element_copy_out_result_2 : tie.Need-bounds-m-sigma
 element_copy_out_result_2 c = below c.before.args.sigma.now c.before.args.i c.before.requires
 
 returns : tie.Need-returns

@@ -5,10 +5,10 @@ use lib.Bits.{mask_lt, and_mask}
 use Rattle.blake2b_core.proofs.byte_of.Statement.{statement}
 use Rattle.blake2b_core.proofs.byte_of.Tie as tie
 
-shr_result : tie.Need-overflow-shr-result
+shr_result : tie.Need-overflow_shr-result
 shr_result c = search rules
 
-cast_result : tie.Need-overflow-cast-result
+cast_result : tie.Need-overflow_cast-result
 cast_result c = record { fits = mask_lt (c.args.x / 2 ^ c.args.k) 8 }
 
 returns : tie.Need-returns

@@ -8,37 +8,37 @@ use Rattle.record_hints.proofs.find_hinted.Tie as tie
 find_requires : tie.Need-find-requires
 find_requires c κs = search rules
 
-returns : tie.Need-returns
+returns : tie.Need-returns-then-hints-eq0
 returns c = search rules
 
-hint_at_requires : tie.Need-hint-at-requires
+hint_at_requires : tie.Need-hint_at-first-requires
 hint_at_requires c κs = search rules
 
-holds_at_requires : tie.Need-holds-at-requires
+holds_at_requires : tie.Need-holds_at-requires
 holds_at_requires c κs = search rules
 
-sub_t11 : tie.Need-overflow-sub-t11
-sub_t11 c = omega (arith, (c.before.holds_at.ensures c.if2.true).0)
+sub_t11 : tie.Need-overflow_sub-result
+sub_t11 c = omega (arith, (c.before.holds_at.ensures c.if-holds_at.true).0)
 
-returns-2 : tie.Need-returns-2
-returns-2 c = sym (c.before.holds_at.ensures c.if2.true).1
+returns-2 : tie.Need-returns-then-holds_at
+returns-2 c = sym (c.before.holds_at.ensures c.if-holds_at.true).1
 
-hint_at_requires_2 : tie.Need-hint-at-requires-2
+hint_at_requires_2 : tie.Need-hint_at-second-requires
 hint_at_requires_2 c κs = search rules
 
-holds_at_requires_2 : tie.Need-holds-at-requires-2
+holds_at_requires_2 : tie.Need-holds_at-requires-2
 holds_at_requires_2 c κs = search rules
 
-sub_t13 : tie.Need-overflow-sub-t13
-sub_t13 c = omega (arith, (c.before.holds_at2.ensures c.if3.true).0)
+sub_t13 : tie.Need-overflow_sub-result-then-holds_at-2
+sub_t13 c = omega (arith, (c.before.holds_at-2.ensures c.if-holds_at-2.true).0)
 
-returns-3 : tie.Need-returns-3
-returns-3 c = sym (c.before.holds_at2.ensures c.if3.true).1
+returns-3 : tie.Need-returns-then-holds_at-2
+returns-3 c = sym (c.before.holds_at-2.ensures c.if-holds_at-2.true).1
 
 find_requires_2 : tie.Need-find-requires-2
 find_requires_2 c κs = search rules
 
-returns-4 : tie.Need-returns-4
+returns-4 : tie.Need-returns
 returns-4 c = search rules
 
 pub find_hinted_spec : {M : Type 1} → statement M

@@ -4,17 +4,17 @@ use borrow.Author.Rules.{rules}
 use Rattle.record_hints.proofs.hint_at.Statement.{statement}
 use Rattle.record_hints.proofs.hint_at.Tie as tie
 
-slot_at_requires : tie.Need-slot-at-requires
+slot_at_requires : tie.Need-slot_at-slot-requires
 slot_at_requires c κs = search rules
 
-mul_result : tie.Need-overflow-mul-result
+mul_result : tie.Need-offset_bounds-hints-slot
 mul_result c = search rules
 
-shared_slice_read_result : tie.Need-shared-slice-read-result
+shared_slice_read_result : tie.Need-bounds-hints-slot
 shared_slice_read_result c = search rules
 
-cast_result : tie.Need-overflow-cast-result
-cast_result c = omega (arith, c.shared_slice_known3.given c.before.slot_at.result)
+cast_result : tie.Need-overflow_cast-result
+cast_result c = omega (arith, c.shared_slice_known-3-1.given c.before.slot_at-slot.result)
 
 returns : tie.Need-returns
 returns c = search rules

@@ -9,26 +9,26 @@ use borrow.Author.Rules.{rules}
 use Rattle.record_hints.proofs.holds_at.Statement.{statement}
 use Rattle.record_hints.proofs.holds_at.Tie as tie
 
-returns : tie.Need-returns
+returns : tie.Need-returns-then-hint-eq0
 returns c = λ e. absurd (clash e refl)
 
-returns-2 : tie.Need-returns-2
+returns-2 : tie.Need-returns-then-count-hint
 returns-2 c = λ e. absurd (clash e refl)
 
-sub_key_is : tie.Need-overflow-sub-key-is
+sub_key_is : tie.Need-overflow_sub-hint
 sub_key_is c = search rules
 
-mul_key_is : tie.Need-overflow-mul-key-is
+mul_key_is : tie.Need-overflow_mul-hint
 mul_key_is c =
     let a = c.before.before.before.before.args in
     omega (arith, below_mul a.size a.count (a.hint - 1) (omega arith))
 
-key_is_requires : tie.Need-key-is-requires
+key_is_requires : tie.Need-key_is-requires
 key_is_requires c κs =
     let a = c.before.before.before.before.args in
     omega (arith, below_mul a.size a.count (a.hint - 1) (omega arith))
 
-returns-3 : tie.Need-returns-3
+returns-3 : tie.Need-returns
 returns-3 c =
     let s = c.before.before.before.before.before in
     let a = s.args in

@@ -4,32 +4,32 @@ use borrow.Author.Rules.{rules}
 use Rattle.record_hints.proofs.locate_hinted.Statement.{statement}
 use Rattle.record_hints.proofs.locate_hinted.Tie as tie
 
-find_requires : tie.Need-find-requires
+find_requires : tie.Need-find-among_staged-requires
 find_requires c κs = search rules
 
-enum_known_among_staged : tie.Need-enum-known-among-staged
+enum_known_among_staged : tie.Need-enum_known-among_staged
 enum_known_among_staged c = search rules
 
-enum_told : tie.Need-enum-told
+enum_told : tie.Need-enum_told-1
 enum_told c = search rules
 
-find_hinted_requires : tie.Need-find-hinted-requires
+find_hinted_requires : tie.Need-find_hinted-in_table-requires
 find_hinted_requires c κs = search rules
 
-enum_known_in_table : tie.Need-enum-known-in-table
+enum_known_in_table : tie.Need-enum_known-in_table
 enum_known_in_table c = search rules
 
-enum_told_2 : tie.Need-enum-told-2
+enum_told_2 : tie.Need-enum_told-in-Nothing-in_table
 enum_told_2 c = search rules
 
-returns : tie.Need-returns
-returns c = rw (sym c.before.before.before.find.ensures ∙ c.before.among_staged.given.1)
+returns : tie.Need-returns-in-At
+returns c = rw (sym c.before.find-among_staged.ensures ∙ c.in-At.is)
 
-returns-2 : tie.Need-returns-2
-returns-2 c = rw (sym c.before.before.before.before.before.before.find.ensures ∙ c.before.before.before.before.enum_told.given.1, sym c.before.before.before.find_hinted.ensures ∙ c.before.in_table.given.1)
+returns-2 : tie.Need-returns-in-At-in_table
+returns-2 c = rw (sym c.before.before.before.find-among_staged.ensures ∙ c.before.before.in-Nothing.is, sym c.before.find_hinted-in_table.ensures ∙ c.in-At-in_table.is)
 
-returns-3 : tie.Need-returns-3
-returns-3 c = rw (sym c.before.before.before.before.before.find.ensures ∙ c.before.before.before.enum_told.given.1, sym c.before.before.find_hinted.ensures ∙ c.enum_told2.given.1)
+returns-3 : tie.Need-returns-in-Nothing-in_table
+returns-3 c = rw (sym c.before.before.before.find-among_staged.ensures ∙ c.before.before.in-Nothing.is, sym c.before.find_hinted-in_table.ensures ∙ c.in-Nothing-in_table.is)
 
 pub locate_hinted_spec : {M : Type 1} → statement M
 locate_hinted_spec =

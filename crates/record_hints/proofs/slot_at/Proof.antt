@@ -6,28 +6,28 @@ use native.Mathlib.Nat.{mod-lt}
 use Rattle.record_hints.proofs.slot_at.Statement.{statement}
 use Rattle.record_hints.proofs.slot_at.Tie as tie
 
-add_next : tie.Need-overflow-add-next
+add_next : tie.Need-overflow_add-next
 add_next c = search rules
 
-shared_slice_read_result : tie.Need-shared-slice-read-result
+shared_slice_read_result : tie.Need-bounds-key-at
 shared_slice_read_result c = search rules
 
-cast_result : tie.Need-overflow-cast-result
-cast_result c = omega (arith, c.shared_slice_known.given c.before.args.at)
+cast_result : tie.Need-overflow_cast-result
+cast_result c = omega (arith, c.shared_slice_known-1.given c.before.args.at)
 
-mul_result : tie.Need-overflow-mul-result
-mul_result c = omega (arith, c.shared_slice_known.given c.before.args.at)
+mul_result : tie.Need-overflow_mul-result
+mul_result c = omega (arith, c.shared_slice_known-1.given c.before.args.at)
 
-shared_slice_read_result_2 : tie.Need-shared-slice-read-result-2
+shared_slice_read_result_2 : tie.Need-bounds-key-next
 shared_slice_read_result_2 c = search rules
 
-cast_result_2 : tie.Need-overflow-cast-result-2
-cast_result_2 c = omega (arith, c.shared_slice_known2.given (c.before.before.args.at + 1))
+cast_result_2 : tie.Need-overflow_cast-result-2
+cast_result_2 c = omega (arith, c.shared_slice_known-2-1.given (c.before.before.args.at + 1))
 
-add_result : tie.Need-overflow-add-result
-add_result c = omega (arith, c.shared_slice_known2.given c.before.before.args.at, c.shared_slice_known2.given (c.before.before.args.at + 1))
+add_result : tie.Need-overflow_add-result
+add_result c = omega (arith, c.shared_slice_known-2-1.given c.before.before.args.at, c.shared_slice_known-2-1.given (c.before.before.args.at + 1))
 
-rem_result : tie.Need-nonzero-rem-result
+rem_result : tie.Need-nonzero_rem-result
 rem_result c = search rules
 
 returns : tie.Need-returns

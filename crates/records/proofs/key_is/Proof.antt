@@ -6,19 +6,19 @@ use borrow.Author.Rules.{rules}
 use Rattle.records.proofs.key_is.Statement.{statement}
 use Rattle.records.proofs.key_is.Tie as tie
 
-add_end : tie.Need-overflow-add-end
+add_end : tie.Need-overflow_add-end
 add_end c = search rules
 
-sub_same_bytes : tie.Need-overflow-sub-same-bytes
+sub_same_bytes : tie.Need-slice_bounds-same_bytes-count
 sub_same_bytes c = search rules
 
-part_same_bytes_start : tie.Need-slice-bounds-same-bytes-start
+part_same_bytes_start : tie.Need-slice_bounds-same_bytes-start
 part_same_bytes_start c = search rules
 
-part_same_bytes_end : tie.Need-slice-bounds-same-bytes-end
+part_same_bytes_end : tie.Need-slice_bounds-same_bytes-end
 part_same_bytes_end c = search rules
 
-same_bytes_requires : tie.Need-same-bytes-requires
+same_bytes_requires : tie.Need-same_bytes-requires
 same_bytes_requires c κs = search rules
 
 returns : tie.Need-returns

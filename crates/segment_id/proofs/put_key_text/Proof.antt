@@ -15,42 +15,42 @@ use Rattle.segment_id.proofs.put_key_text.Statement.{statement}
 use Rattle.segment_id.proofs.put_key_text.Tie as tie
 
 -- the number, as the local that was written holds it
-wide_is : (c : tie.After_i64_from_i32) → to_z w64 (of_z w64 c.i64_from_i32.result) ≡ c.before.before.before.before.before.before.before.before.before.before.before.args.number
+wide_is : (c : tie.After-i64_from_i32-wide) → to_z w64 (of_z w64 c.i64_from_i32-wide.result) ≡ c.before.before.before.before.before.before.before.before.before.before.before.args.number
 wide_is c =
     let s = c.before.before.before.before.before.before.before.before.before.before.before in
-    back64 c.i64_from_i32.result c.i64_from_i32.type_inv ∙ c.i64_from_i32.ensures ∙ back w32 s.args.number s.ranges.number
+    back64 c.i64_from_i32-wide.result c.i64_from_i32-wide.type_inv ∙ c.i64_from_i32-wide.ensures ∙ back w32 s.args.number s.ranges.number
 
-put_hex_requires : tie.Need-put-hex-requires
+put_hex_requires : tie.Need-put_hex-after_id-requires
 put_hex_requires c κs = search rules
 
-put_separator_requires : tie.Need-put-separator-requires
+put_separator_requires : tie.Need-put_separator-after_separator-requires
 put_separator_requires c κs =
     let s = c.before.before.before.before.before.before.before in
-    let e = c.before.before.before.put_hex.auto.1.0 in
+    let e = c.before.before.before.put_hex-after_id.auto.out in
     omega (arith, hex_length s.args.parent.now, separator_most s.args.kind)
 
-i64_from_i32_requires : tie.Need-i64-from-i32-requires
+i64_from_i32_requires : tie.Need-i64_from_i32-wide-requires
 i64_from_i32_requires c κs = search rules
 
-put_number_requires : tie.Need-put-number-requires
+put_number_requires : tie.Need-put_number-requires
 put_number_requires c κs =
     let k = c.before in
     let s = k.before.before.before.before.before.before.before.before.before.before.before in
-    let e = k.before.before.before.before.before.before.before.put_hex.auto.1.0 in
-    let f = k.before.before.before.put_separator.auto.1.0 in
+    let e = k.before.before.before.before.before.before.before.put_hex-after_id.auto.out in
+    let f = k.before.before.before.put_separator-after_separator.auto.out in
     let g = ap (λ (z : ℤ). length (number z)) (wide_is k) in
     omega (arith, hex_length s.args.parent.now, separator_most s.args.kind, number_most s.args.number s.ranges.number)
 
-same_length : tie.Need-same-length
+same_length : tie.Need-shape_of-out
 same_length c = search rules
 
 returns : tie.Need-returns
 returns c =
     let k = c.before.before.before.before in
     let s = k.before.before.before.before.before.before.before.before.before.before.before in
-    let m = k.before.before.before.put_separator in
+    let m = k.before.before.before.put_separator-after_separator in
     put_text s.args.parent.now s.args.kind s.args.number s.args.out.now _ _ _ _ _ _
-    k.before.before.before.before.before.before.before.put_hex.ensures m.ensures (put_as (ap number (wide_is k)) m.new.1.0 m.result _ _ c.before.before.put_number.ensures)
+    k.before.before.before.before.before.before.before.put_hex-after_id.ensures m.ensures (put_as (ap number (wide_is k)) k.before.before.before.put_separator-after_separator.new.out m.result _ _ c.before.before.put_number.ensures)
 
 pub put_key_text_spec : {M : Type 1} → statement M
 put_key_text_spec =

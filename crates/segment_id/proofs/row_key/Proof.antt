@@ -15,28 +15,28 @@ use Rattle.segment_id.proofs.row_key.Statement.{statement}
 use Rattle.segment_id.proofs.row_key.Tie as tie
 
 -- the text, as the call left it
-written : (c : tie.After_put_key_text) → let s = c.before.before.before in
-    Put (key_text s.args.parent.now s.args.kind s.args.number) (replicate 88 0) 0 c.put_key_text.result c.put_key_text.new.1.1.1.0
+written : (c : tie.After-put_key_text-n) → let s = c.before.before.before in
+    Put (key_text s.args.parent.now s.args.kind s.args.number) (replicate 88 0) 0 c.put_key_text-n.result c.put_key_text-n.new.out
 written c =
     let s = c.before.before.before in
-    put_as (ap (key_text s.args.parent.now s.args.kind) (back w32 s.args.number s.ranges.number)) (replicate 88 0) 0 _ _ c.put_key_text.ensures
+    put_as (ap (key_text s.args.parent.now s.args.kind) (back w32 s.args.number s.ranges.number)) (replicate 88 0) 0 _ _ c.put_key_text-n.ensures
 
-fits : (c : tie.After_put_key_text) → let s = c.before.before.before in length (key_text s.args.parent.now s.args.kind s.args.number) ≤ 88
+fits : (c : tie.After-put_key_text-n) → let s = c.before.before.before in length (key_text s.args.parent.now s.args.kind s.args.number) ≤ 88
 fits c = let s = c.before.before.before in text_most s.args.parent.now s.args.kind s.args.number (search rules) s.ranges.number
 
-within : (c : tie.After_put_key_text) → c.put_key_text.result ≤ length c.put_key_text.new.1.1.1.0
+within : (c : tie.After-put_key_text-n) → c.put_key_text-n.result ≤ length c.put_key_text-n.new.out
 within c = let s = c.before.before.before in put_within (key_text s.args.parent.now s.args.kind s.args.number) (replicate 88 0) _ _ (written c) (fits c)
 
-slice_aggregate_put_key_text : tie.Need-slice-aggregate-put-key-text
+slice_aggregate_put_key_text : tie.Need-slice_bounds-put_key_text-end-2
 slice_aggregate_put_key_text c = search rules
 
-put_key_text_requires : tie.Need-put-key-text-requires
+put_key_text_requires : tie.Need-put_key_text-n-requires
 put_key_text_requires c κs = search rules
 
-array_share_prefix_buf : tie.Need-array-share-prefix-buf
+array_share_prefix_buf : tie.Need-slice_bounds-buf-end
 array_share_prefix_buf c = within c.before
 
-slice_aggregate_blake2b256 : tie.Need-slice-aggregate-blake2b256
+slice_aggregate_blake2b256 : tie.Need-slice_bounds-blake2b256-end
 slice_aggregate_blake2b256 c = sym (length-take-le _ _ (within c.before.before))
 
 blake2b256_requires : tie.Need-blake2b256-requires

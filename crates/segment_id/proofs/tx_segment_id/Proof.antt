@@ -8,7 +8,7 @@ use Rattle.segment_id.specs.declared.Kind.TheVariants.{Tx}
 use Rattle.segment_id.proofs.tx_segment_id.Statement.{statement}
 use Rattle.segment_id.proofs.tx_segment_id.Tie as tie
 
-row_key_requires : tie.Need-row-key-requires
+row_key_requires : tie.Need-row_key-requires
 row_key_requires c κs = search rules
 
 returns : tie.Need-returns

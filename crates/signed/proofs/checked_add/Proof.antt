@@ -12,41 +12,41 @@ use Rattle.signed.proofs.checked_add.Tie as tie
 both : (s : tie.Start) → kept s.args.a +ℤ kept s.args.b ≡ s.args.a +ℤ s.args.b
 both s = rw (back w64 s.args.a s.ranges.a, back w64 s.args.b s.ranges.b)
 
-below : (c : tie.Then1) → let s = c.before in Tested M64 (negsuc M64 -ℤ kept s.args.b) (lt_z (kept s.args.a) (kept (negsuc M64 -ℤ kept s.args.b))) (kept s.args.a +ℤ kept s.args.b)
+below : (c : tie.Then-b-lt0) → let s = c.before in Tested M64 (negsuc M64 -ℤ kept s.args.b) (lt_z (kept s.args.a) (kept (negsuc M64 -ℤ kept s.args.b))) (kept s.args.a +ℤ kept s.args.b)
 below c =
     let s = c.before in
     arm _ (λ (l : ℤ). lt_z (kept s.args.a) l) _
-    (add_below M64 (kept s.args.a) (kept s.args.b) (kept_fits s.args.a s.ranges.a) (kept_fits s.args.b s.ranges.b) (kept_sign s.args.b true c.if1.true))
+    (add_below M64 (kept s.args.a) (kept s.args.b) (kept_fits s.args.a s.ranges.a) (kept_fits s.args.b s.ranges.b) (kept_sign s.args.b true c.if-b-lt0.true))
 
-above : (c : tie.Else1) → let s = c.before in Tested M64 (pos M64 -ℤ kept s.args.b) (lt_z (kept (pos M64 -ℤ kept s.args.b)) (kept s.args.a)) (kept s.args.a +ℤ kept s.args.b)
+above : (c : tie.Else-b-lt0) → let s = c.before in Tested M64 (pos M64 -ℤ kept s.args.b) (lt_z (kept (pos M64 -ℤ kept s.args.b)) (kept s.args.a)) (kept s.args.a +ℤ kept s.args.b)
 above c =
     let s = c.before in
     arm _ (λ (l : ℤ). lt_z l (kept s.args.a)) _
-    (add_above M64 (kept s.args.a) (kept s.args.b) (kept_fits s.args.a s.ranges.a) (kept_fits s.args.b s.ranges.b) (kept_sign s.args.b false c.if1.false))
+    (add_above M64 (kept s.args.a) (kept s.args.b) (kept_fits s.args.a s.ranges.a) (kept_fits s.args.b s.ranges.b) (kept_sign s.args.b false c.if-b-lt0.false))
 
-sub_if2 : tie.Need-overflow-sub-if2
+sub_if2 : tie.Need-overflow_sub-b
 sub_if2 c = limit_fits (below c)
 
-add_t8 : tie.Need-overflow-add-t8
-add_t8 c = result_fits (below c.before) c.if2.false
+add_t8 : tie.Need-overflow_add-result
+add_t8 c = result_fits (below c.before) c.if-a-b.false
 
-sub_if3 : tie.Need-overflow-sub-if3
+sub_if3 : tie.Need-overflow_sub-b-else-b-lt0
 sub_if3 c = limit_fits (above c)
 
-add_t12 : tie.Need-overflow-add-t12
-add_t12 c = result_fits (above c.before) c.if3.false
+add_t12 : tie.Need-overflow_add-result-else-b-a
+add_t12 c = result_fits (above c.before) c.if-b-a.false
 
-returns : tie.Need-returns
-returns c = answer_out (below c.before) (both c.before.before) c.if2.true
+returns : tie.Need-returns-then-a-b
+returns c = answer_out (below c.before) (both c.before.before) c.if-a-b.true
 
-returns-2 : tie.Need-returns-2
-returns-2 c = answer_is (below c.before) (both c.before.before) c.if2.false
+returns-2 : tie.Need-returns-else-a-b
+returns-2 c = answer_is (below c.before) (both c.before.before) c.if-a-b.false
 
-returns-3 : tie.Need-returns-3
-returns-3 c = answer_out (above c.before) (both c.before.before) c.if3.true
+returns-3 : tie.Need-returns-then-b-a
+returns-3 c = answer_out (above c.before) (both c.before.before) c.if-b-a.true
 
-returns-4 : tie.Need-returns-4
-returns-4 c = answer_is (above c.before) (both c.before.before) c.if3.false
+returns-4 : tie.Need-returns-else-b-a
+returns-4 c = answer_is (above c.before) (both c.before.before) c.if-b-a.false
 
 pub checked_add_spec : {M : Type 1} → statement M
 checked_add_spec =

@@ -12,41 +12,41 @@ use Rattle.signed.proofs.checked_sub.Tie as tie
 both : (s : tie.Start) → kept s.args.a -ℤ kept s.args.b ≡ s.args.a -ℤ s.args.b
 both s = rw (back w64 s.args.a s.ranges.a, back w64 s.args.b s.ranges.b)
 
-below : (c : tie.Then1) → let s = c.before in Tested M64 (pos M64 +ℤ kept s.args.b) (lt_z (kept (pos M64 +ℤ kept s.args.b)) (kept s.args.a)) (kept s.args.a -ℤ kept s.args.b)
+below : (c : tie.Then-b-lt0) → let s = c.before in Tested M64 (pos M64 +ℤ kept s.args.b) (lt_z (kept (pos M64 +ℤ kept s.args.b)) (kept s.args.a)) (kept s.args.a -ℤ kept s.args.b)
 below c =
     let s = c.before in
     arm _ (λ (l : ℤ). lt_z l (kept s.args.a)) _
-    (sub_below M64 (kept s.args.a) (kept s.args.b) (kept_fits s.args.a s.ranges.a) (kept_fits s.args.b s.ranges.b) (kept_sign s.args.b true c.if1.true))
+    (sub_below M64 (kept s.args.a) (kept s.args.b) (kept_fits s.args.a s.ranges.a) (kept_fits s.args.b s.ranges.b) (kept_sign s.args.b true c.if-b-lt0.true))
 
-above : (c : tie.Else1) → let s = c.before in Tested M64 (negsuc M64 +ℤ kept s.args.b) (lt_z (kept s.args.a) (kept (negsuc M64 +ℤ kept s.args.b))) (kept s.args.a -ℤ kept s.args.b)
+above : (c : tie.Else-b-lt0) → let s = c.before in Tested M64 (negsuc M64 +ℤ kept s.args.b) (lt_z (kept s.args.a) (kept (negsuc M64 +ℤ kept s.args.b))) (kept s.args.a -ℤ kept s.args.b)
 above c =
     let s = c.before in
     arm _ (λ (l : ℤ). lt_z (kept s.args.a) l) _
-    (sub_above M64 (kept s.args.a) (kept s.args.b) (kept_fits s.args.a s.ranges.a) (kept_fits s.args.b s.ranges.b) (kept_sign s.args.b false c.if1.false))
+    (sub_above M64 (kept s.args.a) (kept s.args.b) (kept_fits s.args.a s.ranges.a) (kept_fits s.args.b s.ranges.b) (kept_sign s.args.b false c.if-b-lt0.false))
 
-add_if2 : tie.Need-overflow-add-if2
+add_if2 : tie.Need-overflow_add-b
 add_if2 c = limit_fits (below c)
 
-sub_t8 : tie.Need-overflow-sub-t8
-sub_t8 c = result_fits (below c.before) c.if2.false
+sub_t8 : tie.Need-overflow_sub-result
+sub_t8 c = result_fits (below c.before) c.if-b-a.false
 
-add_if3 : tie.Need-overflow-add-if3
+add_if3 : tie.Need-overflow_add-b-else-b-lt0
 add_if3 c = limit_fits (above c)
 
-sub_t12 : tie.Need-overflow-sub-t12
-sub_t12 c = result_fits (above c.before) c.if3.false
+sub_t12 : tie.Need-overflow_sub-result-else-a-b
+sub_t12 c = result_fits (above c.before) c.if-a-b.false
 
-returns : tie.Need-returns
-returns c = answer_out (below c.before) (both c.before.before) c.if2.true
+returns : tie.Need-returns-then-b-a
+returns c = answer_out (below c.before) (both c.before.before) c.if-b-a.true
 
-returns-2 : tie.Need-returns-2
-returns-2 c = answer_is (below c.before) (both c.before.before) c.if2.false
+returns-2 : tie.Need-returns-else-b-a
+returns-2 c = answer_is (below c.before) (both c.before.before) c.if-b-a.false
 
-returns-3 : tie.Need-returns-3
-returns-3 c = answer_out (above c.before) (both c.before.before) c.if3.true
+returns-3 : tie.Need-returns-then-a-b
+returns-3 c = answer_out (above c.before) (both c.before.before) c.if-a-b.true
 
-returns-4 : tie.Need-returns-4
-returns-4 c = answer_is (above c.before) (both c.before.before) c.if3.false
+returns-4 : tie.Need-returns-else-a-b
+returns-4 c = answer_is (above c.before) (both c.before.before) c.if-a-b.false
 
 pub checked_sub_spec : {M : Type 1} → statement M
 checked_sub_spec =

@@ -4,7 +4,7 @@ use Rattle.signed.proofs.SignedLaws.{back, wide}
 use Rattle.signed.proofs.i64_from_i32.Statement.{statement}
 use Rattle.signed.proofs.i64_from_i32.Tie as tie
 
-cast_result : tie.Need-overflow-cast-result
+cast_result : tie.Need-overflow_cast-result
 cast_result c = rw (back w32 c.args.x c.ranges.x) (wide c.args.x c.ranges.x)
 
 returns : tie.Need-returns

@@ -5,7 +5,7 @@ use mir.Facts.{to_z_pos}
 use Rattle.signed.proofs.i64_from_usize.Statement.{statement}
 use Rattle.signed.proofs.i64_from_usize.Tie as tie
 
-cast_result : tie.Need-overflow-cast-result
+cast_result : tie.Need-overflow_cast-result
 cast_result c = search rules
 
 returns : tie.Need-returns

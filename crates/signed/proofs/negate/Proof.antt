@@ -5,7 +5,7 @@ use Rattle.signed.proofs.SignedLaws.{back, negated, negated_fits}
 use Rattle.signed.proofs.negate.Statement.{statement}
 use Rattle.signed.proofs.negate.Tie as tie
 
-sub_result : tie.Need-overflow-sub-result
+sub_result : tie.Need-overflow_sub-result
 sub_result c = negated_fits c.args.x _ (back w64 c.args.x c.ranges.x) w64 c.requires
 
 returns : tie.Need-returns

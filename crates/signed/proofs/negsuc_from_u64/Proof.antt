@@ -15,10 +15,10 @@ less c = complement_above (pos c.args.u) _ (to_z_pos w64 c.requires) refl
 less_fits : (c : tie.Start) → SFits w64 (negsuc c.args.u)
 less_fits c = record { sfits = c.requires }
 
-cast_result : tie.Need-overflow-cast-result
+cast_result : tie.Need-overflow_cast-result
 cast_result c = search rules
 
-sub_result : tie.Need-overflow-sub-result
+sub_result : tie.Need-overflow_sub-result
 sub_result c = rw (less c) (less_fits c)
 
 returns : tie.Need-returns

@@ -5,7 +5,7 @@ use Rattle.signed.proofs.SignedLaws.{back, unsigned_fits}
 use Rattle.signed.proofs.usize_from_i32.Statement.{statement}
 use Rattle.signed.proofs.usize_from_i32.Tie as tie
 
-cast_result : tie.Need-overflow-cast-result
+cast_result : tie.Need-overflow_cast-result
 cast_result c = unsigned_fits c.args.x _ (back w32 c.args.x c.ranges.x) w32 w64 tt c.ranges.x c.requires
 
 returns : tie.Need-returns

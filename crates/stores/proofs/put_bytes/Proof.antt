@@ -4,13 +4,13 @@ use Rattle.stores.proofs.PutLaws.{put_write}
 use Rattle.stores.proofs.put_bytes.Statement.{statement}
 use Rattle.stores.proofs.put_bytes.Tie as tie
 
-copy_bytes_requires : tie.Need-copy-bytes-requires
+copy_bytes_requires : tie.Need-copy_bytes-requires
 copy_bytes_requires c κs = search rules
 
-add_result : tie.Need-overflow-add-result
+add_result : tie.Need-overflow_add-result
 add_result c = search rules
 
-same_length : tie.Need-same-length
+same_length : tie.Need-shape_of-out
 same_length c = search rules
 
 returns : tie.Need-returns

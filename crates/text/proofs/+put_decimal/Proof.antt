@@ -9,7 +9,7 @@ use borrow.Fn.Kinds.{In}
 use borrow.Fn.PlainCycle.{Measures, is, falls, and}
 use Rattle.text.proofs.put_decimal.Reads as put_decimal
 use Rattle.text.proofs.put_decimal.Kinds as put_decimal_kinds
-use Rattle.text.proofs.+put_decimal.Lts_put_decimal as put_decimal_lts
+use Rattle.text.proofs.+put_decimal.Lts-put_decimal as put_decimal_lts
 use Rattle.text.proofs.+put_decimal.{statement}
 use Rattle.text.proofs.+put_decimal.Tie.{close}
 
@@ -24,91 +24,91 @@ abbrev put_decimal_below : ℕ → In 1 put_decimal_kinds.ps
 put_decimal_below t =
     and 1 put_decimal_kinds.ps (falls 1 put_decimal_kinds.ps ◌<◌ μ_put_decimal t) put_decimal.Pre
 
-put_decimal_add_out : (t : ℕ) → put_decimal_lts.Need-overflow-add-out (
+put_decimal_add_out : (t : ℕ) → put_decimal_lts.Need-overflow_add-out (
   put_decimal_below t,
   put_decimal.Post,
 ) (put_decimal_at t) put_decimal.Post
 put_decimal_add_out t c = search rules
 
-put_decimal_cast_out : (t : ℕ) → put_decimal_lts.Need-overflow-cast-out (
+put_decimal_cast_out : (t : ℕ) → put_decimal_lts.Need-overflow_cast-out (
   put_decimal_below t,
   put_decimal.Post,
 ) (put_decimal_at t) put_decimal.Post
 put_decimal_cast_out t c = search rules
 
-put_decimal_slice_write_out : (t : ℕ) → put_decimal_lts.Need-slice-write-out (
+put_decimal_slice_write_out : (t : ℕ) → put_decimal_lts.Need-bounds-out-at (
   put_decimal_below t,
   put_decimal.Post,
 ) (put_decimal_at t) put_decimal.Post
-put_decimal_slice_write_out t c = omega (arith, ap length (decimal_small _ c.if1.true))
+put_decimal_slice_write_out t c = omega (arith, ap length (decimal_small _ c.if-n-lt10.true))
 
-put_decimal_add_result : (t : ℕ) → put_decimal_lts.Need-overflow-add-result (
+put_decimal_add_result : (t : ℕ) → put_decimal_lts.Need-overflow_add-result (
   put_decimal_below t,
   put_decimal.Post,
 ) (put_decimal_at t) put_decimal.Post
 put_decimal_add_result t c = search rules
 
-put_decimal_same_length : (t : ℕ) → put_decimal_lts.Need-same-length (
+put_decimal_same_length : (t : ℕ) → put_decimal_lts.Need-shape_of-out-then-n-lt10 (
   put_decimal_below t,
   put_decimal.Post,
 ) (put_decimal_at t) put_decimal.Post
 put_decimal_same_length t c = search rules
 
-put_decimal_returns : (t : ℕ) → put_decimal_lts.Need-returns (
+put_decimal_returns : (t : ℕ) → put_decimal_lts.Need-returns-then-n-lt10 (
   put_decimal_below t,
   put_decimal.Post,
 ) (put_decimal_at t) put_decimal.Post
-put_decimal_returns t c = decimal_last _ _ _ c.if1.true
+put_decimal_returns t c = decimal_last _ _ _ c.if-n-lt10.true
 
-put_decimal_put_decimal_requires : (t : ℕ) → put_decimal_lts.Need-put-decimal-requires (
+put_decimal_put_decimal_requires : (t : ℕ) → put_decimal_lts.Need-put_decimal-o-requires (
   put_decimal_below t,
   put_decimal.Post,
 ) (put_decimal_at t) put_decimal.Post
 put_decimal_put_decimal_requires t c κs =
     let s = c.before.before.before in
-    (omega arith, omega (arith, decimal_room _ c.before.if1.false s.ranges.n.fits))
+    (omega arith, omega (arith, decimal_room _ c.before.if-n-lt10.false s.ranges.n.fits))
 
-put_decimal_add_out_2 : (t : ℕ) → put_decimal_lts.Need-overflow-add-out-2 (
+put_decimal_add_out_2 : (t : ℕ) → put_decimal_lts.Need-overflow_add-out-2 (
   put_decimal_below t,
   put_decimal.Post,
 ) (put_decimal_at t) put_decimal.Post
 put_decimal_add_out_2 t c = search rules
 
-put_decimal_cast_out_2 : (t : ℕ) → put_decimal_lts.Need-overflow-cast-out-2 (
+put_decimal_cast_out_2 : (t : ℕ) → put_decimal_lts.Need-overflow_cast-out-2 (
   put_decimal_below t,
   put_decimal.Post,
 ) (put_decimal_at t) put_decimal.Post
 put_decimal_cast_out_2 t c = search rules
 
-put_decimal_slice_write_out_2 : (t : ℕ) → put_decimal_lts.Need-slice-write-out-2 (
+put_decimal_slice_write_out_2 : (t : ℕ) → put_decimal_lts.Need-bounds-out-o (
   put_decimal_below t,
   put_decimal.Post,
 ) (put_decimal_at t) put_decimal.Post
 put_decimal_slice_write_out_2 t c =
     let s = c.before.before.before.before.before.before in
-    omega (arith, decimal_room _ c.before.before.before.before.if1.false s.ranges.n.fits, c.before.before.put_decimal.auto.1.0)
+    omega (arith, decimal_room _ c.before.before.before.before.if-n-lt10.false s.ranges.n.fits, c.before.before.put_decimal-o.auto.out)
 
-put_decimal_add_result_2 : (t : ℕ) → put_decimal_lts.Need-overflow-add-result-2 (
+put_decimal_add_result_2 : (t : ℕ) → put_decimal_lts.Need-overflow_add-result-2 (
   put_decimal_below t,
   put_decimal.Post,
 ) (put_decimal_at t) put_decimal.Post
 put_decimal_add_result_2 t c =
     let s = c.before.before.before.before.before.before in
-    omega (arith, decimal_room _ c.before.before.before.before.if1.false s.ranges.n.fits, c.before.before.put_decimal.auto.1.0)
+    omega (arith, decimal_room _ c.before.before.before.before.if-n-lt10.false s.ranges.n.fits, c.before.before.put_decimal-o.auto.out)
 
-put_decimal_same_length_2 : (t : ℕ) → put_decimal_lts.Need-same-length-2 (
+put_decimal_same_length_2 : (t : ℕ) → put_decimal_lts.Need-shape_of-out (
   put_decimal_below t,
   put_decimal.Post,
 ) (put_decimal_at t) put_decimal.Post
 put_decimal_same_length_2 t c = search rules
 
-put_decimal_returns_2 : (t : ℕ) → put_decimal_lts.Need-returns-2 (
+put_decimal_returns_2 : (t : ℕ) → put_decimal_lts.Need-returns (
   put_decimal_below t,
   put_decimal.Post,
 ) (put_decimal_at t) put_decimal.Post
 put_decimal_returns_2 t c =
     let s = c.before.before.before.before.before.before in
-    decimal_turn s.args.n s.args.out.now s.args.at _ _ c.before.before.before.before.if1.false s.ranges.n.fits c.before.before.put_decimal.ensures
+    decimal_turn s.args.n s.args.out.now s.args.at _ _ c.before.before.before.before.if-n-lt10.false s.ranges.n.fits c.before.before.put_decimal-o.ensures
 
 pub +put_decimal_spec : {M : Type 1} → statement M
 +put_decimal_spec = close μ_put_decimal λ t. put_decimal_lts.spec (

@@ -4,7 +4,7 @@ use Rattle.text.specs.Text.{hex_digits, hex_digit}
 use Rattle.text.proofs.hex_digit.Statement.{statement}
 use Rattle.text.proofs.hex_digit.Tie as tie
 
-array_read_result : tie.Need-array-read-result
+array_read_result : tie.Need-bounds-i
 array_read_result c = search rules
 
 returns : tie.Need-returns

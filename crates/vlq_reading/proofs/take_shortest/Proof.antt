@@ -7,31 +7,31 @@ use borrow.Author.Rules.{rules}
 use Rattle.vlq_reading.proofs.take_shortest.Statement.{statement}
 use Rattle.vlq_reading.proofs.take_shortest.Tie as tie
 
-sub_if1 : tie.Need-overflow-sub-if1
+sub_if1 : tie.Need-overflow_sub-next
 sub_if1 c = search rules
 
-returns : tie.Need-returns
+returns : tie.Need-returns-then-next-at-eq1
 returns c =
     let a = c.before.args in
-    let e = c.if1.true in
+    let e = c.if-next-at-eq1.true in
     rw (short_form a.src.now a.at a.next (inl (omega arith))) refl
 
-sub_last : tie.Need-overflow-sub-last
+sub_last : tie.Need-overflow_sub-last
 sub_last c = search rules
 
-shared_slice_read_if2 : tie.Need-shared-slice-read-if2
+shared_slice_read_if2 : tie.Need-bounds-src-last
 shared_slice_read_if2 c = search rules
 
-returns-2 : tie.Need-returns-2
+returns-2 : tie.Need-returns-then-src-last-eq0
 returns-2 c =
     let a = c.before.before.before.args in
-    let e = c.before.before.if1.false in
-    rw (long_form a.src.now a.at a.next (omega arith) c.if2.true) refl
+    let e = c.before.before.if-next-at-eq1.false in
+    rw (long_form a.src.now a.at a.next (omega arith) c.if-src-last-eq0.true) refl
 
-returns-3 : tie.Need-returns-3
+returns-3 : tie.Need-returns
 returns-3 c =
     let a = c.before.before.before.args in
-    rw (short_form a.src.now a.at a.next (inr c.if2.false)) refl
+    rw (short_form a.src.now a.at a.next (inr c.if-src-last-eq0.false)) refl
 
 pub take_shortest_spec : {M : Type 1} → statement M
 take_shortest_spec =

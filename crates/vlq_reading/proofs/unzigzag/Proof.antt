@@ -4,17 +4,17 @@ use Rattle.vlq_core.proofs.ZigzagLaws.{decodes}
 use Rattle.vlq_reading.proofs.unzigzag.Statement.{statement}
 use Rattle.vlq_reading.proofs.unzigzag.Tie as tie
 
-cast_half : tie.Need-overflow-cast-half
+cast_half : tie.Need-overflow_cast-half
 cast_half c = (decodes w64 _ c.ranges.coded).half
 
-sub_result : tie.Need-overflow-sub-result
+sub_result : tie.Need-overflow_sub-result
 sub_result c = (decodes w64 _ c.before.ranges.coded).flip
 
-returns : tie.Need-returns
-returns c = (decodes w64 _ c.before.ranges.coded).even c.if1.true
+returns : tie.Need-returns-then-coded-eq0
+returns c = (decodes w64 _ c.before.ranges.coded).even c.if-coded-eq0.true
 
-returns-2 : tie.Need-returns-2
-returns-2 c = (decodes w64 _ c.before.ranges.coded).odd c.if1.false
+returns-2 : tie.Need-returns-else-coded-eq0
+returns-2 c = (decodes w64 _ c.before.ranges.coded).odd c.if-coded-eq0.false
 
 pub unzigzag_spec : {M : Type 1} → statement M
 unzigzag_spec = tie.close (tie.spec cast_half sub_result returns returns-2)

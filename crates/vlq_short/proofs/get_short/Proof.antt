@@ -5,115 +5,115 @@ use borrow.Author.Rules.{rules}
 use Rattle.vlq_short.proofs.get_short.Statement.{statement}
 use Rattle.vlq_short.proofs.get_short.Tie as tie
 
-returns : tie.Need-returns
+returns : tie.Need-returns-then-src-lt4
 returns c = search rules
 
-sub_if2 : tie.Need-overflow-sub-if2
+sub_if2 : tie.Need-overflow_sub-src
 sub_if2 c = search rules
 
-returns-2 : tie.Need-returns-2
+returns-2 : tie.Need-returns-then-src-at
 returns-2 c = search rules
 
-shared_slice_read_wide : tie.Need-shared-slice-read-wide
+shared_slice_read_wide : tie.Need-bounds-src-at
 shared_slice_read_wide c = search rules
 
-wide_requires : tie.Need-wide-requires
+wide_requires : tie.Need-wide-a-requires
 wide_requires c κs = search rules
 
-returns-3 : tie.Need-returns-3
+returns-3 : tie.Need-returns-then-a-lt128
 returns-3 c =
     let e = c.before.before.before in
     let s = e.before.before.before in
-    short_1 s.args.src.now s.args.at (omega arith) _ c.before.wide.ensures c.if3.true
+    short_1 s.args.src.now s.args.at (omega arith) _ c.before.wide-a.ensures c.if-a-lt128.true
 
-add_second : tie.Need-overflow-add-second
+add_second : tie.Need-overflow_add-second
 add_second c = search rules
 
-shared_slice_read_wide_2 : tie.Need-shared-slice-read-wide-2
+shared_slice_read_wide_2 : tie.Need-bounds-src-second
 shared_slice_read_wide_2 c = search rules
 
-wide_requires_2 : tie.Need-wide-requires-2
+wide_requires_2 : tie.Need-wide-b-requires
 wide_requires_2 c κs = search rules
 
-returns-4 : tie.Need-returns-4
+returns-4 : tie.Need-returns-then-b-eq0
 returns-4 c = search rules
 
-mul_t17 : tie.Need-overflow-mul-t17
+mul_t17 : tie.Need-overflow_mul-result
 mul_t17 c = search rules
 
-add_t18 : tie.Need-overflow-add-t18
+add_t18 : tie.Need-overflow_add-result
 add_t18 c = search rules
 
-returns-5 : tie.Need-returns-5
+returns-5 : tie.Need-returns-then-b-lt128
 returns-5 c =
     let s = c.before.before.before.before.before.before.before.before.before.before in
-    short_2 s.args.src.now s.args.at (omega arith) _ c.before.before.before.before.before.wide.ensures c.before.before.before.before.if3.false _ c.before.before.wide2.ensures c.before.if4.false c.if5.true
+    short_2 s.args.src.now s.args.at (omega arith) _ c.before.before.before.before.before.wide-a.ensures c.before.before.before.before.if-a-lt128.false _ c.before.before.wide-b.ensures c.before.if-b-eq0.false c.if-b-lt128.true
 
-add_third : tie.Need-overflow-add-third
+add_third : tie.Need-overflow_add-third
 add_third c = search rules
 
-shared_slice_read_wide_3 : tie.Need-shared-slice-read-wide-3
+shared_slice_read_wide_3 : tie.Need-bounds-src-third
 shared_slice_read_wide_3 c = search rules
 
-wide_requires_3 : tie.Need-wide-requires-3
+wide_requires_3 : tie.Need-wide-c-requires
 wide_requires_3 c κs = search rules
 
-returns-6 : tie.Need-returns-6
+returns-6 : tie.Need-returns-then-c-eq0
 returns-6 c = search rules
 
-mul_t22 : tie.Need-overflow-mul-t22
+mul_t22 : tie.Need-overflow_mul-result-then-c-lt128
 mul_t22 c = search rules
 
-add_t23 : tie.Need-overflow-add-t23
+add_t23 : tie.Need-overflow_add-result-then-c-lt128
 add_t23 c = search rules
 
-mul_t24 : tie.Need-overflow-mul-t24
+mul_t24 : tie.Need-overflow_mul-result-then-c-lt128-2
 mul_t24 c = search rules
 
-add_t25 : tie.Need-overflow-add-t25
+add_t25 : tie.Need-overflow_add-result-then-c-lt128-2
 add_t25 c = search rules
 
-returns-7 : tie.Need-returns-7
+returns-7 : tie.Need-returns-then-c-lt128
 returns-7 c =
     let s = c.before.before.before.before.before.before.before.before.before.before.before.before.before.before in
-    short_3 s.args.src.now s.args.at (omega arith) _ c.before.before.before.before.before.before.before.before.before.wide.ensures c.before.before.before.before.before.before.before.before.if3.false _ c.before.before.before.before.before.before.wide2.ensures c.before.before.before.before.if5.false _ c.before.before.wide3.ensures c.before.if6.false c.if7.true
+    short_3 s.args.src.now s.args.at (omega arith) _ c.before.before.before.before.before.before.before.before.before.wide-a.ensures c.before.before.before.before.before.before.before.before.if-a-lt128.false _ c.before.before.before.before.before.before.wide-b.ensures c.before.before.before.before.if-b-lt128.false _ c.before.before.wide-c.ensures c.before.if-c-eq0.false c.if-c-lt128.true
 
-add_fourth : tie.Need-overflow-add-fourth
+add_fourth : tie.Need-overflow_add-fourth
 add_fourth c = search rules
 
-shared_slice_read_wide_4 : tie.Need-shared-slice-read-wide-4
+shared_slice_read_wide_4 : tie.Need-bounds-src-fourth
 shared_slice_read_wide_4 c = search rules
 
-wide_requires_4 : tie.Need-wide-requires-4
+wide_requires_4 : tie.Need-wide-d-requires
 wide_requires_4 c κs = search rules
 
-returns-8 : tie.Need-returns-8
+returns-8 : tie.Need-returns-then-d-eq0
 returns-8 c = search rules
 
-mul_t29 : tie.Need-overflow-mul-t29
+mul_t29 : tie.Need-overflow_mul-result-then-d-lt128
 mul_t29 c = search rules
 
-add_t30 : tie.Need-overflow-add-t30
+add_t30 : tie.Need-overflow_add-result-then-d-lt128
 add_t30 c = search rules
 
-mul_t32 : tie.Need-overflow-mul-t32
+mul_t32 : tie.Need-overflow_mul-result-then-d-lt128-2
 mul_t32 c = search rules
 
-add_t33 : tie.Need-overflow-add-t33
+add_t33 : tie.Need-overflow_add-result-then-d-lt128-2
 add_t33 c = search rules
 
-mul_t34 : tie.Need-overflow-mul-t34
+mul_t34 : tie.Need-overflow_mul-result-then-d-lt128-3
 mul_t34 c = search rules
 
-add_t35 : tie.Need-overflow-add-t35
+add_t35 : tie.Need-overflow_add-result-then-d-lt128-3
 add_t35 c = search rules
 
-returns-9 : tie.Need-returns-9
+returns-9 : tie.Need-returns-then-d-lt128
 returns-9 c =
     let s = c.before.before.before.before.before.before.before.before.before.before.before.before.before.before.before.before.before.before in
-    short_4 s.args.src.now s.args.at (omega arith) _ c.before.before.before.before.before.before.before.before.before.before.before.before.before.wide.ensures c.before.before.before.before.before.before.before.before.before.before.before.before.if3.false _ c.before.before.before.before.before.before.before.before.before.before.wide2.ensures c.before.before.before.before.before.before.before.before.if5.false _ c.before.before.before.before.before.before.wide3.ensures c.before.before.before.before.if7.false _ c.before.before.wide4.ensures c.before.if8.false c.if9.true
+    short_4 s.args.src.now s.args.at (omega arith) _ c.before.before.before.before.before.before.before.before.before.before.before.before.before.wide-a.ensures c.before.before.before.before.before.before.before.before.before.before.before.before.if-a-lt128.false _ c.before.before.before.before.before.before.before.before.before.before.wide-b.ensures c.before.before.before.before.before.before.before.before.if-b-lt128.false _ c.before.before.before.before.before.before.wide-c.ensures c.before.before.before.before.if-c-lt128.false _ c.before.before.wide-d.ensures c.before.if-d-eq0.false c.if-d-lt128.true
 
-returns-10 : tie.Need-returns-10
+returns-10 : tie.Need-returns
 returns-10 c = search rules
 
 pub get_short_spec : {M : Type 1} → statement M

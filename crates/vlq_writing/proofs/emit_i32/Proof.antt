@@ -9,10 +9,10 @@ use native.Mathlib.Omega.{arith}
 use Rattle.vlq_writing.proofs.emit_i32.Statement.{statement}
 use Rattle.vlq_writing.proofs.emit_i32.Tie as tie
 
-zigzag_i32_requires : tie.Need-zigzag-i32-requires
+zigzag_i32_requires : tie.Need-zigzag_i32-requires
 zigzag_i32_requires c κs = search rules
 
-cast_emit : tie.Need-overflow-cast-emit
+cast_emit : tie.Need-overflow_cast-zigzag_i32
 cast_emit c = search rules
 
 emit_requires : tie.Need-emit-requires
@@ -20,7 +20,7 @@ emit_requires c κs =
     let s = c.before.before.before in
     omega (arith, ap length (bytes_of w32 s.args.n _ s.ranges.n c.before.zigzag_i32.ensures))
 
-same_length : tie.Need-same-length
+same_length : tie.Need-shape_of-out
 same_length c = search rules
 
 returns : tie.Need-returns

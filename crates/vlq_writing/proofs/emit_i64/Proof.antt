@@ -17,7 +17,7 @@ emit_requires c κs =
     let s = c.before.before.before in
     omega (arith, ap length (bytes_of w64 s.args.n _ s.ranges.n c.before.zigzag.ensures))
 
-same_length : tie.Need-same-length
+same_length : tie.Need-shape_of-out
 same_length c = search rules
 
 returns : tie.Need-returns

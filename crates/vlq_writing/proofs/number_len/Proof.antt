@@ -10,7 +10,7 @@ use Rattle.vlq_writing.proofs.number_len.Tie as tie
 zigzag_requires : tie.Need-zigzag-requires
 zigzag_requires c κs = search rules
 
-encoded_len_requires : tie.Need-encoded-len-requires
+encoded_len_requires : tie.Need-encoded_len-requires
 encoded_len_requires c κs = search rules
 
 returns : tie.Need-returns

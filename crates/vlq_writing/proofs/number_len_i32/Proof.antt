@@ -8,13 +8,13 @@ use borrow.Author.Rules.{rules}
 use Rattle.vlq_writing.proofs.number_len_i32.Statement.{statement}
 use Rattle.vlq_writing.proofs.number_len_i32.Tie as tie
 
-zigzag_i32_requires : tie.Need-zigzag-i32-requires
+zigzag_i32_requires : tie.Need-zigzag_i32-requires
 zigzag_i32_requires c κs = search rules
 
-cast_encoded_len : tie.Need-overflow-cast-encoded-len
+cast_encoded_len : tie.Need-overflow_cast-zigzag_i32
 cast_encoded_len c = search rules
 
-encoded_len_requires : tie.Need-encoded-len-requires
+encoded_len_requires : tie.Need-encoded_len-requires
 encoded_len_requires c κs = search rules
 
 returns : tie.Need-returns
