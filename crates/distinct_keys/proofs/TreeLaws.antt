@@ -1,5 +1,5 @@
 -- The search for equal keys in trees: the way of a key meets every key that is equal, and a key is put where its way ends.
-use Rattle.std.proofs.Common.{◌≡◌, ℕ, zero, suc, ◌+◌, ◌-◌, ◌*◌, ◌/◌, ◌%◌, ◌^◌, ◌<◌, ◌≤◌, Bool, true, false, not, eqb, ltb, List, length, get_or, take, drop, set, replicate, sym, refl, ap, ◌∙◌, add-zero, mod-lt, suc-mul, add-mul, zero-mul, add-one, arith, length-set, get_or-set_other, get_or-set_same, drop-drop, ltb-false, ltb-true, eqb_true}
+use Rattle.std.proofs.Common.{◌≡◌, ℕ, zero, suc, ◌+◌, ◌-◌, ◌*◌, ◌/◌, ◌%◌, ◌^◌, ◌<◌, ◌≤◌, Bool, true, false, not, eqb, ltb, List, length, get_or, take, drop, set, replicate, sym, refl, ap, ◌∙◌, add-zero, mod-lt, suc-mul, add-mul, zero-mul, add-one, arith, length-set, get_or-set_other, get_or-set_same, drop-drop, ltb-false, ltb-true, eqb-true}
 use borrow.Author.Tests.{eqb-false}
 use Rattle.stores.specs.Equal.{same_bytes}
 use Rattle.stores.proofs.StoreLaws.{part_at}
@@ -122,15 +122,15 @@ module _ (size : ℕ) (l : List ℕ) (n i : ℕ) (links : List ℕ) (s : ℕ) (r
       }
     where
       standing : (m : ℕ) → m < i + 1 → (u : Bool) → eqb m i ≡ u → Meets n (set links s (i + 1)) m (root_of n (nth_key size l m)) (turns_of (nth_key size l m))
-      standing m h true u = rw (eqb_true m i u) (o.leads (set links s (i + 1)) extends i (get_or-set_same links s (i + 1) 0 room))
+      standing m h true u = rw (eqb-true m i u) (o.leads (set links s (i + 1)) extends i (get_or-set_same links s (i + 1) 0 room))
       standing m h false u = let z = eqb-false m i u in meets_more extends _ _ (g.stands m (omega arith))
 
       passing : (t : ℕ) → (u : Bool) → eqb t s ≡ u → get_or (set links s (i + 1)) t 0 ≤ i + 1
-      passing t true u = rw (eqb_true t s u, get_or-set_same links s (i + 1) 0 room) (omega arith)
+      passing t true u = rw (eqb-true t s u, get_or-set_same links s (i + 1) 0 room) (omega arith)
       passing t false u = rw (get_or-set_other links s t (i + 1) 0 (eqb-false t s u)) (omega (arith, g.passed t))
 
       rising : (t : ℕ) → 0 < get_or (set links s (i + 1)) t 0 → (u : Bool) → eqb t s ≡ u → t + 2 < n + 2 * get_or (set links s (i + 1)) t 0
-      rising t p true u = rw (eqb_true t s u, get_or-set_same links s (i + 1) 0 room) (omega (arith, o.below))
+      rising t p true u = rw (eqb-true t s u, get_or-set_same links s (i + 1) 0 room) (omega (arith, o.below))
       rising t p false u =
           let e = get_or-set_other links s t (i + 1) 0 (eqb-false t s u) in
           rw e (g.rises t (rw e at p))
@@ -149,7 +149,7 @@ module _ (size i : ℕ) (l : List ℕ) (wide : 32 ≤ size) where
     where
       by_test : (u : Bool) → eqb b i ≡ u → ⊥
       by_test true u =
-          let z = eqb_true b i u in
+          let z = eqb-true b i u in
           among_none size i (nth_key size l i) l wide t a (omega arith) (e ∙ ap (nth_key size l) z)
       by_test false u = let z = eqb-false b i u in d a b h (omega arith) e
 
@@ -244,7 +244,7 @@ module _ (size : ℕ) (l : List ℕ) (block i at : ℕ) (wide : 32 ≤ size) (e 
   none_again_more q t m h k a b d = by_test (eqb m i) refl
     where
       by_test : (u : Bool) → eqb m i ≡ u → ⊥
-      by_test true u = among_none size block (take 32 (drop at l)) l wide t a b (d ∙ ap (nth_key size l) (eqb_true m i u) ∙ sym key_here)
+      by_test true u = among_none size block (take 32 (drop at l)) l wide t a b (d ∙ ap (nth_key size l) (eqb-true m i u) ∙ sym key_here)
       by_test false u = let z = eqb-false m i u in q m h (omega arith) a b d
 
   pub again : (count : ℕ) → block ≤ i → i < count → is_found (find_key (take 32 (drop at l)) (keys size block l)) ≡ true → distinct (keys size count l) ≡ false

@@ -16,58 +16,58 @@ use Rattle.calls.proofs.parent_number.Reads as parent_number_reads
 use Rattle.calls.proofs.with_parent.Reads as with_parent_reads
 
 -- src/lib.rt:113:9
-returns : tie.Need-returns
+returns : tie.Need-returns-then-s-at
 unfolding call_at of_kind
-returns c = simp (le-leb _ _ c.if1.true)
+returns c = simp (le-leb _ _ c.if-s-at.true)
 
 -- src/lib.rt:115:16
-sub_left : tie.Need-overflow-sub-left
+sub_left : tie.Need-overflow_sub-left
 sub_left c = search rules
 
 -- src/lib.rt:116:16
-shared_slice_read_kind : tie.Need-shared-slice-read-kind
+shared_slice_read_kind : tie.Need-bounds-s-at
 shared_slice_read_kind c = search rules
 
 -- src/lib.rt:118:9
-returns-2 : tie.Need-returns-2
+returns-2 : tie.Need-returns-then-kind-eq7
 unfolding call_at of_kind
-returns-2 c = simp (lt-leb _ _ c.before.before.if1.false, eq-eqb _ _ c.if2.true)
+returns-2 c = simp (lt-leb _ _ c.before.before.if-s-at.false, eq-eqb _ _ c.if-kind-eq7.true)
 
 -- src/lib.rt:121:9
-returns-3 : tie.Need-returns-3
+returns-3 : tie.Need-returns-then-kind-eq0
 unfolding call_at of_kind
-returns-3 c = simp (lt-leb _ _ c.before.before.before.if1.false, ne_eqb _ _ c.before.if2.false, eq-eqb _ _ c.if3.true)
+returns-3 c = simp (lt-leb _ _ c.before.before.before.if-s-at.false, ne_eqb _ _ c.before.if-kind-eq7.false, eq-eqb _ _ c.if-kind-eq0.true)
 
 -- src/lib.rt:124:9
-returns-4 : tie.Need-returns-4
+returns-4 : tie.Need-returns-then-kind-gt9
 unfolding call_at of_kind
-returns-4 c = simp (lt-leb _ _ c.before.before.before.before.if1.false, ne_eqb _ _ c.before.before.if2.false, ne_eqb _ _ c.before.if3.false, lt-ltb _ _ c.if4.true)
+returns-4 c = simp (lt-leb _ _ c.before.before.before.before.if-s-at.false, ne_eqb _ _ c.before.before.if-kind-eq7.false, ne_eqb _ _ c.before.if-kind-eq0.false, lt-ltb _ _ c.if-kind-gt9.true)
 
 -- src/lib.rt:127:9
-returns-5 : tie.Need-returns-5
+returns-5 : tie.Need-returns-then-left-lt2
 unfolding call_at of_kind
-returns-5 c = simp (lt-leb _ _ c.before.before.before.before.before.if1.false, ne_eqb _ _ c.before.before.before.if2.false, ne_eqb _ _ c.before.before.if3.false, le-ltb _ _ c.before.if4.false, lt-ltb _ _ c.if5.true)
+returns-5 c = simp (lt-leb _ _ c.before.before.before.before.before.if-s-at.false, ne_eqb _ _ c.before.before.before.if-kind-eq7.false, ne_eqb _ _ c.before.before.if-kind-eq0.false, le-ltb _ _ c.before.if-kind-gt9.false, lt-ltb _ _ c.if-left-lt2.true)
 
 -- src/lib.rt:129:39
-add_parent_number : tie.Need-overflow-add-parent-number
+add_parent_number : tie.Need-overflow_add-at
 add_parent_number c = search rules
 
 -- src/lib.rt:129:37
-shared_slice_read_parent_number : tie.Need-shared-slice-read-parent-number
+shared_slice_read_parent_number : tie.Need-bounds-s-at-2
 shared_slice_read_parent_number c = search rules
 
 -- src/lib.rt:129:23
-parent_number_requires : tie.Need-parent-number-requires
+parent_number_requires : tie.Need-parent_number-requires
 parent_number_requires c κs = search rules
 
 -- src/lib.rt:129:5
-with_parent_requires : tie.Need-with-parent-requires
+with_parent_requires : tie.Need-with_parent-requires
 with_parent_requires c κs = search rules
 
 -- src/lib.rt:109:1
-returns-6 : tie.Need-returns-6
+returns-6 : tie.Need-returns
 unfolding call_at of_kind
-returns-6 c = c.with_parent.ensures ∙ ap (λ (p : ℕ). with_parent (get_or c.before.before.before.before.before.before.before.before.before.before.args.s.now c.before.before.before.before.before.before.before.before.before.before.args.at 0) p c.before.before.before.before.before.before.before.before.before.before.args.parents (length c.before.before.before.before.before.before.before.before.before.before.args.s.now - c.before.before.before.before.before.before.before.before.before.before.args.at) c.before.before.before.before.before.before.before.before.before.before.args.s.now c.before.before.before.before.before.before.before.before.before.before.args.at) c.before.parent_number.ensures ∙ simp (lt-leb _ _ c.before.before.before.before.before.before.before.before.if1.false, ne_eqb _ _ c.before.before.before.before.before.before.if2.false, ne_eqb _ _ c.before.before.before.before.before.if3.false, le-ltb _ _ c.before.before.before.before.if4.false, le-ltb _ _ c.before.before.before.if5.false)
+returns-6 c = c.with_parent.ensures ∙ ap (λ (p : ℕ). with_parent (get_or c.before.before.before.before.before.before.before.before.before.before.args.s.now c.before.before.before.before.before.before.before.before.before.before.args.at 0) p c.before.before.before.before.before.before.before.before.before.before.args.parents (length c.before.before.before.before.before.before.before.before.before.before.args.s.now - c.before.before.before.before.before.before.before.before.before.before.args.at) c.before.before.before.before.before.before.before.before.before.before.args.s.now c.before.before.before.before.before.before.before.before.before.before.args.at) c.before.parent_number.ensures ∙ simp (lt-leb _ _ c.before.before.before.before.before.before.before.before.if-s-at.false, ne_eqb _ _ c.before.before.before.before.before.before.if-kind-eq7.false, ne_eqb _ _ c.before.before.before.before.before.if-kind-eq0.false, le-ltb _ _ c.before.before.before.before.if-kind-gt9.false, le-ltb _ _ c.before.before.before.if-left-lt2.false)
 
 pub next_call_spec : {M : Type 1} → statement M
 next_call_spec =

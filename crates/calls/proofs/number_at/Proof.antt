@@ -13,11 +13,11 @@ use Rattle.big_endian.proofs.get_u64.Reads as get_u64_reads
 use Rattle.calls.proofs.signed_of.Reads as signed_of_reads
 
 -- src/lib.rt:45:15
-get_u64_requires : tie.Need-get-u64-requires
+get_u64_requires : tie.Need-get_u64-requires
 get_u64_requires c κs = search rules
 
 -- src/lib.rt:45:5
-signed_of_requires : tie.Need-signed-of-requires
+signed_of_requires : tie.Need-signed_of-requires
 signed_of_requires c κs = search rules
 
 -- src/lib.rt:41:1

@@ -12,24 +12,24 @@ use Rattle.signed.proofs.i64_from_u64.Reads as i64_from_u64_reads
 use Rattle.signed.proofs.negsuc_from_u64.Reads as negsuc_from_u64_reads
 
 -- src/lib.rt:34:9
-i64_from_u64_requires : tie.Need-i64-from-u64-requires
+i64_from_u64_requires : tie.Need-i64_from_u64-requires
 i64_from_u64_requires c κs = search rules
 
 -- src/lib.rt:36:33
-sub_negsuc_from_u64 : tie.Need-overflow-sub-negsuc-from-u64
+sub_negsuc_from_u64 : tie.Need-overflow_sub-u
 sub_negsuc_from_u64 c = search rules
 
 -- src/lib.rt:36:9
-negsuc_from_u64_requires : tie.Need-negsuc-from-u64-requires
+negsuc_from_u64_requires : tie.Need-negsuc_from_u64-requires
 negsuc_from_u64_requires c κs = search rules
 
 -- src/lib.rt:30:1
-returns : tie.Need-returns
-returns c = back64 c.i64_from_u64.result c.i64_from_u64.type_inv ∙ c.i64_from_u64.ensures ∙ simp (lt-ltb _ _ c.before.if1.true)
+returns : tie.Need-returns-then-u-lt9223372036854775808
+returns c = back64 c.i64_from_u64.result c.i64_from_u64.type_inv ∙ c.i64_from_u64.ensures ∙ simp (lt-ltb _ _ c.before.if-u-lt9223372036854775808.true)
 
 -- src/lib.rt:30:1
-returns-2 : tie.Need-returns-2
-returns-2 c = back64 c.negsuc_from_u64.result c.negsuc_from_u64.type_inv ∙ c.negsuc_from_u64.ensures ∙ simp (le-ltb _ _ c.before.if1.false)
+returns-2 : tie.Need-returns-else-u-lt9223372036854775808
+returns-2 c = back64 c.negsuc_from_u64.result c.negsuc_from_u64.type_inv ∙ c.negsuc_from_u64.ensures ∙ simp (le-ltb _ _ c.before.if-u-lt9223372036854775808.false)
 
 pub signed_of_spec : {M : Type 1} → statement M
 signed_of_spec =

@@ -13,30 +13,30 @@ use Rattle.calls.proofs.with_token.Lts as lts
 use Rattle.calls.proofs.number_at.Reads as number_at_reads
 
 -- src/lib.rt:70:9
-returns : tie.Need-returns
+returns : tie.Need-returns-then-left-lt19
 unfolding with_token
-returns c = simp (lt-ltb _ _ c.if1.true)
+returns c = simp (lt-ltb _ _ c.if-left-lt19.true)
 
 -- src/lib.rt:72:19
-add_token : tie.Need-overflow-add-token
+add_token : tie.Need-overflow_add-token
 add_token c = search rules
 
 -- src/lib.rt:72:17
-shared_slice_read_token : tie.Need-shared-slice-read-token
+shared_slice_read_token : tie.Need-bounds-s-at
 shared_slice_read_token c = search rules
 
 -- src/lib.rt:73:31
-add_number_at : tie.Need-overflow-add-number-at
+add_number_at : tie.Need-overflow_add-at
 add_number_at c = search rules
 
 -- src/lib.rt:73:9
-number_at_requires : tie.Need-number-at-requires
+number_at_requires : tie.Need-number_at-amount-requires
 number_at_requires c κs = search rules
 
 -- src/lib.rt:65:1
-returns-2 : tie.Need-returns-2
+returns-2 : tie.Need-returns
 unfolding with_token
-returns-2 c = change_of _ _ (to_z-of_z w64 c.before.before.before.before.args.nanos c.before.before.before.before.ranges.nanos) (back64 c.number_at.result c.number_at.type_inv ∙ c.number_at.ensures) ∙ simp (le-ltb _ _ c.before.before.if1.false)
+returns-2 c = change_of _ _ (to_z-of_z w64 c.before.before.before.before.args.nanos c.before.before.before.before.ranges.nanos) (back64 c.number_at-amount.result c.number_at-amount.type_inv ∙ c.number_at-amount.ensures) ∙ simp (le-ltb _ _ c.before.before.if-left-lt19.false)
 
 pub with_token_spec : {M : Type 1} → statement M
 with_token_spec =

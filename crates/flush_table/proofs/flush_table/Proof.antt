@@ -7,22 +7,22 @@ use borrow.Author.Rules.{rules}
 use Rattle.flush_table.proofs.flush_table.Statement.{statement}
 use Rattle.flush_table.proofs.flush_table.Tie as tie
 
-put_undeleted_requires : tie.Need-put-undeleted-requires
+put_undeleted_requires : tie.Need-put_undeleted-put-requires
 put_undeleted_requires c κs = search rules
 
-remove_deleted_requires : tie.Need-remove-deleted-requires
+remove_deleted_requires : tie.Need-remove_deleted-requires
 remove_deleted_requires c κs = search rules
 
-same_length : tie.Need-same-length
+same_length : tie.Need-shape_of-table
 same_length c = search rules
 
-same_length_2 : tie.Need-same-length-2
+same_length_2 : tie.Need-shape_of-hints
 same_length_2 c = search rules
 
 returns : tie.Need-returns
 returns c =
     let a = c.before.before.before.before.before.before.before.before.before.before.before.before.before.before.before.before.before.before.args in
-    c.before.before.before.before.remove_deleted.ensures ∙ ap (remove_keys (edition_of a.edition) (keys 32 a.deleted_count a.deleted.now)) c.before.before.before.before.before.before.before.before.before.before.before.put_undeleted.ensures.0
+    c.before.before.before.before.remove_deleted.ensures ∙ ap (remove_keys (edition_of a.edition) (keys 32 a.deleted_count a.deleted.now)) c.before.before.before.before.before.before.before.before.before.before.before.put_undeleted-put.ensures.0
 
 pub flush_table_spec : {M : Type 1} → statement M
 flush_table_spec =

@@ -12,77 +12,77 @@ use borrow.Author.Rules.{rules}
 use Rattle.flush_table.proofs.put_unless_deleted.Statement.{statement}
 use Rattle.flush_table.proofs.put_unless_deleted.Tie as tie
 
-add_end : tie.Need-overflow-add-end
+add_end : tie.Need-overflow_add-end
 add_end c = search rules
 
-sub_holds_key : tie.Need-overflow-sub-holds-key
+sub_holds_key : tie.Need-slice_bounds-holds_key-count
 sub_holds_key c = search rules
 
-part_holds_key_start : tie.Need-slice-bounds-holds-key-start
+part_holds_key_start : tie.Need-slice_bounds-holds_key-start
 part_holds_key_start c = search rules
 
-part_holds_key_end : tie.Need-slice-bounds-holds-key-end
+part_holds_key_end : tie.Need-slice_bounds-holds_key-end
 part_holds_key_end c = omega (arith, c.before.before.before.before.requires.0, sizes c.before.before.before.before.args.edition)
 
-holds_key_requires : tie.Need-holds-key-requires
+holds_key_requires : tie.Need-holds_key-requires
 holds_key_requires c κs = search rules
 
-returns : tie.Need-returns
+returns : tie.Need-returns-then-holds_key
 returns c =
     let a = c.before.before.before.before.before.before.before.args in
     let e : a.at + 32 - a.at ≡ 32 = omega arith in
-    put_kept a.edition _ a.at a.staged.now _ (rw e at (sym c.before.holds_key.ensures ∙ c.if1.true))
+    put_kept a.edition _ a.at a.staged.now _ (rw e at (sym c.before.holds_key.ensures ∙ c.if-holds_key.true))
 
-record_size_requires : tie.Need-record-size-requires
+record_size_requires : tie.Need-record_size-size-requires
 record_size_requires c κs = search rules
 
-row_part_requires : tie.Need-row-part-requires
+row_part_requires : tie.Need-row_part-row-requires
 row_part_requires c κs =
     let s = c.before.before.before.before.before.before.before.before in
-    let z = c.record_size.ensures.0 in
+    let z = c.record_size-size.ensures.0 in
     (omega (arith, z, sizes s.args.edition), rw z s.requires.0)
 
-sub_put : tie.Need-overflow-sub-put
+sub_put : tie.Need-slice_bounds-put-count
 sub_put c = search rules
 
-part_put_start : tie.Need-slice-bounds-put-start
+part_put_start : tie.Need-slice_bounds-put-start
 part_put_start c = search rules
 
-part_put_end : tie.Need-slice-bounds-put-end
+part_put_end : tie.Need-slice_bounds-put-end
 part_put_end c = omega (arith, c.before.before.before.before.before.before.before.before.before.before.requires.0, sizes c.before.before.before.before.before.before.before.before.before.before.args.edition)
 
 put_requires : tie.Need-put-requires
 put_requires c κs =
     let s = c.before.before.before.before.before.before.before.before.before.before.before.before in
     let a = s.args in
-    let z = c.before.before.before.before.record_size.ensures.0 in
+    let z = c.before.before.before.before.record_size-size.ensures.0 in
     let size = record_size a.edition in
     let e : a.at + 32 - a.at ≡ 32 = omega arith in
-    let d = rw e at (sym c.before.before.before.before.before.before.holds_key.ensures ∙ c.before.before.before.before.before.if1.false) in
+    let d = rw e at (sym c.before.before.before.before.before.before.holds_key.ensures ∙ c.before.before.before.before.before.if-holds_key.false) in
     let r = slot_new a.edition a.counts.count _ a.table.now _ d s.requires.2 in
     let g = sizes a.edition in
     let p = s.requires.0 in (
       rw z r.0,
       rw (e, length-take, length-drop) (omega (arith, p, g)),
-      rw (c.before.before.before.row_part.ensures, z) (row_room size (take size (drop a.at a.staged.now)) g.0 (rw (length-take, length-drop) (omega (arith, p)))),
+      rw (c.before.before.before.row_part-row.ensures, z) (row_room size (take size (drop a.at a.staged.now)) g.0 (rw (length-take, length-drop) (omega (arith, p)))),
       rw (e, z) r.1,
       rw z s.requires.3,
     )
 
-same_length : tie.Need-same-length
+same_length : tie.Need-shape_of-table
 same_length c = search rules
 
-same_length_2 : tie.Need-same-length-2
+same_length_2 : tie.Need-shape_of-hints
 same_length_2 c = search rules
 
-returns-2 : tie.Need-returns-2
+returns-2 : tie.Need-returns
 returns-2 c =
     let a = c.before.before.before.before.before.before.before.before.before.before.before.before.before.before.before.before.before.args in
-    let z = c.before.before.before.before.before.before.before.before.before.record_size.ensures.0 in
+    let z = c.before.before.before.before.before.before.before.before.before.record_size-size.ensures.0 in
     let e : a.at + 32 - a.at ≡ 32 = omega arith in
-    let d = rw e at (sym c.before.before.before.before.before.before.before.before.before.before.before.holds_key.ensures ∙ c.before.before.before.before.before.before.before.before.before.before.if1.false) in
+    let d = rw e at (sym c.before.before.before.before.before.before.before.before.before.before.before.holds_key.ensures ∙ c.before.before.before.before.before.before.before.before.before.before.if-holds_key.false) in
     let p = c.before.before.before.before.put.ensures in
-    put_done a.edition _ a.at a.staged.now _ d _ _ (rw (e, z) at p.0) (rw (e, c.before.before.before.before.before.before.before.before.row_part.ensures, z) at p.1)
+    put_done a.edition _ a.at a.staged.now _ d _ _ (rw (e, z) at p.0) (rw (e, c.before.before.before.before.before.before.before.before.row_part-row.ensures, z) at p.1)
 
 pub put_unless_deleted_spec : {M : Type 1} → statement M
 put_unless_deleted_spec =

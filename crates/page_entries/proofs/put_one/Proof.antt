@@ -11,46 +11,46 @@ use Rattle.page_entries.proofs.FillLaws.{one_passed, one_skipped, one_too_many, 
 use Rattle.page_entries.proofs.put_one.Statement.{statement}
 use Rattle.page_entries.proofs.put_one.Tie as tie
 
-is_above_requires : tie.Need-is-above-requires
+is_above_requires : tie.Need-is_above-requires
 is_above_requires c κs = search rules
 
-returns : tie.Need-returns
+returns : tie.Need-returns-then-not-is_above
 returns c =
     let s = c.before.before in
     let a = s.args in
-    one_passed a.wanted a.filling a.page.now s.requires a.x (ap is_above (sym (back w64 a.x s.ranges.x)) ∙ sym c.before.is_above.ensures ∙ not-true _ c.if1.true)
+    one_passed a.wanted a.filling a.page.now s.requires a.x (ap is_above (sym (back w64 a.x s.ranges.x)) ∙ sym c.before.is_above.ensures ∙ not-true _ c.if-not-is_above.true)
 
 -- it is above 0
-above : (c : tie.Else1) → is_above c.before.before.args.x ≡ true
+above : (c : tie.Else-not-is_above) → is_above c.before.before.args.x ≡ true
 above c =
     let s = c.before.before in
-    ap is_above (sym (back w64 s.args.x s.ranges.x)) ∙ sym c.before.is_above.ensures ∙ not-false _ c.if1.false
+    ap is_above (sym (back w64 s.args.x s.ranges.x)) ∙ sym c.before.is_above.ensures ∙ not-false _ c.if-not-is_above.false
 
-sub_t9 : tie.Need-overflow-sub-t9
+sub_t9 : tie.Need-overflow_sub-result
 sub_t9 c = search rules
 
-returns-2 : tie.Need-returns-2
+returns-2 : tie.Need-returns-then-skip-gt0
 returns-2 c =
     let s = c.before.before.before in
     let a = s.args in
     one_skipped a.wanted a.filling a.page.now s.requires a.x (above c.before) _ (omega arith)
 
-returns-3 : tie.Need-returns-3
+returns-3 : tie.Need-returns-then-wanted-put
 returns-3 c =
     let s = c.before.before.before.before in
     let a = s.args in
     one_too_many a.wanted a.filling a.page.now s.requires a.x (above c.before.before) (omega arith)
 
-mul_x : tie.Need-overflow-mul-x
+mul_x : tie.Need-offset_bounds-page-put
 mul_x c = search rules
 
-element_set_from_x : tie.Need-element-set-from-x
+element_set_from_x : tie.Need-bounds-page-put
 element_set_from_x c = search rules
 
-add_t10 : tie.Need-overflow-add-t10
+add_t10 : tie.Need-overflow_add-result
 add_t10 c = search rules
 
-returns-4 : tie.Need-returns-4
+returns-4 : tie.Need-returns
 returns-4 c =
     let s = c.before.before.before.before in
     let a = s.args in

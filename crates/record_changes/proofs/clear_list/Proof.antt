@@ -4,13 +4,13 @@ use Rattle.records.specs.Changes.{clear_records}
 use Rattle.record_changes.proofs.clear_list.Statement.{statement}
 use Rattle.record_changes.proofs.clear_list.Tie as tie
 
-mul_clear_bytes : tie.Need-overflow-mul-clear-bytes
+mul_clear_bytes : tie.Need-overflow_mul-capacity
 mul_clear_bytes c = search rules
 
-clear_bytes_requires : tie.Need-clear-bytes-requires
+clear_bytes_requires : tie.Need-clear_bytes-requires
 clear_bytes_requires c κs = search rules
 
-same_length : tie.Need-same-length
+same_length : tie.Need-shape_of-list
 same_length c = search rules
 
 returns : tie.Need-returns

@@ -3,15 +3,15 @@ use borrow.Author.Rules.{rules}
 use Rattle.record_changes.proofs.put.Statement.{statement}
 use Rattle.record_changes.proofs.put.Tie as tie
 
-find_requires : tie.Need-find-requires
+find_requires : tie.Need-find-found-requires
 find_requires c κs = search rules
 
-put_found_requires : tie.Need-put-found-requires
+put_found_requires : tie.Need-put_found-requires
 put_found_requires c κs =
-    let p = c.before.before.before.before.before.before.requires in
-    (p.0, p.1, p.2, rw c.before.find.ensures p.3, c.before.find.ensures)
+    let p = c.before.before.before.before.before.requires in
+    (p.0, p.1, p.2, rw c.before.find-found.ensures p.3, c.before.find-found.ensures)
 
-same_length : tie.Need-same-length
+same_length : tie.Need-shape_of-list
 same_length c = search rules
 
 returns : tie.Need-returns

@@ -6,22 +6,22 @@ use Rattle.records.proofs.RecordLaws.{write_two}
 use Rattle.record_writing.proofs.put_length.Statement.{statement}
 use Rattle.record_writing.proofs.put_length.Tie as tie
 
-add_low : tie.Need-overflow-add-low
+add_low : tie.Need-overflow_add-low
 add_low c = search rules
 
-cast_dst : tie.Need-overflow-cast-dst
+cast_dst : tie.Need-overflow_cast-dst
 cast_dst c = search rules
 
-slice_write_dst : tie.Need-slice-write-dst
+slice_write_dst : tie.Need-bounds-dst-at
 slice_write_dst c = search rules
 
-cast_dst_2 : tie.Need-overflow-cast-dst-2
+cast_dst_2 : tie.Need-overflow_cast-dst-2
 cast_dst_2 c = search rules
 
-slice_write_dst_2 : tie.Need-slice-write-dst-2
+slice_write_dst_2 : tie.Need-bounds-dst-low
 slice_write_dst_2 c = simp length-set (omega arith)
 
-same_length : tie.Need-same-length
+same_length : tie.Need-shape_of-dst
 same_length c = search rules
 
 returns : tie.Need-returns

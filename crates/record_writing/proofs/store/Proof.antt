@@ -4,34 +4,34 @@ use Rattle.records.proofs.RecordLaws.{store_writes}
 use Rattle.record_writing.proofs.store.Statement.{statement}
 use Rattle.record_writing.proofs.store.Tie as tie
 
-add_used : tie.Need-overflow-add-used
+add_used : tie.Need-overflow_add-used
 add_used c = search rules
 
-copy_bytes_requires : tie.Need-copy-bytes-requires
+copy_bytes_requires : tie.Need-copy_bytes-requires
 copy_bytes_requires c κs = search rules
 
-add_put_length : tie.Need-overflow-add-put-length
+add_put_length : tie.Need-overflow_add-at
 add_put_length c = search rules
 
-put_length_requires : tie.Need-put-length-requires
+put_length_requires : tie.Need-put_length-requires
 put_length_requires c κs = search rules
 
-add_copy_bytes : tie.Need-overflow-add-copy-bytes
+add_copy_bytes : tie.Need-overflow_add-at-2
 add_copy_bytes c = search rules
 
-copy_bytes_requires_2 : tie.Need-copy-bytes-requires-2
+copy_bytes_requires_2 : tie.Need-copy_bytes-requires-2
 copy_bytes_requires_2 c κs = search rules
 
-add_clear_bytes : tie.Need-overflow-add-clear-bytes
+add_clear_bytes : tie.Need-overflow_add-at-3
 add_clear_bytes c = search rules
 
-sub_clear_bytes : tie.Need-overflow-sub-clear-bytes
+sub_clear_bytes : tie.Need-overflow_sub-size
 sub_clear_bytes c = search rules
 
-clear_bytes_requires : tie.Need-clear-bytes-requires
+clear_bytes_requires : tie.Need-clear_bytes-requires
 clear_bytes_requires c κs = search rules
 
-same_length : tie.Need-same-length
+same_length : tie.Need-shape_of-list
 same_length c = search rules
 
 returns : tie.Need-returns

@@ -8,24 +8,24 @@ use borrow.Author.Rules.{rules}
 use Rattle.row_header.proofs.emit_second_header.Statement.{statement}
 use Rattle.row_header.proofs.emit_second_header.Tie as tie
 
-copy_bytes_requires : tie.Need-copy-bytes-requires
+copy_bytes_requires : tie.Need-copy_bytes-requires
 copy_bytes_requires c κs = search rules
 
-kind_byte_requires : tie.Need-kind-byte-requires
+kind_byte_requires : tie.Need-kind_byte-requires
 kind_byte_requires c κs = search rules
 
-put_byte_requires : tie.Need-put-byte-requires
+put_byte_requires : tie.Need-put_byte-requires
 put_byte_requires c κs = search rules
 
-i32_from_usize_requires : tie.Need-i32-from-usize-requires
+i32_from_usize_requires : tie.Need-i32_from_usize-requires
 i32_from_usize_requires c κs = search rules
 
-emit_i32_requires : tie.Need-emit-i32-requires
+emit_i32_requires : tie.Need-emit_i32-requires
 emit_i32_requires c κs =
     let a = c.before.before.before.before.before.before.before.before.before.before.before.before.before.args in
     header_room a.number _ _ c.before.before.before.before.before.before.before.before.before.before.before.before.before.requires.1 (back32 c.before.i32_from_usize.result c.before.i32_from_usize.type_inv ∙ c.before.i32_from_usize.ensures) (omega (arith, c.before.before.before.before.before.before.before.before.before.before.before.before.before.requires.0))
 
-same_length : tie.Need-same-length
+same_length : tie.Need-shape_of-out
 same_length c = search rules
 
 returns : tie.Need-returns

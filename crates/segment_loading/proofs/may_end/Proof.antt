@@ -3,10 +3,10 @@ use borrow.Author.Rules.{rules}
 use Rattle.segment_loading.proofs.may_end.Statement.{statement}
 use Rattle.segment_loading.proofs.may_end.Tie as tie
 
-returns : tie.Need-returns
-returns c = rw c.if1.true
+returns : tie.Need-returns-then-must
+returns c = rw c.if-must.true
 
-returns-2 : tie.Need-returns-2
+returns-2 : tie.Need-returns
 returns-2 c = search rules
 
 pub may_end_spec : {M : Type 1} → statement M

@@ -3,13 +3,13 @@ use borrow.Author.Rules.{rules}
 use Rattle.segment_loading.proofs.read_last_segment.Statement.{statement}
 use Rattle.segment_loading.proofs.read_last_segment.Tie as tie
 
-load_segment_requires : tie.Need-load-segment-requires
+load_segment_requires : tie.Need-load_segment-requires
 load_segment_requires c κs = search rules
 
-same_length : tie.Need-same-length
+same_length : tie.Need-shape_of-txs
 same_length c = search rules
 
-same_length_2 : tie.Need-same-length-2
+same_length_2 : tie.Need-shape_of-boxes
 same_length_2 c = search rules
 
 returns : tie.Need-returns

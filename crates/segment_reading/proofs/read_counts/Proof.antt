@@ -7,70 +7,63 @@ use borrow.Author.Rules.{rules}
 use Rattle.segment_reading.proofs.read_counts.Statement.{statement}
 use Rattle.segment_reading.proofs.read_counts.Tie as tie
 
-get_i32_requires : tie.Need-get-i32-requires
+get_i32_requires : tie.Need-get_i32-requires
 get_i32_requires c κs = search rules
 
-enum_known_b : tie.Need-enum-known-b
+enum_known_b : tie.Need-enum_known-b
 enum_known_b c = search rules
 
-get_i32_requires_2 : tie.Need-get-i32-requires-2
+get_i32_requires_2 : tie.Need-get_i32-requires-in-Number
 get_i32_requires_2 c κs = search rules
 
-enum_known_t : tie.Need-enum-known-t
+enum_known_t : tie.Need-enum_known-t
 enum_known_t c = search rules
 
-is_negative_i32_requires : tie.Need-is-negative-i32-requires
+is_negative_i32_requires : tie.Need-is_negative_i32-requires
 is_negative_i32_requires c κs = search rules
 
-returns : tie.Need-returns
+returns : tie.Need-returns-then-is_negative_i32
 returns c =
     let k = c.before.before in
-    let h = k.before.before.before.before.before.b.given in
-    let g = k.before.t.given in
-    let e = sym k.before.before.before.before.before.before.before.get_i32.ensures ∙ h.1 in
-    let f = sym k.before.before.before.get_i322.ensures ∙ g.1 in
-    let p = to_z-of_z {w = w32} (record { sfits = k.before.before.before.before.known_told.given.0.1 }) in
-    let q = to_z-of_z {w = w32} (record { sfits = k.known_told2.given.0.1 }) in
-    counts_6_b _ _ h.0.0 h.0.1.0 e g.0.0 g.0.1.0 f _ _ p q (sym c.before.is_negative_i32.ensures ∙ c.if1.true)
+    let e = sym k.before.before.before.get_i32.ensures ∙ k.before.before.in-Number.is in
+    let f = sym k.before.get_i32-in-Number.ensures ∙ k.in-Number-get_i32.is in
+    let p = to_z-of_z {w = w32} (record { sfits = k.before.before.in-Number.known_told-1-own.given.0.1 }) in
+    let q = to_z-of_z {w = w32} (record { sfits = k.in-Number-get_i32.known_told-in-Number-get_i32-2-1-own.given.0.1 }) in
+    counts_6_b _ _ k.before.before.in-Number.b k.before.before.in-Number.n e k.in-Number-get_i32.t k.in-Number-get_i32.next f _ _ p q (sym c.before.is_negative_i32.ensures ∙ c.if-is_negative_i32.true)
 
-is_negative_i32_requires_2 : tie.Need-is-negative-i32-requires-2
+is_negative_i32_requires_2 : tie.Need-is_negative_i32-requires-in-Number-get_i32
 is_negative_i32_requires_2 c κs = search rules
 
-returns-2 : tie.Need-returns-2
+returns-2 : tie.Need-returns-then-is_negative_i32-2
 returns-2 c =
     let k = c.before.before.before.before in
-    let h = k.before.before.before.before.before.b.given in
-    let g = k.before.t.given in
-    let e = sym k.before.before.before.before.before.before.before.get_i32.ensures ∙ h.1 in
-    let f = sym k.before.before.before.get_i322.ensures ∙ g.1 in
-    let p = to_z-of_z {w = w32} (record { sfits = k.before.before.before.before.known_told.given.0.1 }) in
-    let q = to_z-of_z {w = w32} (record { sfits = k.known_told2.given.0.1 }) in
-    counts_6_t _ _ h.0.0 h.0.1.0 e g.0.0 g.0.1.0 f _ _ p q (sym c.before.before.before.is_negative_i32.ensures ∙ c.before.before.if1.false) (sym c.before.is_negative_i322.ensures ∙ c.if2.true)
+    let e = sym k.before.before.before.get_i32.ensures ∙ k.before.before.in-Number.is in
+    let f = sym k.before.get_i32-in-Number.ensures ∙ k.in-Number-get_i32.is in
+    let p = to_z-of_z {w = w32} (record { sfits = k.before.before.in-Number.known_told-1-own.given.0.1 }) in
+    let q = to_z-of_z {w = w32} (record { sfits = k.in-Number-get_i32.known_told-in-Number-get_i32-2-1-own.given.0.1 }) in
+    counts_6_t _ _ k.before.before.in-Number.b k.before.before.in-Number.n e k.in-Number-get_i32.t k.in-Number-get_i32.next f _ _ p q (sym c.before.before.before.is_negative_i32.ensures ∙ c.before.before.if-is_negative_i32.false) (sym c.before.is_negative_i32-in-Number-get_i32.ensures ∙ c.if-is_negative_i32-2.true)
 
-enum_known_code : tie.Need-enum-known-code
+enum_known_code : tie.Need-enum_known-code
 enum_known_code c = search rules
 
-enum_known_code_2 : tie.Need-enum-known-code-2
+enum_known_code_2 : tie.Need-enum_known-code-in-Refused-get_i32
 enum_known_code_2 c = search rules
 
-returns-3 : tie.Need-returns-3
+returns-3 : tie.Need-returns-else-is_negative_i32-2
 returns-3 c =
     let k = c.before.before.before.before in
-    let h = k.before.before.before.before.before.b.given in
-    let g = k.before.t.given in
-    let e = sym k.before.before.before.before.before.before.before.get_i32.ensures ∙ h.1 in
-    let f = sym k.before.before.before.get_i322.ensures ∙ g.1 in
-    let p = to_z-of_z {w = w32} (record { sfits = k.before.before.before.before.known_told.given.0.1 }) in
-    let q = to_z-of_z {w = w32} (record { sfits = k.known_told2.given.0.1 }) in
-    counts_ok _ _ h.0.0 h.0.1.0 e g.0.0 g.0.1.0 f _ _ p q (sym c.before.before.before.is_negative_i32.ensures ∙ c.before.before.if1.false) (sym c.before.is_negative_i322.ensures ∙ c.if2.false)
+    let e = sym k.before.before.before.get_i32.ensures ∙ k.before.before.in-Number.is in
+    let f = sym k.before.get_i32-in-Number.ensures ∙ k.in-Number-get_i32.is in
+    let p = to_z-of_z {w = w32} (record { sfits = k.before.before.in-Number.known_told-1-own.given.0.1 }) in
+    let q = to_z-of_z {w = w32} (record { sfits = k.in-Number-get_i32.known_told-in-Number-get_i32-2-1-own.given.0.1 }) in
+    counts_ok _ _ k.before.before.in-Number.b k.before.before.in-Number.n e k.in-Number-get_i32.t k.in-Number-get_i32.next f _ _ p q (sym c.before.before.before.is_negative_i32.ensures ∙ c.before.before.if-is_negative_i32.false) (sym c.before.is_negative_i32-in-Number-get_i32.ensures ∙ c.if-is_negative_i32-2.false)
 
-returns-4 : tie.Need-returns-4
+returns-4 : tie.Need-returns-in-Refused-get_i32
 returns-4 c =
-    let h = c.before.before.before.before.before.b.given in
-    counts_bad_2 _ _ h.0.0 h.0.1.0 (sym c.before.before.before.before.before.before.before.get_i32.ensures ∙ h.1) _ (sym c.before.before.before.get_i322.ensures ∙ c.before.code.given.1)
+    counts_bad_2 _ _ c.before.before.in-Number.b c.before.before.in-Number.n (sym c.before.before.before.get_i32.ensures ∙ c.before.before.in-Number.is) _ (sym c.before.get_i32-in-Number.ensures ∙ c.in-Refused-get_i32.is)
 
-returns-5 : tie.Need-returns-5
-returns-5 c = counts_bad_1 _ _ _ (sym c.before.before.before.get_i32.ensures ∙ c.before.code2.given.1)
+returns-5 : tie.Need-returns-in-Refused
+returns-5 c = counts_bad_1 _ _ _ (sym c.before.get_i32.ensures ∙ c.in-Refused.is)
 
 pub read_counts_spec : {M : Type 1} → statement M
 read_counts_spec =

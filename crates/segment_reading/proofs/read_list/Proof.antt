@@ -5,23 +5,23 @@ use borrow.Author.Rules.{rules}
 use Rattle.segment_reading.proofs.read_list.Statement.{statement}
 use Rattle.segment_reading.proofs.read_list.Tie as tie
 
-read_length_requires : tie.Need-read-length-requires
+read_length_requires : tie.Need-read_length-requires
 read_length_requires c κs = search rules
 
-enum_known_k : tie.Need-enum-known-k
+enum_known_k : tie.Need-enum_known-k
 enum_known_k c = search rules
 
-read_numbers_requires : tie.Need-read-numbers-requires
-read_numbers_requires c κs = (length_most _ _ _ _ (sym c.before.before.before.before.read_length.ensures ∙ c.before.before.k.given.1)).0
+read_numbers_requires : tie.Need-read_numbers-requires
+read_numbers_requires c κs = (length_most _ _ _ _ (sym c.before.before.read_length.ensures ∙ c.before.in-Value.is)).0
 
-enum_known_code : tie.Need-enum-known-code
+enum_known_code : tie.Need-enum_known-code
 enum_known_code c = search rules
 
-returns : tie.Need-returns
-returns c = list_numbers _ _ _ c.before.before.before.before.before.read_length.ensures _ _ c.before.before.before.k.given.1 _ _ _ c.read_numbers.ensures
+returns : tie.Need-returns-in-Value
+returns c = list_numbers _ _ _ c.before.before.before.read_length.ensures _ _ c.before.before.in-Value.is _ _ _ c.read_numbers.ensures
 
-returns-2 : tie.Need-returns-2
-returns-2 c = list_bad _ _ _ c.before.before.before.read_length.ensures _ c.before.code.given.1 _ _
+returns-2 : tie.Need-returns-in-Refused
+returns-2 c = list_bad _ _ _ c.before.read_length.ensures _ c.in-Refused.is _ _
 
 pub read_list_spec : {M : Type 1} → statement M
 read_list_spec =

@@ -12,23 +12,23 @@ use native.Mathlib.Omega.{arith}
 use Rattle.segment_writing.proofs.emit_counts.Statement.{statement}
 use Rattle.segment_writing.proofs.emit_counts.Tie as tie
 
-emit_i32_requires : tie.Need-emit-i32-requires
+emit_i32_requires : tie.Need-emit_i32-o-requires
 emit_i32_requires c κs =
     let s = c.before.before in
     let p = ap (λ (z : ℤ). enc (zig z)) (to_z-of_z {w = w32} s.ranges.b) in
     let q = ap (λ (z : ℤ). enc (zig z)) (to_z-of_z {w = w32} s.ranges.t) in
     omega (arith, both_room p q s.args.at (length s.args.out.now) s.requires)
 
-emit_i32_requires_2 : tie.Need-emit-i32-requires-2
+emit_i32_requires_2 : tie.Need-emit_i32-requires
 emit_i32_requires_2 c κs =
     let s = c.before.before.before.before.before.before in
     let p = ap (λ (z : ℤ). enc (zig z)) (to_z-of_z {w = w32} s.ranges.b) in
     let q = ap (λ (z : ℤ). enc (zig z)) (to_z-of_z {w = w32} s.ranges.t) in
-    let e = c.before.before.before.emit_i32 in
-    let k = e.auto.1.0 in
+    let e = c.before.before.before.emit_i32-o in
+    let k = c.before.before.before.emit_i32-o.auto.out in
     omega (arith, both_room p q s.args.at (length s.args.out.now) s.requires)
 
-same_length : tie.Need-same-length
+same_length : tie.Need-shape_of-out
 same_length c = search rules
 
 returns : tie.Need-returns
@@ -36,7 +36,7 @@ returns c =
     let s = c.before.before.before.before.before.before.before.before.before in
     let p = ap (λ (z : ℤ). enc (zig z)) (to_z-of_z {w = w32} s.ranges.b) in
     let q = ap (λ (z : ℤ). enc (zig z)) (to_z-of_z {w = w32} s.ranges.t) in
-    both_put p q _ _ _ _ _ _ c.before.before.before.before.before.before.emit_i32.ensures c.before.before.emit_i322.ensures
+    both_put p q _ _ _ _ _ _ c.before.before.before.before.before.before.emit_i32-o.ensures c.before.before.emit_i32.ensures
 
 pub emit_counts_spec : {M : Type 1} → statement M
 emit_counts_spec = tie.close (tie.spec emit_i32_requires emit_i32_requires_2 same_length returns)

@@ -12,16 +12,16 @@ use native.Mathlib.Omega.{arith}
 use Rattle.segment_writing.proofs.list_len.Statement.{statement}
 use Rattle.segment_writing.proofs.list_len.Tie as tie
 
-i32_from_usize_requires : tie.Need-i32-from-usize-requires
+i32_from_usize_requires : tie.Need-i32_from_usize-requires
 i32_from_usize_requires c κs = search rules
 
-number_len_i32_requires : tie.Need-number-len-i32-requires
+number_len_i32_requires : tie.Need-number_len_i32-requires
 number_len_i32_requires c κs = search rules
 
-numbers_len_requires : tie.Need-numbers-len-requires
+numbers_len_requires : tie.Need-numbers_len-requires
 numbers_len_requires c κs = search rules
 
-add_result : tie.Need-overflow-add-result
+add_result : tie.Need-overflow_add-result
 add_result c = search rules
 
 returns : tie.Need-returns

@@ -11,45 +11,45 @@ use native.Mathlib.Omega.{arith}
 use Rattle.segment_writing.proofs.numbers_len.Statement.{statement}
 use Rattle.segment_writing.proofs.numbers_len.Tie as tie
 
-abbrev invariant_loop : tie.invariant_loop
+abbrev invariant_loop : tie.invariant-loop-i
 invariant_loop xs n sum₀ i₀ sum i =
     (i ≤ n) × (sum ≤ 10 * i) × (length (numbers_bytes (take n xs)) ≡ sum + length (numbers_bytes (drop i (take n xs))))
 
-abbrev decreases_loop : tie.decreases_loop
+abbrev decreases_loop : tie.decreases-loop-i
 decreases_loop xs n sum₀ i₀ sum i = n - i
 
-loop-holds : tie.Need-loop-init invariant_loop decreases_loop
+loop-holds : tie.Need-loop-i-init invariant_loop decreases_loop
 loop-holds c = search rules
 
-mul_number_len : tie.Need-overflow-mul-number-len invariant_loop decreases_loop
+mul_number_len : tie.Need-offset_bounds-xs-i invariant_loop decreases_loop
 mul_number_len c = search rules
 
-shared_slice_copy_out_number_len : tie.Need-shared-slice-copy-out-number-len invariant_loop decreases_loop
+shared_slice_copy_out_number_len : tie.Need-bounds-xs-i invariant_loop decreases_loop
 shared_slice_copy_out_number_len c = search rules
 
-number_len_requires : tie.Need-number-len-requires invariant_loop decreases_loop
+number_len_requires : tie.Need-number_len-sum-requires invariant_loop decreases_loop
 number_len_requires c κs = search rules
 
-add_sum : tie.Need-overflow-add-sum invariant_loop decreases_loop
+add_sum : tie.Need-overflow_add-sum invariant_loop decreases_loop
 add_sum c = search rules
 
-add_i : tie.Need-overflow-add-i invariant_loop decreases_loop
+add_i : tie.Need-overflow_add-i invariant_loop decreases_loop
 add_i c = search rules
 
-loop-less : tie.Need-loop-smaller invariant_loop decreases_loop
+loop-less : tie.Need-loop-i-smaller invariant_loop decreases_loop
 loop-less c = search rules
 
-loop-again : tie.Need-loop-preserved invariant_loop decreases_loop
+loop-again : tie.Need-loop-i-preserved invariant_loop decreases_loop
 loop-again c =
     let s = c.before.before.before.before in
-    let l = c.before.before.before.loop in
-    let g = size_step s.args.xs.now s.args.n l.i _ c.before.before.loop-test.true s.requires.1 (to_z-of_z {w = w64} (record { sfits = c.before.number_len_arg.given })) in
+    let l = c.before.before.before.loop-i in
+    let g = size_step s.args.xs.now s.args.n l.i _ c.before.before.loop-i-test.true s.requires.1 (to_z-of_z {w = w64} (record { sfits = c.before.number_len-arg-1.given })) in
     (omega arith, omega arith, omega arith)
 
 returns : tie.Need-returns invariant_loop decreases_loop
 returns c =
     let s = c.before.before in
-    let g = ap length (past s.args.xs.now s.args.n c.before.loop.i c.loop-test.false s.requires.1) in
+    let g = ap length (past s.args.xs.now s.args.n c.before.loop-i.i c.loop-i-test.false s.requires.1) in
     (omega arith, omega arith)
 
 pub numbers_len_spec : {M : Type 1} → statement M

@@ -10,19 +10,19 @@ use native.Mathlib.Omega.{arith}
 use Rattle.segment_writing.proofs.segment_len.Statement.{statement}
 use Rattle.segment_writing.proofs.segment_len.Tie as tie
 
-list_len_requires : tie.Need-list-len-requires
+list_len_requires : tie.Need-list_len-requires
 list_len_requires c κs = search rules
 
-list_len_requires_2 : tie.Need-list-len-requires-2
+list_len_requires_2 : tie.Need-list_len-requires-2
 list_len_requires_2 c κs = search rules
 
-add_result : tie.Need-overflow-add-result
+add_result : tie.Need-overflow_add-result
 add_result c = search rules
 
-counts_len_requires : tie.Need-counts-len-requires
+counts_len_requires : tie.Need-counts_len-requires
 counts_len_requires c κs = search rules
 
-add_result_2 : tie.Need-overflow-add-result-2
+add_result_2 : tie.Need-overflow_add-result-2
 add_result_2 c = search rules
 
 returns : tie.Need-returns

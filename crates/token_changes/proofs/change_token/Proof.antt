@@ -6,38 +6,38 @@ use Rattle.signed.proofs.SignedLaws.{back}
 use Rattle.token_changes.proofs.change_token.Statement.{statement}
 use Rattle.token_changes.proofs.change_token.Tie as tie
 
-find_requires : tie.Need-find-requires
+find_requires : tie.Need-find-at-requires
 find_requires c κs = search rules
 
-add_token_requires : tie.Need-add-token-requires
+add_token_requires : tie.Need-add_token-requires
 add_token_requires c κs = search rules
 
-subtract_token_requires : tie.Need-subtract-token-requires
+subtract_token_requires : tie.Need-subtract_token-requires
 subtract_token_requires c κs = search rules
 
-same_length : tie.Need-same-length
+same_length : tie.Need-shape_of-table-then-adding
 same_length c = search rules
 
-same_length_2 : tie.Need-same-length-2
+same_length_2 : tie.Need-shape_of-sums-then-adding
 same_length_2 c = search rules
 
-returns : tie.Need-returns
+returns : tie.Need-returns-then-adding
 returns c =
     let a = c.before.before.before in
-    let s = a.before.before.before.before.before.before.before.before in
-    rw a.before.before.before.if1.true (a.add_token.ensures ∙ rw (back w64 s.args.amount s.ranges.amount))
+    let s = a.before.before.before.before.before.before.before in
+    rw a.before.before.before.if-adding.true (a.add_token.ensures ∙ rw (back w64 s.args.amount s.ranges.amount))
 
-same_length_3 : tie.Need-same-length-3
+same_length_3 : tie.Need-shape_of-table-else-adding
 same_length_3 c = search rules
 
-same_length_4 : tie.Need-same-length-4
+same_length_4 : tie.Need-shape_of-sums-else-adding
 same_length_4 c = search rules
 
-returns-2 : tie.Need-returns-2
+returns-2 : tie.Need-returns-else-adding
 returns-2 c =
     let a = c.before.before.before in
-    let s = a.before.before.before.before.before.before.before.before in
-    rw a.before.before.before.if1.false (a.subtract_token.ensures ∙ rw (back w64 s.args.amount s.ranges.amount))
+    let s = a.before.before.before.before.before.before.before in
+    rw a.before.before.before.if-adding.false (a.subtract_token.ensures ∙ rw (back w64 s.args.amount s.ranges.amount))
 
 pub change_token_spec : {M : Type 1} → statement M
 change_token_spec =

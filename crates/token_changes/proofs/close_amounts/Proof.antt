@@ -8,22 +8,22 @@ use Rattle.balance_tokens.proofs.TokenLaws.{close_writes}
 use Rattle.token_changes.proofs.close_amounts.Statement.{statement}
 use Rattle.token_changes.proofs.close_amounts.Tie as tie
 
-sub_last : tie.Need-overflow-sub-last
+sub_last : tie.Need-overflow_sub-last
 sub_last c = search rules
 
-add_move_numbers : tie.Need-overflow-add-move-numbers
+add_move_numbers : tie.Need-overflow_add-at
 add_move_numbers c = search rules
 
-sub_move_numbers : tie.Need-overflow-sub-move-numbers
+sub_move_numbers : tie.Need-overflow_sub-last-2
 sub_move_numbers c = search rules
 
-move_numbers_requires : tie.Need-move-numbers-requires
+move_numbers_requires : tie.Need-move_numbers-requires
 move_numbers_requires c κs = search rules
 
-clear_numbers_requires : tie.Need-clear-numbers-requires
+clear_numbers_requires : tie.Need-clear_numbers-requires
 clear_numbers_requires c κs = search rules
 
-same_length : tie.Need-same-length
+same_length : tie.Need-shape_of-sums
 same_length c = search rules
 
 returns : tie.Need-returns

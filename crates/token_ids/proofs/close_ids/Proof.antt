@@ -7,34 +7,34 @@ use Rattle.balance_tokens.proofs.TokenLaws.{close_writes}
 use Rattle.token_ids.proofs.close_ids.Statement.{statement}
 use Rattle.token_ids.proofs.close_ids.Tie as tie
 
-sub_last : tie.Need-overflow-sub-last
+sub_last : tie.Need-overflow_sub-last
 sub_last c = search rules
 
-add_move_bytes : tie.Need-overflow-add-move-bytes
+add_move_bytes : tie.Need-overflow_add-at
 add_move_bytes c = search rules
 
-mul_move_bytes : tie.Need-overflow-mul-move-bytes
+mul_move_bytes : tie.Need-overflow_mul-at
 mul_move_bytes c = search rules
 
-mul_move_bytes_2 : tie.Need-overflow-mul-move-bytes-2
+mul_move_bytes_2 : tie.Need-overflow_mul-at-2
 mul_move_bytes_2 c = search rules
 
-sub_move_bytes : tie.Need-overflow-sub-move-bytes
+sub_move_bytes : tie.Need-overflow_sub-last-2
 sub_move_bytes c = search rules
 
-mul_move_bytes_3 : tie.Need-overflow-mul-move-bytes-3
+mul_move_bytes_3 : tie.Need-overflow_mul-last
 mul_move_bytes_3 c = search rules
 
-move_bytes_requires : tie.Need-move-bytes-requires
+move_bytes_requires : tie.Need-move_bytes-requires
 move_bytes_requires c κs = search rules
 
-mul_clear_bytes : tie.Need-overflow-mul-clear-bytes
+mul_clear_bytes : tie.Need-overflow_mul-last-2
 mul_clear_bytes c = search rules
 
-clear_bytes_requires : tie.Need-clear-bytes-requires
+clear_bytes_requires : tie.Need-clear_bytes-requires
 clear_bytes_requires c κs = search rules
 
-same_length : tie.Need-same-length
+same_length : tie.Need-shape_of-table
 same_length c = search rules
 
 returns : tie.Need-returns

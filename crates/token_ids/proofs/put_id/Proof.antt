@@ -6,28 +6,28 @@ use borrow.Author.Rules.{rules}
 use Rattle.token_ids.proofs.put_id.Statement.{statement}
 use Rattle.token_ids.proofs.put_id.Tie as tie
 
-mul_q : tie.Need-overflow-mul-q
+mul_q : tie.Need-overflow_mul-q
 mul_q c = search rules
 
-add_e : tie.Need-overflow-add-e
+add_e : tie.Need-overflow_add-e
 add_e c = search rules
 
-mul_copy_bytes : tie.Need-overflow-mul-copy-bytes
+mul_copy_bytes : tie.Need-overflow_mul-i
 mul_copy_bytes c = search rules
 
-sub_copy_bytes : tie.Need-overflow-sub-copy-bytes
+sub_copy_bytes : tie.Need-slice_bounds-copy_bytes-count
 sub_copy_bytes c = search rules
 
-part_copy_bytes_start : tie.Need-slice-bounds-copy-bytes-start
+part_copy_bytes_start : tie.Need-slice_bounds-copy_bytes-start
 part_copy_bytes_start c = search rules
 
-part_copy_bytes_end : tie.Need-slice-bounds-copy-bytes-end
+part_copy_bytes_end : tie.Need-slice_bounds-copy_bytes-end
 part_copy_bytes_end c = search rules
 
-copy_bytes_requires : tie.Need-copy-bytes-requires
+copy_bytes_requires : tie.Need-copy_bytes-requires
 copy_bytes_requires c κs = search rules
 
-same_length : tie.Need-same-length
+same_length : tie.Need-shape_of-table
 same_length c = search rules
 
 returns : tie.Need-returns
