@@ -37,7 +37,7 @@ makes_keeps input p t out r t' out' g m s₀ d S =
     let bytes : List ℕ = waiting p.at p.have input in
     let D = made_delivered 2 s₀ d bytes p.made t S.delivered m.calls m.bytes m.stand in
     let wait : drop m.bytes bytes ≡ waiting r.at r.have input
-    = sym (waiting_less p.at p.have m.bytes input m.within g) ∙ (λ i. waiting (sym m.at-is i) (sym m.have_is i) input) in
+    = sym (waiting_less p.at p.have m.bytes input m.within g) ∙ (λ i. waiting (sym m.at_is i) (sym m.have_is i) input) in
     on s₀ d r input t'
     (record {
       delivered = subst (λ (l : List ℕ). Delivered 2 s₀ d l r.made t') wait

@@ -83,11 +83,11 @@ module _ (E : Edition) (ids : Parent → List ℕ) (b : Index) (p : Parent) wher
 
     pub tally_counts : tally_by E ids b p ≡ Counts (figures (entries_of E ids b (boxes p)))
     unfolding tally_of tally_core
-    tally_counts = rw (c.fits, c.in_order, c.not-below, c.rows) (ap (λ (l : List ℤ). Counts (figures l)) (sym entries_are))
+    tally_counts = rw (c.fits, c.in_order, c.not_below, c.rows) (ap (λ (l : List ℤ). Counts (figures l)) (sym entries_are))
 
     pub page_shows : (offset n : ℕ) (out : List ℤ)
         → page_of E (ids p) own.head x.staged_counts x.staged x.table_counts x.table own.places offset n out ≡ page_listed (unspent_newest_first (entries_of E ids b (boxes p))) offset n out
     unfolding page_of
     page_shows offset n out =
-        let core = page_of_entries E w own.head.spills (take own.head.len own.places) c.numbers (record { ordered = c.in_order; counted = c.not-below; read = c.rows }) offset n out in
+        let core = page_of_entries E w own.head.spills (take own.head.len own.places) c.numbers (record { ordered = c.in_order; counted = c.not_below; read = c.rows }) offset n out in
         rw c.fits (ap (λ (y : Paging). cond (leb page_places (length out)) y (paging (Refused 25) out)) (core ∙ ap (λ (l : List ℤ). page_from l offset n out) (sym entries_are)))

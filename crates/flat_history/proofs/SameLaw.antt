@@ -223,15 +223,15 @@ module _ (p : Parent) (X Y : Lawful p) (few : (σ : Y.M.Store) → Y.Good σ →
   next c f (call a) T h A R o C N K =
       let same = call_alike c f T a o N K in
       let st = stands c f (call a) T.standing same in
-      let u = Hi.one-step M X.U X.Good X.Tidy X.GoodB X.laws c (call a) T.inM A R C in
-      let v = Hi.one-step F Y.U Y.Good Y.Tidy Y.GoodB Y.laws f (call a) T.inF (may_call c.phase f.phase h A.0, subst (λ (n : ℕ). Mc.Args n a) sized A.1) (subst Rules st R) (λ ch n q. all ch n) in
+      let u = Hi.one_step M X.U X.Good X.Tidy X.GoodB X.laws c (call a) T.inM A R C in
+      let v = Hi.one_step F Y.U Y.Good Y.Tidy Y.GoodB Y.laws f (call a) T.inF (may_call c.phase f.phase h A.0, subst (λ (n : ℕ). Mc.Args n a) sized A.1) (subst Rules st R) (λ ch n q. all ch n) in
       record {
         same = inr same;
         both = record { inM = u.0; inF = v.0; standing = st };
         behind = inl (called p Y f a (Mc.run_call F f.now a) ∙ sym (called p X c a (Mc.run_call M c.now a)));
       }
   next c f undo T h A R o C N K =
-      let u = Hi.one-step M X.U X.Good X.Tidy X.GoodB X.laws c undo T.inM A R C in
+      let u = Hi.one_step M X.U X.Good X.Tidy X.GoodB X.laws c undo T.inM A R C in
       let v = Hi.undo_newest F Y.U Y.Good Y.Tidy Y.GoodB Y.laws f f.standing refl T.inF in
       let same : Mc.answer_to M c undo ≡ Mc.answer_to F f undo =
       undo_said p X c c.standing u.1 N ∙ ap newest_answer T.standing ∙ sym (undo_said p Y f f.standing v.1 K) in
@@ -241,8 +241,8 @@ module _ (p : Parent) (X Y : Lawful p) (few : (σ : Y.M.Store) → Y.Good σ →
         behind = inl (newest_phase p Y f f.standing (λ q. A.1 (T.standing ∙ q)) ∙ sym (newest_phase p X c c.standing A.1));
       }
   next c f flush T h A R o C N K =
-      let u = Hi.one-step M X.U X.Good X.Tidy X.GoodB X.laws c flush T.inM A R C in
-      let v = Hi.one-step F Y.U Y.Good Y.Tidy Y.GoodB Y.laws f flush T.inF tt (subst Rules (sym (step_told F f flush)) T.inF.rules) (λ ch n q. all ch n) in
+      let u = Hi.one_step M X.U X.Good X.Tidy X.GoodB X.laws c flush T.inM A R C in
+      let v = Hi.one_step F Y.U Y.Good Y.Tidy Y.GoodB Y.laws f flush T.inF tt (subst Rules (sym (step_told F f flush)) T.inF.rules) (λ ch n q. all ch n) in
       record {
         same = inl refl;
         both = record { inM = u.0; inF = v.0; standing = step_told M c flush ∙ T.standing ∙ sym (step_told F f flush) };

@@ -81,7 +81,7 @@ module _ (lim cap : ℕ) where
   cuts (x ∷ ts) l g n p h =
       let v = pos_of x.1 p.0 in
       let there : AN l x.0 ≡ (AN l x.0 - suc v.0) + suc v.0 = omega (arith, h x.0, sum_here x.0 x ts refl, ap nat_abs v.1) in
-      let q = Tl.sub-one lim cap l x.0 v.0 g n (AN l x.0 - suc v.0) there in
+      let q = Tl.sub_one lim cap l x.0 v.0 g n (AN l x.0 - suc v.0) there in
       let r = cuts ts q.0 q.2.good q.2.len p.1 (λ u. cut_le v.0 q.2 there x.1 v.1 u (sum_n u ts) (id_dec x.0 u) (h u)) in
       record {
         left = r.left;

@@ -121,7 +121,7 @@ module _ (E : St.Env) (code : Coded E) where
     where
       size : Dec (staged_cap ≤ length σ.staging) → ((staged_cap ≤ length σ.staging) × Tb.Lacks Row Key Key-Dec (Tb.lookup Row Key Key-Dec σ.staging k) → ⊥) → length (put σ.staging k l) ≤ staged_cap
       size (yes q) a = omega (arith, Tb.length_put_has Row Key Key-Dec σ.staging k l (λ z. a (q, z)))
-      size (no q) a = omega (arith, q, Tb.length-put Row Key Key-Dec σ.staging k l)
+      size (no q) a = omega (arith, q, Tb.length_put Row Key Key-Dec σ.staging k l)
 
   pub stage_refused : (σ : Store) (k : Key) (l : Row) (j : ℕ) → stage σ k l ≡ refused j → (j ≡ 16) × StagingFull σ
   stage_refused σ k l j h =

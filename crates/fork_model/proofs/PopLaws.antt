@@ -81,7 +81,7 @@ module _ (E : St.Env) (code : Coded E) (U : Series → ℕ → Type 0) (apart : 
       small = λ d. ite_both (Small lim) (series_dec ch d) f (σ.heads d) little (G.small d);
       one_staged = Tb.distinct_remove Row Key Key-Dec σ.staging (key ch s) G.one_staged;
       one_table = G.one_table;
-      cap_staged = omega (arith, G.cap_staged, Tb.length-remove Row Key Key-Dec σ.staging (key ch s));
+      cap_staged = omega (arith, G.cap_staged, Tb.length_remove Row Key Key-Dec σ.staging (key ch s));
       cap_table = G.cap_table;
       cap_deleted = add_size (key ch s) σ.deletion G.cap_deleted ok (Tb.in_dec Row Key Key-Dec (key ch s) σ.deletion);
     };

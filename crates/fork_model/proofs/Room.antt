@@ -39,7 +39,7 @@ module _ (E : St.Env) (code : Gs.Coded E) where
   more_staged n σ τ R h p q = record { rows = omega (arith, R.rows, ap length p); deleted = omega (arith, R.deleted, ap length q) }
 
   stage_length : (σ : Store) (k : Key) (l : Row) (t : St.Table E) → St.stage E σ k l ≡ done t → length t ≤ suc (length σ.staging)
-  stage_length σ k l t e = omega (arith, ap length (Gs.stage_done E code σ k l t e), Tb.length-put Row Key Key-Dec σ.staging k l)
+  stage_length σ k l t e = omega (arith, ap length (Gs.stage_done E code σ k l t e), Tb.length_put Row Key Key-Dec σ.staging k l)
 
   -- ---- append: refused only where the number of rows is the greatest or staging is full
   module _ (σ : Store) (ch : Series) (m : ℕ) where
@@ -100,7 +100,7 @@ module _ (E : St.Env) (code : Gs.Coded E) where
         ite_cases (both (dec_le deleted_cap (length σ.deletion)) (not_dec (Tb.in_dec Row Key Key-Dec (key ch s) σ.deletion))) (refused 21) (done (record { left = St.merged E σ ch s f; value = v })) (done x) h
         (λ a b. absurd (done≢refused (sym b)))
         (λ a b. subst (λ (y : Popped Store). Room (suc n) y.left) (done_is b)
-        (record { rows = omega (arith, R.rows, Tb.length-remove Row Key Key-Dec σ.staging (key ch s)); deleted = omega (arith, R.deleted, add_length (key ch s) σ.deletion) }))
+        (record { rows = omega (arith, R.rows, Tb.length_remove Row Key Key-Dec σ.staging (key ch s)); deleted = omega (arith, R.deleted, add_length (key ch s) σ.deletion) }))
 
     pop_merge : (s : ℕ) (X : Res (List ℤ)) → St.merge_out E σ ch s X ≡ done x → Room (suc n) x.left
     pop_merge s (refused k) h = absurd (done≢refused (sym h))

@@ -165,15 +165,15 @@ module _ (E : Edition) (ids : Parent → List ℕ) (L : EditionLaws E ids) (caps
 
     pub append_same : (n : ℤ) → map_res abs (result_of (do_append E ids b ch n)) ≡ St.append_store W (abs b) ch n
     unfolding append_of append_core
-    append_same (negsuc k) = rw (ok, I.not-below ch)
-    append_same (pos m) = rw (ok, I.not-below ch) (by_len m (ltb len 512) refl)
+    append_same (negsuc k) = rw (ok, I.not_below ch)
+    append_same (pos m) = rw (ok, I.not_below ch) (by_len m (ltb len 512) refl)
 
     -- ---- and keeps what holds
     inv_part : (v : Part) (d : ListCounts) (m : List ℕ) → head_ok v.head v.places ≡ true → is_negative v.head.spills ≡ false → nat_abs v.head.spills ≤ 2147483647
         → RecordsOk E.size E.limit d m → d.capacity ≡ c.capacity → S.Inv E ids caps (index (set_part b.parts ch v) (with_staged d m b.lists))
     inv_part v d m x y z t q = record {
       heads_in = all_set (λ q. head_ok q.head q.places ≡ true) b.parts ch v x I.heads_in;
-      not-below = all_set (λ q. is_negative q.head.spills ≡ false) b.parts ch v y I.not-below;
+      not-below = all_set (λ q. is_negative q.head.spills ≡ false) b.parts ch v y I.not_below;
       spills_in = all_set (λ q. nat_abs q.head.spills ≤ 2147483647) b.parts ch v z I.spills_in;
       lists_in = fit_lists E (with_staged d m b.lists) (record { in_staged = t; in_table = lf.in_table; in_deleted = lf.in_deleted });
       table_at = I.table_at;
@@ -192,7 +192,7 @@ module _ (E : Edition) (ids : Parent → List ℕ) (L : EditionLaws E ids) (caps
         let v : Part = part (counts_of (len + 1) p.head.spills) (set p.places len n) in
         let x : Index = index (set_part b.parts ch v) (with_staged c l b.lists) in
         let q : x ≡ d = cc in
-        rw (← q) (inv_part v c l (fit_head v (omega arith) (rw length-set hf.places_in)) (I.not-below ch) (I.spills_in ch) lf.in_staged refl)
+        rw (← q) (inv_part v c l (fit_head v (omega arith) (rw length-set hf.places_in)) (I.not_below ch) (I.spills_in ch) lf.in_staged refl)
 
     spill_keeps : (n : ℤ) → len ≡ 512 → spills < 2147483647 → full_for E.size c key l ≡ false → Keeps (spill n)
     unfolding spilled
@@ -223,4 +223,4 @@ module _ (E : Edition) (ids : Parent → List ℕ) (L : EditionLaws E ids) (caps
 
     pub append_inv : (n : ℤ) (d : Index) → result_of (do_append E ids b ch n) ≡ done d → S.Inv E ids caps d
     unfolding append_of append_core
-    append_inv n d e = keeps_sign n (is_negative n) d (rw (ok, I.not-below ch) at e)
+    append_inv n d e = keeps_sign n (is_negative n) d (rw (ok, I.not_below ch) at e)

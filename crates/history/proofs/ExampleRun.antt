@@ -128,7 +128,7 @@ module _ (E : Edition) (ids : Parent → List ℕ) (L : EditionLaws E ids) (B : 
 
     stands_on : (x : Step) (ds : List Call) (g : Phase) (m : ℕ) → Mc.Allowed M c x → (v : Moves c x ds g m) → Rules ds → Within ds → Stands v.after ds g m
     stands_on x ds g m a v R w = record {
-      inv = subst Inv v.is (Hi.one-step M FirstRow Fine Tidy GoodB laws c x S.inv a (subst (λ (y : Conf). Rules y.standing) (sym v.is) R)
+      inv = subst Inv v.is (Hi.one_step M FirstRow Fine Tidy GoodB laws c x S.inv a (subst (λ (y : Conf). Rules y.standing) (sym v.is) R)
           (λ ch s h. w ch s (subst (λ (y : Conf). Mc.Needs M y ch s) v.is h))).0;
       room = v.room;
     }

@@ -146,7 +146,7 @@ module _ (E : Edition) (ids : Parent → List ℕ) (L : EditionLaws E ids) (caps
         → S.Inv E ids caps (index (set_part b.parts (boxes p) v) (with_staged d l x))
     inv_part v d l y h t e = record {
       heads_in = all_set (λ z. head_ok z.head z.places ≡ true) b.parts (boxes p) v y I.heads_in;
-      not-below = all_set (λ z. is_negative z.head.spills ≡ false) b.parts (boxes p) v (rw h (I.not-below (boxes p))) I.not-below;
+      not-below = all_set (λ z. is_negative z.head.spills ≡ false) b.parts (boxes p) v (rw h (I.not_below (boxes p))) I.not_below;
       spills_in = all_set (λ z. nat_abs z.head.spills ≤ 2147483647) b.parts (boxes p) v (rw h (I.spills_in (boxes p))) I.spills_in;
       lists_in = fit_lists E (with_staged d l x) (record { in_staged = t; in_table = lf.in_table; in_deleted = lf.in_deleted });
       table_at = I.table_at;
@@ -366,7 +366,7 @@ module _ (E : Edition) (ids : Parent → List ℕ) (L : EditionLaws E ids) (caps
       effect_does : Does (flip_effect E w cap d z q.head.spills heads) (ite (dec_le 9223372036854775808 (nat_abs z)) (refused 9) (St.flip_store W (abs b) (boxes p) e₁))
       unfolding flip_effect
       effect_does =
-          rw (I.not-below (boxes p))
+          rw (I.not_below (boxes p))
           (to (by_large (leb 9223372036854775808 (nat_abs z)) (cond (order_ok heads) (in_order E w cap (nat_abs z) (spends d) spills heads) (refuse 10)) (St.flip_store W (abs b) (boxes p) e₁)
           (to (by_order (order_ok heads)) (ap (λ (u : Bool). when_b u (St.head_flipped W (abs b) (boxes p) e₁ (flip_first e₁ heads)) (refused 10)) (order_same 0 heads small))))
           (sym (ite_le 9223372036854775808 (nat_abs z) (dec_le 9223372036854775808 (nat_abs z)) (refused 9) (St.flip_store W (abs b) (boxes p) e₁))))

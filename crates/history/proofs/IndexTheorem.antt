@@ -68,10 +68,10 @@ module _ (E : Edition) (ids : Parent → List ℕ) (L : EditionLaws E ids) (B : 
   again : (ch : Series) (n : ℕ) (row : List ℕ) (l new : List ℤ) → n < 2147483647 → to_res (E.decode (kind_of ch) (id_of E ids ch) (pos n) row) ≡ done l → length new ≤ 512 → Small new
       → to_res (E.decode (kind_of ch) (id_of E ids ch) (pos n) (S.redone E ids caps ch n row new)) ≡ done new
   again (boxes p) n row l new u e h sm = ap to_res (L.redo_decode p n row l new u (Fp.good_of (E.decode Box (ids p) (pos n) row) l e) h sm)
-  again (txs p) n row l new u e h sm = ap to_res (L.decode-encode Tx p n new u h sm)
+  again (txs p) n row l new u e h sm = ap to_res (L.decode_encode Tx p n new u h sm)
 
   pub code : Gs.Coded W
-  code = record { plain = λ ch n l u h sm. ap to_res (L.decode-encode (kind_of ch) (parent_of ch) n l u h sm); again = again }
+  code = record { plain = λ ch n l u h sm. ap to_res (L.decode_encode (kind_of ch) (parent_of ch) n l u h sm); again = again }
 
   abbrev pub M : Mc.Machine
   M = Wh.machine W Q
@@ -153,7 +153,7 @@ module _ (E : Edition) (ids : Parent → List ℕ) (L : EditionLaws E ids) (B : 
   sound_of U b I G = record {
     heads = I.heads_in;
     lists = I.lists_in;
-    counts = I.not-below;
+    counts = I.not_below;
     rows = λ ch n h. let g = G.full ch n h in (g.0, Po.read_same E ids caps b ch n ∙ g.1, g.2);
   }
 

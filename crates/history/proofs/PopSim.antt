@@ -177,7 +177,7 @@ module _ (E : Edition) (ids : Parent → List ℕ) (L : EditionLaws E ids) (caps
         → ListsFit E y → S.Inv E ids caps (index (set_part b.parts ch v) y)
     inv_part v y h n z e₁ e₂ e₃ t = record {
       heads_in = all_set (λ q. head_ok q.head q.places ≡ true) b.parts ch v h I.heads_in;
-      not-below = all_set (λ q. is_negative q.head.spills ≡ false) b.parts ch v n I.not-below;
+      not-below = all_set (λ q. is_negative q.head.spills ≡ false) b.parts ch v n I.not_below;
       spills_in = all_set (λ q. nat_abs q.head.spills ≤ 2147483647) b.parts ch v z I.spills_in;
       lists_in = fit_lists E y t;
       table_at = e₁ ∙ I.table_at;
@@ -290,14 +290,14 @@ module _ (E : Edition) (ids : Parent → List ℕ) (L : EditionLaws E ids) (caps
 
     pub pop_same : map_res (map_pop abs) (result_of (do_pop E ids b ch)) ≡ St.pop_store W (abs b) ch
     unfolding pop_of pop_core
-    pop_same = rw (ok, I.not-below ch) (by_len (ltb 0 len) refl)
+    pop_same = rw (ok, I.not_below ch) (by_len (ltb 0 len) refl)
 
     last_keeps : 0 < len → Keeps last
     last_keeps h d e =
         let v : Part = part (counts_of (len - 1) p.head.spills) (without_last len p.places) in
         let z : Index = index (set_part b.parts ch v) x in
         let q : z ≡ d.left = cc in
-        rw (← q) (inv_part v x (fit_head v (omega (arith, hf.len_in)) (rw length-set hf.places_in)) (I.not-below ch) (I.spills_in ch) refl refl refl lf)
+        rw (← q) (inv_part v x (fit_head v (omega (arith, hf.len_in)) (rw length-set hf.places_in)) (I.not_below ch) (I.spills_in ch) refl refl refl lf)
 
     keeps_spills : (n : ℕ) (t : Bool) → n ≤ 2147483647 → Keeps (cond t (no_pop 19) (unspill n))
     unfolding unspill_of
@@ -310,4 +310,4 @@ module _ (E : Edition) (ids : Parent → List ℕ) (L : EditionLaws E ids) (caps
 
     pub pop_inv : (d : Mc.Popped Index) → result_of (do_pop E ids b ch) ≡ done d → S.Inv E ids caps d.left
     unfolding pop_of pop_core
-    pop_inv d e = keeps_len (ltb 0 len) refl d (rw (ok, I.not-below ch) at e)
+    pop_inv d e = keeps_len (ltb 0 len) refl d (rw (ok, I.not_below ch) at e)

@@ -206,7 +206,7 @@ module _ (E : Edition) (ids : Parent → List ℕ) (L : EditionLaws E ids) (B : 
         let a = allowed c x l.0 in
         let r : Rules d.standing = subst (λ (y : Mc.Conf N). Rules y.standing) (sym S.state) l.1 in
         let covers : (ch : Series) (n : ℕ) → Mc.InUse N (down d) ss ch n → U ch n = λ ch n h. C ch n (inr (subst (λ (y : Mc.Conf N). Mc.InUse N y ss ch n) S.state h)) in
-        let o = Hi.one-step K U _ _ _ (Th.kept_laws E ids L B s Z U apart) c x I a r (λ ch n h. covers ch n (Hi.first N U (λ σ. ⊥) (λ σ. ⊥) (λ σ. ⊥) ss (down d) ch n h)) in
+        let o = Hi.one_step K U _ _ _ (Th.kept_laws E ids L B s Z U apart) c x I a r (λ ch n h. covers ch n (Hi.first N U (λ σ. ⊥) (λ σ. ⊥) (λ σ. ⊥) ss (down d) ch n h)) in
         let T = same_from ss d o.0 (subst (λ (y : Mc.Conf N). Mc.Legal N y ss) (sym S.state) l.2) covers in
         record {
           legal = (a, r, T.legal);

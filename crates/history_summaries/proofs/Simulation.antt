@@ -134,7 +134,7 @@ module _ (E : Edition) (ids : Parent → List ℕ) (L : EditionLaws E ids) (B : 
       append_keeps : AllRight E ids lines c
       append_keeps q = append_right E ids L lines b c ch n q (R q) (append_done E ids lines b c ch n e q) (λ w. record {
         short = L.encode_length (kind_of ch) (parent_of ch) (count ch) (take 512 places) w.below few (head_small w.was_full);
-        back = λ g. L.decode-encode (kind_of ch) (parent_of ch) (count ch) (take 512 places) w.below few (head_small w.was_full);
+        back = λ g. L.decode_encode (kind_of ch) (parent_of ch) (count ch) (take 512 places) w.below few (head_small w.was_full);
         apart = λ t h k. new_apart q w t h k (series_dec ch (boxes q)) (ℕ_discrete (count ch) t);
       })
 

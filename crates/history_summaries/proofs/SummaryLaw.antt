@@ -48,7 +48,7 @@ module _ (v : RowEdition) (ids : Parent → List ℕ) (long : (p : Parent) → l
       Ri.current E ids lines c q (Ri.checks E ids lines c q pass) (append_right E ids L lines b c ch n q (Ri.right E ids lines b q cur) D
       (λ w. record {
         short = encode_short v (kind_of ch) (ids (parent_of ch)) (long (parent_of ch)) s (omega (arith, w.below)) zs (few (b.index.parts ch).places);
-        back = λ g. L.decode-encode (kind_of ch) (parent_of ch) s zs w.below (few (b.index.parts ch).places) (current_small E ids lines b ch q cur g w.was_full);
+        back = λ g. L.decode_encode (kind_of ch) (parent_of ch) s zs w.below (few (b.index.parts ch).places) (current_small E ids lines b ch q cur g w.was_full);
         apart = λ t h k. after ch (boxes q) s t (omega (arith, w.one_more)) h k;
       }))
 

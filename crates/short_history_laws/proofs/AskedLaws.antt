@@ -298,7 +298,7 @@ module _ (E : Edition) (ids : Parent → List ℕ) (L : EditionLaws E ids) (B : 
         let uncovered : (ch : Series) (n : ℕ) → Mc.Needs M (Mc.step M c (step_of k)) ch n → ⊥
         = λ ch n q. omega (arith, q, most (Mc.step M c (step_of k)).standing ch, ap length x.1.0, less_then k js, h) in
         record {
-          inv = (Hi.one-step M None Fine Tidy (Is.GoodB E ids L B s) (Is.laws E ids L B s) c (step_of k) T.inv x.0.allowed x.0.rules_then uncovered).0;
+          inv = (Hi.one_step M None Fine Tidy (Is.GoodB E ids L B s) (Is.laws E ids L B s) c (step_of k) T.inv x.0.allowed x.0.rules_then uncovered).0;
           bare = x.1.2;
           standing = x.1.0;
           phase = x.1.1;

@@ -95,7 +95,7 @@ module _ (E : Edition) (parent : List ℕ) (h : HeadCounts) (lines : ℕ) (S : L
         by_ok true a true true e x = absurd x
         by_ok true a true false e x =
             let k = core_took E Box parent h number c head staged a x in
-            record { plain = core_is a; summary = made_line core.answer x; free = line_free e k.not-below k.positive core k.kind_of_append }
+            record { plain = core_is a; summary = made_line core.answer x; free = line_free e k.not_below k.positive core k.kind_of_append }
 
     -- the append without a summary, or 36
     module _ (long : lines_ok lines S ≡ true) (room : nat_abs h.spills ≤ lines) where

@@ -79,13 +79,13 @@ module _ (E : Edition) (parent : List ℕ) (h : HeadCounts) (c : ListCounts) (st
     over_lines : ((i : ℕ) (zs : List ℤ) → i < k → row_checked E w i ≡ good zs → line_at S i ≡ line_of zs) → tally_lines_of h head lines S ≡ total
     unfolding tally_lines_of tally_lines
     over_lines right =
-        rw (and_true (head_ok h head) (lines_ok lines S) (head_in p.checks.fits) (le-leb (lines * 5) (length S) p.long), p.checks.in_order, p.checks.not-below, le-ltb lines k p.room)
+        rw (and_true (head_ok h head) (lines_ok lines S) (head_in p.checks.fits) (le-leb (lines * 5) (length S) p.long), p.checks.in_order, p.checks.not_below, le-ltb lines k p.room)
         (lines_added (row_checked E w) (λ i. checked_512 (spill_read E _ w i)) S 0 k (figures (take h.len head)) p.checks.numbers (λ i zs a b r. right i zs (omega arith) r) p.checks.rows)
 
     over_rows : tally_of E parent h c staged e table head ≡ total
     unfolding tally_of tally_core
     over_rows =
-        rw (p.checks.fits, p.checks.in_order, p.checks.not-below, p.checks.rows)
+        rw (p.checks.fits, p.checks.in_order, p.checks.not_below, p.checks.rows)
         (ap Counts (figures_append p.checks.numbers (take h.len head) ∙ plus_comm (figures p.checks.numbers) (figures (take h.len head))))
 
     pub tally_plain : ((i : ℕ) (zs : List ℤ) → i < k → row_checked E w i ≡ good zs → line_at S i ≡ line_of zs)

@@ -35,7 +35,7 @@ returns c =
     let m = c.run.ensures in
     let h : r.have ≤ 65536 = omega (arith, m.have_is, f.requires.1) in
     let k : r.made ≤ p.made + 1024 = omega (arith, m.made_is, m.few) in
-    let l : r.at ≤ r.have = omega (arith, m.at-is, m.have_is, m.within) in
+    let l : r.at ≤ r.have = omega (arith, m.at_is, m.have_is, m.within) in
     (l, h, k, makes_keeps _ p _ _ r _ _ (omega (arith, f.requires.1, c.before.before.before.before.before.before.before.before.before.before.before.run_arg2.given)) m)
 
 returns-2 : tie.Need-returns-2
