@@ -23,10 +23,10 @@ use Rattle.fork_model.proofs.GoodStore.{ite_both, Small, small_snoc, small_one, 
 use Rattle.fork_model.proofs.GoodStore as Gs
 
 module _ (E : St.Env) (code : Coded E) (U : Series → ℕ → Type 0) (apart : (d e : Series) (s t : ℕ) → U d s → U e t → E.key d s ≡ E.key e t → (d ≡ e) × (s ≡ t)) where
-  open E use {r, lim, Key, Key-Dec, key, Row, enc, staged_cap, max_count}
+  open E use {r, lim, Key, key_dec, key, Row, enc, staged_cap, max_count}
 
   abbrev put : St.Table E → Key → Row → St.Table E
-  put t k l = Tb.put Row Key Key-Dec t k l
+  put t k l = Tb.put Row Key key_dec t k l
 
   abbrev Good : St.Store E → Type 0
   Good σ = Gs.Good E code U σ
@@ -62,11 +62,11 @@ module _ (E : St.Env) (code : Coded E) (U : Series → ℕ → Type 0) (apart : 
       full = λ d s l. Gs.full_put E code U σ.staging σ.table ch d (σ.counts ch) s (key ch (σ.counts ch)) (key d s) (σ.heads ch) free size (G.small ch)
           (⊎_elim (λ a. inl (G.full d s a.0, a.1)) (λ a. inr (a.0, sym a.1, named d s a)) (at d s l));
       used = λ d s l. ⊎_elim (λ a. G.used d s a.0) (λ a. subst (λ (x : Series). U x s) a.0 (subst (U ch) (sym a.1) u)) (at d s l);
-      kept = λ d s l i. subst (Tb.In Row Key Key-Dec (key d s)) td i;
+      kept = λ d s l i. subst (Tb.In Row Key key_dec (key d s)) td i;
       counted = λ d. ite_both (λ (x : ℕ). x ≤ max_count) (series_dec ch d) (suc (σ.counts ch)) (σ.counts d) (omega (arith, free)) (G.counted d);
       fits = λ d. ite_both (λ (x : List ℤ). length x ≤ suc r) (series_dec ch d) (pos m ∷ []) (σ.heads d) (omega arith) (G.fits d);
       small = λ d. ite_both (Small lim) (series_dec ch d) (pos m ∷ []) (σ.heads d) (small_one lim m v) (G.small d);
-      one_staged = Tb.distinct_put Row Key Key-Dec σ.staging (key ch (σ.counts ch)) (enc ch (σ.counts ch) (σ.heads ch)) G.one_staged;
+      one_staged = Tb.distinct_put Row Key key_dec σ.staging (key ch (σ.counts ch)) (enc ch (σ.counts ch) (σ.heads ch)) G.one_staged;
       one_table = G.one_table;
       cap_staged = cap;
       cap_table = G.cap_table;

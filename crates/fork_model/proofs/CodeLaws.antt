@@ -72,10 +72,10 @@ module _ (rd : ℕ → Res (List ℤ)) (n : ℕ) (reads : (s : ℕ) → s < n �
 
 -- ---- the store of tables
 module _ (E : St.Env) (code : Coded E) (U : Series → ℕ → Type 0) (σ : St.Store E) (G : Gs.Good E code U σ) where
-  open E use {r, lim, Key, Key-Dec, key, Row, enc, table_cap, staged_cap, max_count}
+  open E use {r, lim, Key, key_dec, key, Row, enc, table_cap, staged_cap, max_count}
 
   stage_not : (k : Key) (l : Row) → Not25 (St.stage E σ k l)
-  stage_not k l = ite_both Not25 (both (dec_le staged_cap (length σ.staging)) (Tb.lacks_dec Row Key Key-Dec (Tb.lookup Row Key Key-Dec σ.staging k))) (refused 16) (done (Tb.put Row Key Key-Dec σ.staging k l)) (λ e. omega arith) tt
+  stage_not k l = ite_both Not25 (both (dec_le staged_cap (length σ.staging)) (Tb.lacks_dec Row Key key_dec (Tb.lookup Row Key key_dec σ.staging k))) (refused 16) (done (Tb.put Row Key key_dec σ.staging k l)) (λ e. omega arith) tt
 
   pub append_not : (ch : Series) (n : ℤ) → Not25 (St.append_store E σ ch n)
   append_not ch (negsuc k) = λ e. omega arith
@@ -113,7 +113,7 @@ module _ (E : St.Env) (code : Coded E) (U : Series → ℕ → Type 0) (σ : St.
   spend_not p t = ite_both Not25 (dec_le lim (nat_abs t)) (refused 9) (St.flip_store E σ (boxes p) (pos (nat_abs t))) (λ e. omega arith) (flip_not (boxes p) (pos (nat_abs t)))
 
   pub flush_not : Not25 (St.flush_store E σ)
-  flush_not = ite_both Not25 (dec_lt table_cap (length σ.table + Tb.fresh Row Key Key-Dec σ.staging σ.deletion σ.table)) (refused 22) (done (St.flushed E σ)) (λ e. omega arith) tt
+  flush_not = ite_both Not25 (dec_lt table_cap (length σ.table + Tb.fresh Row Key key_dec σ.staging σ.deletion σ.table)) (refused 22) (done (St.flushed E σ)) (λ e. omega arith) tt
 
 -- ---- balances as lists of tokens
 module _ (lim cap : ℕ) where

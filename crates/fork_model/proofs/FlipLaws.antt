@@ -24,7 +24,7 @@ use Rattle.fork_model.proofs.GoodStore.{Small, small_split, FullRow, full_length
 use Rattle.fork_model.proofs.GoodStore as Gs
 
 module _ (E : St.Env) (code : Coded E) (U : Series → ℕ → Type 0) (apart : (d e : Series) (s t : ℕ) → U d s → U e t → E.key d s ≡ E.key e t → (d ≡ e) × (s ≡ t)) where
-  open E use {r, lim, Key, Key-Dec, key, Row, dec, staged_cap}
+  open E use {r, lim, Key, key_dec, key, Row, dec, staged_cap}
 
   abbrev Good : St.Store E → Type 0
   Good σ = Gs.Good E code U σ
@@ -45,17 +45,17 @@ module _ (E : St.Env) (code : Coded E) (U : Series → ℕ → Type 0) (apart : 
     pub split : Split e (St.entries E σ ch) (St.entries E τ ch)
     pub beside : Gs.Beside E code U ch σ τ
 
-  flip_row : (σ : St.Store E) (ch : Series) (e : ℤ) (s : ℕ) (row new : List ℤ) → Good σ → s < σ.counts ch → St.store_row E σ ch s ≡ done row → flip_first e row ≡ found new → length (Tb.put Row Key Key-Dec σ.staging (key ch s) (St.redone E σ ch s new)) ≤ staged_cap
-      → Flipped σ ch e (St.with_staging E σ (Tb.put Row Key Key-Dec σ.staging (key ch s) (St.redone E σ ch s new)))
+  flip_row : (σ : St.Store E) (ch : Series) (e : ℤ) (s : ℕ) (row new : List ℤ) → Good σ → s < σ.counts ch → St.store_row E σ ch s ≡ done row → flip_first e row ≡ found new → length (Tb.put Row Key key_dec σ.staging (key ch s) (St.redone E σ ch s new)) ≤ staged_cap
+      → Flipped σ ch e (St.with_staging E σ (Tb.put Row Key key_dec σ.staging (key ch s) (St.redone E σ ch s new)))
   flip_row σ ch e s row new G b a h cap = record {
     good = record {
-      full = λ d t l. Gs.full_put_any E code U σ.staging σ.table ch d s t (key ch s) (key d t) (St.redone E σ ch s new) new reads size little (who d t l (Key-Dec (key ch s) (key d t)));
+      full = λ d t l. Gs.full_put_any E code U σ.staging σ.table ch d s t (key ch s) (key d t) (St.redone E σ ch s new) new reads size little (who d t l (key_dec (key ch s) (key d t)));
       used = G.used;
       kept = G.kept;
       counted = G.counted;
       fits = G.fits;
       small = G.small;
-      one_staged = Tb.distinct_put Row Key Key-Dec σ.staging (key ch s) (St.redone E σ ch s new) G.one_staged;
+      one_staged = Tb.distinct_put Row Key key_dec σ.staging (key ch s) (St.redone E σ ch s new) G.one_staged;
       one_table = G.one_table;
       cap_staged = cap;
       cap_table = G.cap_table;
@@ -70,7 +70,7 @@ module _ (E : St.Env) (code : Coded E) (U : Series → ℕ → Type 0) (apart : 
   }
     where
       τ : St.Store E
-      τ = St.with_staging E σ (Tb.put Row Key Key-Dec σ.staging (key ch s) (St.redone E σ ch s new))
+      τ = St.with_staging E σ (Tb.put Row Key key_dec σ.staging (key ch s) (St.redone E σ ch s new))
 
       sp : Split e row new
       sp = Se.first_split e row new h

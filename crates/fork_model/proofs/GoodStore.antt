@@ -60,13 +60,13 @@ pub record Coded (E : St.Env) : Type 0 where
   pub again : (ch : Series) (s : ℕ) (b : E.Row) (l new : List ℤ) → s < E.max_count → E.dec ch s b ≡ done l → length new ≤ suc E.r → Small E.lim new → E.dec ch s (E.redo ch s b new) ≡ done new
 
 module _ (E : St.Env) (code : Coded E) where
-  open E use {r, lim, Key, Key-Dec, key, Row, enc, dec, redo, table_cap, staged_cap, deleted_cap, max_count}
+  open E use {r, lim, Key, key_dec, key, Row, enc, dec, redo, table_cap, staged_cap, deleted_cap, max_count}
 
   abbrev pub Store : Type 0
   Store = St.Store E
 
   abbrev pub Table : Type 0
-  Table = Tb.Table Row Key Key-Dec
+  Table = Tb.Table Row Key key_dec
 
   abbrev pub entries : Store → Series → List ℤ
   entries σ ch = St.entries E σ ch
@@ -75,16 +75,16 @@ module _ (E : St.Env) (code : Coded E) where
   store_row σ ch s = St.store_row E σ ch s
 
   abbrev pub view : Table → Table → Key → Found Row
-  view a b k = or_else (Tb.lookup Row Key Key-Dec a k) (Tb.lookup Row Key Key-Dec b k)
+  view a b k = or_else (Tb.lookup Row Key key_dec a k) (Tb.lookup Row Key key_dec b k)
 
   abbrev put : Table → Key → Row → Table
-  put t k l = Tb.put Row Key Key-Dec t k l
+  put t k l = Tb.put Row Key key_dec t k l
 
   abbrev pub In : Key → List Key → Type 0
-  In k ks = Tb.In Row Key Key-Dec k ks
+  In k ks = Tb.In Row Key key_dec k ks
 
   abbrev pub Distinct : Table → Type 0
-  Distinct t = Tb.Distinct Row Key Key-Dec t
+  Distinct t = Tb.Distinct Row Key key_dec t
 
   abbrev with_head : Store → Series → List ℤ → Store
   with_head σ ch l = St.with_head E σ ch l
@@ -110,22 +110,22 @@ module _ (E : St.Env) (code : Coded E) where
   -- staging
   pub stage_done : (σ : Store) (k : Key) (l : Row) (t : Table) → stage σ k l ≡ done t → t ≡ put σ.staging k l
   stage_done σ k l t h =
-      ite_cases (both (dec_le staged_cap (length σ.staging)) (Tb.lacks_dec Row Key Key-Dec (Tb.lookup Row Key Key-Dec σ.staging k))) (refused 16) (done (put σ.staging k l)) (done t) h
+      ite_cases (both (dec_le staged_cap (length σ.staging)) (Tb.lacks_dec Row Key key_dec (Tb.lookup Row Key key_dec σ.staging k))) (refused 16) (done (put σ.staging k l)) (done t) h
       (λ a b. absurd (done≢refused (sym b))) (λ a b. let q : put σ.staging k l ≡ t = cc in sym q)
 
   pub stage_size : (σ : Store) (k : Key) (l : Row) (t : Table) → length σ.staging ≤ staged_cap → stage σ k l ≡ done t → length (put σ.staging k l) ≤ staged_cap
   stage_size σ k l t c h =
-      ite_cases (both (dec_le staged_cap (length σ.staging)) (Tb.lacks_dec Row Key Key-Dec (Tb.lookup Row Key Key-Dec σ.staging k))) (refused 16) (done (put σ.staging k l)) (done t) h
+      ite_cases (both (dec_le staged_cap (length σ.staging)) (Tb.lacks_dec Row Key key_dec (Tb.lookup Row Key key_dec σ.staging k))) (refused 16) (done (put σ.staging k l)) (done t) h
       (λ a b. absurd (done≢refused (sym b)))
       (λ a b. size (dec_le staged_cap (length σ.staging)) a)
     where
-      size : Dec (staged_cap ≤ length σ.staging) → ((staged_cap ≤ length σ.staging) × Tb.Lacks Row Key Key-Dec (Tb.lookup Row Key Key-Dec σ.staging k) → ⊥) → length (put σ.staging k l) ≤ staged_cap
-      size (yes q) a = omega (arith, Tb.length_put_has Row Key Key-Dec σ.staging k l (λ z. a (q, z)))
-      size (no q) a = omega (arith, q, Tb.length_put Row Key Key-Dec σ.staging k l)
+      size : Dec (staged_cap ≤ length σ.staging) → ((staged_cap ≤ length σ.staging) × Tb.Lacks Row Key key_dec (Tb.lookup Row Key key_dec σ.staging k) → ⊥) → length (put σ.staging k l) ≤ staged_cap
+      size (yes q) a = omega (arith, Tb.length_put_has Row Key key_dec σ.staging k l (λ z. a (q, z)))
+      size (no q) a = omega (arith, q, Tb.length_put Row Key key_dec σ.staging k l)
 
   pub stage_refused : (σ : Store) (k : Key) (l : Row) (j : ℕ) → stage σ k l ≡ refused j → (j ≡ 16) × StagingFull σ
   stage_refused σ k l j h =
-      ite_cases (both (dec_le staged_cap (length σ.staging)) (Tb.lacks_dec Row Key Key-Dec (Tb.lookup Row Key Key-Dec σ.staging k))) (refused 16) (done (put σ.staging k l)) (refused j) h
+      ite_cases (both (dec_le staged_cap (length σ.staging)) (Tb.lacks_dec Row Key key_dec (Tb.lookup Row Key key_dec σ.staging k))) (refused 16) (done (put σ.staging k l)) (refused j) h
       (λ a b. let q : 16 ≡ j = cc in (sym q, a.0)) (λ a b. absurd (done≢refused b))
 
   module _ (U : Series → ℕ → Type 0) where
@@ -177,10 +177,10 @@ module _ (E : St.Env) (code : Coded E) where
 
     -- a row put into staging
     view_put_same : (a b : Table) (k : Key) (l : Row) → view (put a k l) b k ≡ found l
-    view_put_same a b k l = ap (λ x. or_else x (Tb.lookup Row Key Key-Dec b k)) (Tb.lookup_put_same Row Key Key-Dec a k l)
+    view_put_same a b k l = ap (λ x. or_else x (Tb.lookup Row Key key_dec b k)) (Tb.lookup_put_same Row Key key_dec a k l)
 
     pub view_put_other : (a b : Table) (k j : Key) (l : Row) → k ≢ j → view (put a k l) b j ≡ view a b j
-    view_put_other a b k j l n = ap (λ x. or_else x (Tb.lookup Row Key Key-Dec b j)) (Tb.lookup_put_other Row Key Key-Dec a k j l n)
+    view_put_other a b k j l n = ap (λ x. or_else x (Tb.lookup Row Key key_dec b j)) (Tb.lookup_put_other Row Key key_dec a k j l n)
 
     abbrev decoded : Series → ℕ → Found Row → Res (List ℤ)
     decoded ch s f = St.decoded E ch s f

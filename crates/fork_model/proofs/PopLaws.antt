@@ -23,7 +23,7 @@ use Rattle.fork_model.proofs.GoodStore.{ite_both, Small, FullRow, Coded}
 use Rattle.fork_model.proofs.GoodStore as Gs
 
 module _ (E : St.Env) (code : Coded E) (U : Series → ℕ → Type 0) (apart : (d e : Series) (s t : ℕ) → U d s → U e t → E.key d s ≡ E.key e t → (d ≡ e) × (s ≡ t)) where
-  open E use {r, lim, Key, Key-Dec, key, Row, deleted_cap, max_count}
+  open E use {r, lim, Key, key_dec, key, Row, deleted_cap, max_count}
 
   abbrev Good : St.Store E → Type 0
   Good σ = Gs.Good E code U σ
@@ -38,16 +38,16 @@ module _ (E : St.Env) (code : Coded E) (U : Series → ℕ → Type 0) (apart : 
     beside = Gs.head_beside E code U σ ch f;
   }
 
-  in_snoc : (k j : Key) (ks : List Key) → Tb.In Row Key Key-Dec k (ks ++ (j ∷ [])) → Tb.In Row Key Key-Dec k ks ⊎ (j ≡ k)
+  in_snoc : (k j : Key) (ks : List Key) → Tb.In Row Key key_dec k (ks ++ (j ∷ [])) → Tb.In Row Key key_dec k ks ⊎ (j ≡ k)
   in_snoc k j [] h = ⊎_elim (λ e. inr e) (λ e. inl e) h
   in_snoc k j (x ∷ ks) h = ⊎_elim (λ e. inl (inl e)) (λ t. ⊎_elim (λ a. inl (inr a)) (λ e. inr e) (in_snoc k j ks t)) h
 
-  in_add : {P : Type 0} (w : Dec P) (k j : Key) (ks : List Key) → Tb.In Row Key Key-Dec k (ite w ks (ks ++ (j ∷ []))) → Tb.In Row Key Key-Dec k ks ⊎ (j ≡ k)
+  in_add : {P : Type 0} (w : Dec P) (k j : Key) (ks : List Key) → Tb.In Row Key key_dec k (ite w ks (ks ++ (j ∷ []))) → Tb.In Row Key key_dec k ks ⊎ (j ≡ k)
   unfolding ite
   in_add (yes e) k j ks h = inl h
   in_add (no n) k j ks h = in_snoc k j ks h
 
-  add_size : (k : Key) (ks : List Key) → length ks ≤ deleted_cap → ((deleted_cap ≤ length ks) × (Tb.In Row Key Key-Dec k ks → ⊥) → ⊥) → (w : Dec (Tb.In Row Key Key-Dec k ks)) → length (ite w ks (ks ++ (k ∷ []))) ≤ deleted_cap
+  add_size : (k : Key) (ks : List Key) → length ks ≤ deleted_cap → ((deleted_cap ≤ length ks) × (Tb.In Row Key key_dec k ks → ⊥) → ⊥) → (w : Dec (Tb.In Row Key key_dec k ks)) → length (ite w ks (ks ++ (k ∷ []))) ≤ deleted_cap
   unfolding ite
   add_size k ks c ok (yes h) = c
   add_size k ks c ok (no n) = go (dec_le deleted_cap (length ks))
@@ -56,8 +56,8 @@ module _ (E : St.Env) (code : Coded E) (U : Series → ℕ → Type 0) (apart : 
       go (yes q) = absurd (ok (q, n))
       go (no q) = omega (arith, q, length-append ks (k ∷ []))
 
-  view_remove : (a b : St.Table E) (ch : Series) (s : ℕ) (k j : Key) → Tb.Distinct Row Key Key-Dec a → k ≢ j → St.decoded E ch s (St.view E (Tb.remove Row Key Key-Dec a k) b j) ≡ St.decoded E ch s (St.view E a b j)
-  view_remove a b ch s k j d n = ap (λ x. St.decoded E ch s (or_else x (Tb.lookup Row Key Key-Dec b j))) (Tb.lookup_remove_other Row Key Key-Dec a k j d n)
+  view_remove : (a b : St.Table E) (ch : Series) (s : ℕ) (k j : Key) → Tb.Distinct Row Key key_dec a → k ≢ j → St.decoded E ch s (St.view E (Tb.remove Row Key key_dec a k) b j) ≡ St.decoded E ch s (St.view E a b j)
+  view_remove a b ch s k j d n = ap (λ x. St.decoded E ch s (or_else x (Tb.lookup Row Key key_dec b j))) (Tb.lookup_remove_other Row Key key_dec a k j d n)
 
   -- the rows that are live after row s of ch was merged back
   left : (σ : St.Store E) (ch d : Series) (s t : ℕ) → Good σ → σ.counts ch ≡ suc s → (w : Dec (ch ≡ d)) → t < ite w s (σ.counts d) → (t < σ.counts d) × (key ch s ≢ key d t)
@@ -67,7 +67,7 @@ module _ (E : St.Env) (code : Coded E) (U : Series → ℕ → Type 0) (apart : 
       (b, λ k. let z : s ≡ t = (apart ch d s t (G.used ch s (omega arith)) (G.used d t b) k).1 in omega arith)
   left σ ch d s t G c (no n) h = (h, λ k. n (apart ch d s t (G.used ch s (omega arith)) (G.used d t h) k).0)
 
-  pop_merged : (σ : St.Store E) (ch : Series) (s : ℕ) (l f : List ℤ) (v : ℤ) → Good σ → σ.heads ch ≡ [] → σ.counts ch ≡ suc s → St.store_row E σ ch s ≡ done l → l ≡ f ++ (v ∷ []) → ((deleted_cap ≤ length σ.deletion) × (Tb.In Row Key Key-Dec (key ch s) σ.deletion → ⊥) → ⊥) → PoppedOff σ ch v (St.merged E σ ch s f)
+  pop_merged : (σ : St.Store E) (ch : Series) (s : ℕ) (l f : List ℤ) (v : ℤ) → Good σ → σ.heads ch ≡ [] → σ.counts ch ≡ suc s → St.store_row E σ ch s ≡ done l → l ≡ f ++ (v ∷ []) → ((deleted_cap ≤ length σ.deletion) × (Tb.In Row Key key_dec (key ch s) σ.deletion → ⊥) → ⊥) → PoppedOff σ ch v (St.merged E σ ch s f)
   unfolding flat
   pop_merged σ ch s l f v G hd c e q ok = record {
     good = record {
@@ -75,15 +75,15 @@ module _ (E : St.Env) (code : Coded E) (U : Series → ℕ → Type 0) (apart : 
           (g.0, view_remove σ.staging σ.table d t (key ch s) (key d t) G.one_staged a.1 ∙ g.1, g.2, g.3);
       used = λ d t h. G.used d t (left σ ch d s t G c (series_dec ch d) h).0;
       kept = λ d t h i. let a = left σ ch d s t G c (series_dec ch d) h in
-          ⊎_elim (G.kept d t a.0) a.1 (in_add (Tb.in_dec Row Key Key-Dec (key ch s) σ.deletion) (key d t) (key ch s) σ.deletion i);
+          ⊎_elim (G.kept d t a.0) a.1 (in_add (Tb.in_dec Row Key key_dec (key ch s) σ.deletion) (key d t) (key ch s) σ.deletion i);
       counted = λ d. ite_both (λ (x : ℕ). x ≤ max_count) (series_dec ch d) s (σ.counts d) (omega (arith, c, G.counted ch)) (G.counted d);
       fits = λ d. ite_both (λ (x : List ℤ). length x ≤ suc r) (series_dec ch d) f (σ.heads d) short (G.fits d);
       small = λ d. ite_both (Small lim) (series_dec ch d) f (σ.heads d) little (G.small d);
-      one_staged = Tb.distinct_remove Row Key Key-Dec σ.staging (key ch s) G.one_staged;
+      one_staged = Tb.distinct_remove Row Key key_dec σ.staging (key ch s) G.one_staged;
       one_table = G.one_table;
-      cap_staged = omega (arith, G.cap_staged, Tb.length_remove Row Key Key-Dec σ.staging (key ch s));
+      cap_staged = omega (arith, G.cap_staged, Tb.length_remove Row Key key_dec σ.staging (key ch s));
       cap_table = G.cap_table;
-      cap_deleted = add_size (key ch s) σ.deletion G.cap_deleted ok (Tb.in_dec Row Key Key-Dec (key ch s) σ.deletion);
+      cap_deleted = add_size (key ch s) σ.deletion G.cap_deleted ok (Tb.in_dec Row Key key_dec (key ch s) σ.deletion);
     };
     last = (λ i. flat (St.store_row E σ ch) (c i) ++ hd i) ∙ append-nil (flat (St.store_row E σ ch) s ++ row_or (St.store_row E σ ch s)) ∙ ap (λ x. flat (St.store_row E σ ch) s ++ row_or x) e ∙ ap (λ x. flat (St.store_row E σ ch) s ++ x) q
         ∙ sym (append_assoc (flat (St.store_row E σ ch) s) f (v ∷ [])) ∙ ap (λ (x : List ℤ). x ++ (v ∷ [])) (sym after);
@@ -111,7 +111,7 @@ module _ (E : St.Env) (code : Coded E) (U : Series → ℕ → Type 0) (apart : 
   popped_merged : (σ : St.Store E) (ch : Series) (s : ℕ) (l : List ℤ) (ed : Ends) (x : Popped (St.Store E)) → Good σ → σ.heads ch ≡ [] → σ.counts ch ≡ suc s → St.store_row E σ ch s ≡ done l → unsnoc l ≡ ed → St.merged_out E σ ch s ed ≡ done x → Popping σ ch x
   popped_merged σ ch s l nothing x G hd c e u h = absurd (done≢refused (sym h))
   popped_merged σ ch s l (ends f v) x G hd c e u h =
-      ite_cases (both (dec_le deleted_cap (length σ.deletion)) (not_dec (Tb.in_dec Row Key Key-Dec (key ch s) σ.deletion))) (refused 21) (done (record { left = St.merged E σ ch s f; value = v })) (done x) h
+      ite_cases (both (dec_le deleted_cap (length σ.deletion)) (not_dec (Tb.in_dec Row Key key_dec (key ch s) σ.deletion))) (refused 21) (done (record { left = St.merged E σ ch s f; value = v })) (done x) h
       (λ a b. absurd (done≢refused (sym b)))
       (λ a b. let q : record { left = St.merged E σ ch s f; value = v } ≡ x = cc in subst (Popping σ ch) q (pop_merged σ ch s l f v G hd c e (Se.unsnoc_ends l f v u) a))
 
@@ -135,7 +135,7 @@ module _ (E : St.Env) (code : Coded E) (U : Series → ℕ → Type 0) (apart : 
   refused_merged : (σ : St.Store E) (ch : Series) (s k : ℕ) (l : List ℤ) (ed : Ends) → length l ≡ suc r → unsnoc l ≡ ed → St.merged_out E σ ch s ed ≡ refused k → (k ≡ 21) × St.DeletionFull E σ
   refused_merged σ ch s k l nothing n u h = absurd (let z = ap length (Se.unsnoc_nothing l u) in omega arith)
   refused_merged σ ch s k l (ends f v) n u h =
-      ite_cases (both (dec_le deleted_cap (length σ.deletion)) (not_dec (Tb.in_dec Row Key Key-Dec (key ch s) σ.deletion))) (refused 21) (done (record { left = St.merged E σ ch s f; value = v })) (refused k) h
+      ite_cases (both (dec_le deleted_cap (length σ.deletion)) (not_dec (Tb.in_dec Row Key key_dec (key ch s) σ.deletion))) (refused 21) (done (record { left = St.merged E σ ch s f; value = v })) (refused k) h
       (λ a b. let q : 21 ≡ k = cc in (sym q, a.0)) (λ a b. absurd (done≢refused b))
 
   refused_merge : (σ : St.Store E) (ch : Series) (s k : ℕ) (F : Res (List ℤ)) → FullRow lim r F → St.merge_out E σ ch s F ≡ refused k → (k ≡ 21) × St.DeletionFull E σ

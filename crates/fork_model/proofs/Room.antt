@@ -24,7 +24,7 @@ done_is : {A : Type 0} {a b : A} → ◌≡◌ {A = Res A} (done a) (done b) →
 done_is e = cc
 
 module _ (E : St.Env) (code : Gs.Coded E) where
-  open E use {r, lim, Key, Key-Dec, key, Row, enc, staged_cap, table_cap, deleted_cap, max_count}
+  open E use {r, lim, Key, key_dec, key, Row, enc, staged_cap, table_cap, deleted_cap, max_count}
 
   abbrev Store : Type 0
   Store = St.Store E
@@ -39,7 +39,7 @@ module _ (E : St.Env) (code : Gs.Coded E) where
   more_staged n σ τ R h p q = record { rows = omega (arith, R.rows, ap length p); deleted = omega (arith, R.deleted, ap length q) }
 
   stage_length : (σ : Store) (k : Key) (l : Row) (t : St.Table E) → St.stage E σ k l ≡ done t → length t ≤ suc (length σ.staging)
-  stage_length σ k l t e = omega (arith, ap length (Gs.stage_done E code σ k l t e), Tb.length_put Row Key Key-Dec σ.staging k l)
+  stage_length σ k l t e = omega (arith, ap length (Gs.stage_done E code σ k l t e), Tb.length_put Row Key key_dec σ.staging k l)
 
   -- ---- append: refused only where the number of rows is the greatest or staging is full
   module _ (σ : Store) (ch : Series) (m : ℕ) where
@@ -91,16 +91,16 @@ module _ (E : St.Env) (code : Gs.Coded E) where
 
   -- ---- pop
   add_length : (k : Key) (ks : List Key) → length (St.add_key E k ks) ≤ suc (length ks)
-  add_length k ks = ite_cases (Tb.in_dec Row Key Key-Dec k ks) ks (ks ++ k ∷ []) (St.add_key E k ks) refl (λ a b. omega (arith, ap length b)) (λ a b. omega (arith, ap length b, length-append ks (k ∷ [])))
+  add_length k ks = ite_cases (Tb.in_dec Row Key key_dec k ks) ks (ks ++ k ∷ []) (St.add_key E k ks) refl (λ a b. omega (arith, ap length b)) (λ a b. omega (arith, ap length b, length-append ks (k ∷ [])))
 
   module _ (σ : Store) (ch : Series) (n : ℕ) (R : Room n σ) (x : Popped Store) where
     pop_merged : (s : ℕ) (l : Ends) → St.merged_out E σ ch s l ≡ done x → Room (suc n) x.left
     pop_merged s nothing h = absurd (done≢refused (sym h))
     pop_merged s (ends f v) h =
-        ite_cases (both (dec_le deleted_cap (length σ.deletion)) (not_dec (Tb.in_dec Row Key Key-Dec (key ch s) σ.deletion))) (refused 21) (done (record { left = St.merged E σ ch s f; value = v })) (done x) h
+        ite_cases (both (dec_le deleted_cap (length σ.deletion)) (not_dec (Tb.in_dec Row Key key_dec (key ch s) σ.deletion))) (refused 21) (done (record { left = St.merged E σ ch s f; value = v })) (done x) h
         (λ a b. absurd (done≢refused (sym b)))
         (λ a b. subst (λ (y : Popped Store). Room (suc n) y.left) (done_is b)
-        (record { rows = omega (arith, R.rows, Tb.length_remove Row Key Key-Dec σ.staging (key ch s)); deleted = omega (arith, R.deleted, add_length (key ch s) σ.deletion) }))
+        (record { rows = omega (arith, R.rows, Tb.length_remove Row Key key_dec σ.staging (key ch s)); deleted = omega (arith, R.deleted, add_length (key ch s) σ.deletion) }))
 
     pop_merge : (s : ℕ) (X : Res (List ℤ)) → St.merge_out E σ ch s X ≡ done x → Room (suc n) x.left
     pop_merge s (refused k) h = absurd (done≢refused (sym h))
@@ -118,28 +118,28 @@ module _ (E : St.Env) (code : Gs.Coded E) where
     pop_room h = pop_from (unsnoc (σ.heads ch)) h
 
   -- ---- flush
-  fresh_few : (t : St.Table E) (ks : List Key) (s : St.Table E) → Tb.fresh Row Key Key-Dec t ks s ≤ length t
+  fresh_few : (t : St.Table E) (ks : List Key) (s : St.Table E) → Tb.fresh Row Key key_dec t ks s ≤ length t
   unfolding Tb.fresh
   fresh_few [] ks s = omega arith
   fresh_few (x ∷ t) ks s =
-      let w = Tb.new_dec Row Key Key-Dec (Tb.in_dec Row Key Key-Dec x.name ks) (Tb.lacks_dec Row Key Key-Dec (Tb.lookup Row Key Key-Dec s x.name)) in
-      let f = Tb.fresh Row Key Key-Dec t ks s in
+      let w = Tb.new_dec Row Key key_dec (Tb.in_dec Row Key key_dec x.name ks) (Tb.lacks_dec Row Key key_dec (Tb.lookup Row Key key_dec s x.name)) in
+      let f = Tb.fresh Row Key key_dec t ks s in
       ite_cases w (suc f) f (ite w (suc f) f) refl (λ a b. omega (arith, b, fresh_few t ks s)) (λ a b. omega (arith, b, fresh_few t ks s))
 
   module _ (σ : Store) (n : ℕ) (R : Room n σ) where
     abbrev new_rows : ℕ
-    new_rows = Tb.fresh Row Key Key-Dec σ.staging σ.deletion σ.table
+    new_rows = Tb.fresh Row Key key_dec σ.staging σ.deletion σ.table
 
     pub flush_accepted : (k : ℕ) → n ≤ table_cap → St.flush_store E σ ≡ refused k → ⊥
     flush_accepted k c e =
         ite_cases (dec_lt table_cap (length σ.table + new_rows)) (refused 22) (done (St.flushed E σ)) (refused k) e
         (λ a b. omega (arith, R.rows, fresh_few σ.staging σ.deletion σ.table)) (λ a b. done≢refused b)
 
-    pub flush_room : (τ : Store) → Tb.Distinct Row Key Key-Dec σ.staging → St.flush_store E σ ≡ done τ → Room (suc n) τ
+    pub flush_room : (τ : Store) → Tb.Distinct Row Key key_dec σ.staging → St.flush_store E σ ≡ done τ → Room (suc n) τ
     flush_room τ d e =
         ite_cases (dec_lt table_cap (length σ.table + new_rows)) (refused 22) (done (St.flushed E σ)) (done τ) e
         (λ a b. absurd (done≢refused (sym b)))
         (λ a b. subst (Room (suc n)) (done_is b) (record {
-          rows = omega (arith, R.rows, fresh_few σ.staging σ.deletion σ.table, Tb.length_write Row Key Key-Dec σ.staging σ.deletion σ.table d, Tb.length_removeAll Row Key Key-Dec σ.deletion (Tb.write_all Row Key Key-Dec σ.staging σ.deletion σ.table));
+          rows = omega (arith, R.rows, fresh_few σ.staging σ.deletion σ.table, Tb.length_write Row Key key_dec σ.staging σ.deletion σ.table d, Tb.length_removeAll Row Key key_dec σ.deletion (Tb.write_all Row Key key_dec σ.staging σ.deletion σ.table));
           deleted = omega arith;
         }))

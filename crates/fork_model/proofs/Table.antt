@@ -18,7 +18,7 @@ abbrev pub or_else : {A : Type 0} → Found A → Found A → Found A
 or_else missing b = b
 or_else (found l) b = found l
 
-module _ (Row : Type 0) (Key : Type 0) (Key-Dec : Discrete Key) where
+module _ (Row : Type 0) (Key : Type 0) (key_dec : Discrete Key) where
   pub record Rec : Type 0 where
     pub name : Key
     pub row : Row
@@ -28,11 +28,11 @@ module _ (Row : Type 0) (Key : Type 0) (Key-Dec : Discrete Key) where
 
   abbrev pub lookup : Table → Key → Found Row
   lookup [] k = missing
-  lookup (x ∷ t) k = ite (Key-Dec x.name k) (found x.row) (lookup t k)
+  lookup (x ∷ t) k = ite (key_dec x.name k) (found x.row) (lookup t k)
 
   abbrev pub put : Table → Key → Row → Table
   put [] k l = record { name = k; row = l } ∷ []
-  put (x ∷ t) k l = ite (Key-Dec x.name k) (record { name = k; row = l } ∷ t) (x ∷ put t k l)
+  put (x ∷ t) k l = ite (key_dec x.name k) (record { name = k; row = l } ∷ t) (x ∷ put t k l)
 
   abbrev pub second : Rec → Table → Table
   second a [] = a ∷ []
@@ -49,7 +49,7 @@ module _ (Row : Type 0) (Key : Type 0) (Key-Dec : Discrete Key) where
 
   abbrev pub remove : Table → Key → Table
   remove [] k = []
-  remove (x ∷ t) k = ite (Key-Dec x.name k) (gapped t) (x ∷ remove t k)
+  remove (x ∷ t) k = ite (key_dec x.name k) (gapped t) (x ∷ remove t k)
 
   abbrev pub Absent : Key → Table → Type 0
   Absent k [] = Unit {0}
@@ -62,21 +62,21 @@ module _ (Row : Type 0) (Key : Type 0) (Key-Dec : Discrete Key) where
   -- LAWS
   put_same : (t : Table) (k : Key) (l : Row) (x : Rec) (w : Dec (x.name ≡ k)) → lookup (put t k l) k ≡ found l → lookup (ite w (record { name = k; row = l } ∷ t) (x ∷ put t k l)) k ≡ found l
   unfolding ite
-  put_same t k l x (yes e) h = ite_yes (Key-Dec k k) (found l) (lookup t k) refl
-  put_same t k l x (no q) h = ite_no (Key-Dec x.name k) (found x.row) (lookup (put t k l) k) q ∙ h
+  put_same t k l x (yes e) h = ite_yes (key_dec k k) (found l) (lookup t k) refl
+  put_same t k l x (no q) h = ite_no (key_dec x.name k) (found x.row) (lookup (put t k l) k) q ∙ h
 
   pub lookup_put_same : (t : Table) (k : Key) (l : Row) → lookup (put t k l) k ≡ found l
-  lookup_put_same [] k l = ite_yes (Key-Dec k k) (found l) missing refl
-  lookup_put_same (x ∷ t) k l = put_same t k l x (Key-Dec x.name k) (lookup_put_same t k l)
+  lookup_put_same [] k l = ite_yes (key_dec k k) (found l) missing refl
+  lookup_put_same (x ∷ t) k l = put_same t k l x (key_dec x.name k) (lookup_put_same t k l)
 
   put_other : (t : Table) (k j : Key) (l : Row) (x : Rec) → k ≢ j → (w : Dec (x.name ≡ k)) → lookup (put t k l) j ≡ lookup t j → lookup (ite w (record { name = k; row = l } ∷ t) (x ∷ put t k l)) j ≡ lookup (x ∷ t) j
   unfolding ite
-  put_other t k j l x n (yes e) h = ite_no (Key-Dec k j) (found l) (lookup t j) n ∙ sym (ite_no (Key-Dec x.name j) (found x.row) (lookup t j) (λ q. n (sym e ∙ q)))
-  put_other t k j l x n (no q) h = ap (ite (Key-Dec x.name j) (found x.row)) h
+  put_other t k j l x n (yes e) h = ite_no (key_dec k j) (found l) (lookup t j) n ∙ sym (ite_no (key_dec x.name j) (found x.row) (lookup t j) (λ q. n (sym e ∙ q)))
+  put_other t k j l x n (no q) h = ap (ite (key_dec x.name j) (found x.row)) h
 
   pub lookup_put_other : (t : Table) (k j : Key) (l : Row) → k ≢ j → lookup (put t k l) j ≡ lookup t j
-  lookup_put_other [] k j l n = ite_no (Key-Dec k j) (found l) missing n
-  lookup_put_other (x ∷ t) k j l n = put_other t k j l x n (Key-Dec x.name k) (lookup_put_other t k j l n)
+  lookup_put_other [] k j l n = ite_no (key_dec k j) (found l) missing n
+  lookup_put_other (x ∷ t) k j l n = put_other t k j l x n (key_dec x.name k) (lookup_put_other t k j l n)
 
   put_absent : (t : Table) (k j : Key) (l : Row) (x : Rec) → k ≢ j → (w : Dec (x.name ≡ k)) → Absent j (x ∷ t) → Absent j (put t k l) → Absent j (ite w (record { name = k; row = l } ∷ t) (x ∷ put t k l))
   unfolding ite
@@ -85,7 +85,7 @@ module _ (Row : Type 0) (Key : Type 0) (Key-Dec : Discrete Key) where
 
   pub absent_put : (t : Table) (k j : Key) (l : Row) → k ≢ j → Absent j t → Absent j (put t k l)
   absent_put [] k j l n a = (n, tt)
-  absent_put (x ∷ t) k j l n a = put_absent t k j l x n (Key-Dec x.name k) a (absent_put t k j l n a.1)
+  absent_put (x ∷ t) k j l n a = put_absent t k j l x n (key_dec x.name k) a (absent_put t k j l n a.1)
 
   put_distinct : (t : Table) (k : Key) (l : Row) (x : Rec) (w : Dec (x.name ≡ k)) → Distinct (x ∷ t) → Distinct (put t k l) → Distinct (ite w (record { name = k; row = l } ∷ t) (x ∷ put t k l))
   unfolding ite
@@ -94,11 +94,11 @@ module _ (Row : Type 0) (Key : Type 0) (Key-Dec : Discrete Key) where
 
   pub distinct_put : (t : Table) (k : Key) (l : Row) → Distinct t → Distinct (put t k l)
   distinct_put [] k l d = (tt, tt)
-  distinct_put (x ∷ t) k l d = put_distinct t k l x (Key-Dec x.name k) d (distinct_put t k l d.1)
+  distinct_put (x ∷ t) k l d = put_distinct t k l x (key_dec x.name k) d (distinct_put t k l d.1)
 
   pub lookup_absent : (t : Table) (k : Key) → Absent k t → lookup t k ≡ missing
   lookup_absent [] k a = refl
-  lookup_absent (x ∷ t) k a = ite_no (Key-Dec x.name k) (found x.row) (lookup t k) a.0 ∙ lookup_absent t k a.1
+  lookup_absent (x ∷ t) k a = ite_no (key_dec x.name k) (found x.row) (lookup t k) a.0 ∙ lookup_absent t k a.1
 
   -- removal
   swap_at : (x z : Rec) (r : Found Row) (k : Key) → x.name ≢ z.name → (w : Dec (x.name ≡ k)) (v : Dec (z.name ≡ k))
@@ -111,7 +111,7 @@ module _ (Row : Type 0) (Key : Type 0) (Key-Dec : Discrete Key) where
 
   lookup_second : (x : Rec) (u : Table) (k : Key) → Absent x.name u → lookup (second x u) k ≡ lookup (x ∷ u) k
   lookup_second x [] k a = refl
-  lookup_second x (z ∷ u) k a = swap_at x z (lookup u k) k (λ e. a.0 (sym e)) (Key-Dec x.name k) (Key-Dec z.name k)
+  lookup_second x (z ∷ u) k a = swap_at x z (lookup u k) k (λ e. a.0 (sym e)) (key_dec x.name k) (key_dec z.name k)
 
   absent_second : (x : Rec) (u : Table) (j : Key) → Absent j (x ∷ u) → Absent j (second x u)
   absent_second x [] j a = a
@@ -131,7 +131,7 @@ module _ (Row : Type 0) (Key : Type 0) (Key-Dec : Discrete Key) where
 
   lookup_last : (x : Rec) (t : Table) (k : Key) → Distinct (x ∷ t) → lookup (newest_first x t) k ≡ lookup (x ∷ t) k
   lookup_last x [] k d = refl
-  lookup_last x (y ∷ t) k d = lookup_second x (newest_first y t) k (absent_last y t x.name d.0) ∙ ap (ite (Key-Dec x.name k) (found x.row)) (lookup_last y t k d.1)
+  lookup_last x (y ∷ t) k d = lookup_second x (newest_first y t) k (absent_last y t x.name d.0) ∙ ap (ite (key_dec x.name k) (found x.row)) (lookup_last y t k d.1)
 
   lookup_gapped : (t : Table) (k : Key) → Distinct t → lookup (gapped t) k ≡ lookup t k
   lookup_gapped [] k d = refl
@@ -147,12 +147,12 @@ module _ (Row : Type 0) (Key : Type 0) (Key-Dec : Discrete Key) where
 
   remove_other : (t : Table) (k j : Key) (x : Rec) → Distinct t → k ≢ j → (w : Dec (x.name ≡ k)) → lookup (remove t k) j ≡ lookup t j → lookup (ite w (gapped t) (x ∷ remove t k)) j ≡ lookup (x ∷ t) j
   unfolding ite
-  remove_other t k j x d n (yes e) h = lookup_gapped t j d ∙ sym (ite_no (Key-Dec x.name j) (found x.row) (lookup t j) (λ q. n (sym e ∙ q)))
-  remove_other t k j x d n (no q) h = ap (ite (Key-Dec x.name j) (found x.row)) h
+  remove_other t k j x d n (yes e) h = lookup_gapped t j d ∙ sym (ite_no (key_dec x.name j) (found x.row) (lookup t j) (λ q. n (sym e ∙ q)))
+  remove_other t k j x d n (no q) h = ap (ite (key_dec x.name j) (found x.row)) h
 
   pub lookup_remove_other : (t : Table) (k j : Key) → Distinct t → k ≢ j → lookup (remove t k) j ≡ lookup t j
   lookup_remove_other [] k j d n = refl
-  lookup_remove_other (x ∷ t) k j d n = remove_other t k j x d.1 n (Key-Dec x.name k) (lookup_remove_other t k j d.1 n)
+  lookup_remove_other (x ∷ t) k j d n = remove_other t k j x d.1 n (key_dec x.name k) (lookup_remove_other t k j d.1 n)
 
   remove_absent : (t : Table) (k j : Key) (x : Rec) (w : Dec (x.name ≡ k)) → Absent j (x ∷ t) → Absent j (remove t k) → Absent j (ite w (gapped t) (x ∷ remove t k))
   unfolding ite
@@ -161,7 +161,7 @@ module _ (Row : Type 0) (Key : Type 0) (Key-Dec : Discrete Key) where
 
   absent_remove : (t : Table) (k j : Key) → Absent j t → Absent j (remove t k)
   absent_remove [] k j a = a
-  absent_remove (x ∷ t) k j a = remove_absent t k j x (Key-Dec x.name k) a (absent_remove t k j a.1)
+  absent_remove (x ∷ t) k j a = remove_absent t k j x (key_dec x.name k) a (absent_remove t k j a.1)
 
   remove_distinct : (t : Table) (k : Key) (x : Rec) (w : Dec (x.name ≡ k)) → Distinct (x ∷ t) → Distinct (remove t k) → Distinct (ite w (gapped t) (x ∷ remove t k))
   unfolding ite
@@ -170,7 +170,7 @@ module _ (Row : Type 0) (Key : Type 0) (Key-Dec : Discrete Key) where
 
   pub distinct_remove : (t : Table) (k : Key) → Distinct t → Distinct (remove t k)
   distinct_remove [] k d = d
-  distinct_remove (x ∷ t) k d = remove_distinct t k x (Key-Dec x.name k) d (distinct_remove t k d.1)
+  distinct_remove (x ∷ t) k d = remove_distinct t k x (key_dec x.name k) d (distinct_remove t k d.1)
 
   -- FLUSH: staged rows whose key is not deleted are written, in list order; then deleted keys are removed
   abbrev pub In : Key → List Key → Type 0
@@ -185,7 +185,7 @@ module _ (Row : Type 0) (Key : Type 0) (Key-Dec : Discrete Key) where
   unfoldable pub in_dec : (k : Key) (ks : List Key) → Dec (In k ks)
   unfolding in_step
   in_dec k [] = no (λ h. h)
-  in_dec k (x ∷ ks) = in_step (Key-Dec x k) (in_dec k ks)
+  in_dec k (x ∷ ks) = in_step (key_dec x k) (in_dec k ks)
 
   abbrev pub write_all : Table → List Key → Table → Table
   write_all [] ks table = table
@@ -215,7 +215,7 @@ module _ (Row : Type 0) (Key : Type 0) (Key-Dec : Discrete Key) where
 
   removed : (t : Table) (k : Key) → Distinct t → Absent k (remove t k)
   removed [] k d = tt
-  removed (x ∷ t) k d = removed_at t k x (Key-Dec x.name k) d (removed t k d.1)
+  removed (x ∷ t) k d = removed_at t k x (key_dec x.name k) d (removed t k d.1)
 
   absent_removeAll : (ks : List Key) (t : Table) (k : Key) → Absent k t → Absent k (remove_all ks t)
   absent_removeAll [] t k a = a
@@ -250,8 +250,8 @@ module _ (Row : Type 0) (Key : Type 0) (Key-Dec : Discrete Key) where
   lookup_write [] ks table j d n = refl
   lookup_write (x ∷ t) ks table j d n =
       lookup_write t ks (ite (in_dec x.name ks) table (put table x.name x.row)) j d.1 n
-      ∙ write_rest x (lookup table j) t j d.0 (lookup (ite (in_dec x.name ks) table (put table x.name x.row)) j) (Key-Dec x.name j)
-      (write_one x table ks j n (in_dec x.name ks) (Key-Dec x.name j))
+      ∙ write_rest x (lookup table j) t j d.0 (lookup (ite (in_dec x.name ks) table (put table x.name x.row)) j) (key_dec x.name j)
+      (write_one x table ks j n (in_dec x.name ks) (key_dec x.name j))
 
   -- SIZES
   len_put : (t : Table) (k : Key) (l : Row) (x : Rec) (w : Dec (x.name ≡ k)) → length (put t k l) ≤ suc (length t) → length (ite w (record { name = k; row = l } ∷ t) (x ∷ put t k l)) ≤ suc (suc (length t))
@@ -261,7 +261,7 @@ module _ (Row : Type 0) (Key : Type 0) (Key-Dec : Discrete Key) where
 
   pub length_put : (t : Table) (k : Key) (l : Row) → length (put t k l) ≤ suc (length t)
   length_put [] k l = omega arith
-  length_put (x ∷ t) k l = len_put t k l x (Key-Dec x.name k) (length_put t k l)
+  length_put (x ∷ t) k l = len_put t k l x (key_dec x.name k) (length_put t k l)
 
   abbrev pub Lacks : Found Row → Type 0
   Lacks missing = Unit {0}
@@ -275,7 +275,7 @@ module _ (Row : Type 0) (Key : Type 0) (Key-Dec : Discrete Key) where
 
   pub length_put_has : (t : Table) (k : Key) (l : Row) → (Lacks (lookup t k) → ⊥) → length (put t k l) ≡ length t
   length_put_has [] k l h = absurd (h tt)
-  length_put_has (x ∷ t) k l h = len_put_has t k l x (Key-Dec x.name k) h (length_put_has t k l)
+  length_put_has (x ∷ t) k l h = len_put_has t k l x (key_dec x.name k) h (length_put_has t k l)
 
   len_second : (x : Rec) (u : Table) → length (second x u) ≡ suc (length u)
   len_second x [] = refl
@@ -296,7 +296,7 @@ module _ (Row : Type 0) (Key : Type 0) (Key-Dec : Discrete Key) where
 
   pub length_remove : (t : Table) (k : Key) → length (remove t k) ≤ length t
   length_remove [] k = omega arith
-  length_remove (x ∷ t) k = len_remove t k x (Key-Dec x.name k) (length_remove t k)
+  length_remove (x ∷ t) k = len_remove t k x (key_dec x.name k) (length_remove t k)
 
   pub length_removeAll : (ks : List Key) (t : Table) → length (remove_all ks t) ≤ length t
   length_removeAll [] t = omega arith

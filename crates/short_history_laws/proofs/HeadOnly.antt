@@ -46,18 +46,18 @@ module _ (E : St.Env) where
       let x = flip_by σ ch e (flip_first e (σ.heads ch)) refl m in
       (x.0, ap (λ b. when_b b (St.head_flipped E σ ch e (flip_first e (σ.heads ch))) (refused 10)) (Se.sorted_ordered (σ.heads ch) 0 so (λ k t. omega arith)) ∙ x.1)
 
-  nothing_new : (σ : St.Store E) → Bare σ → length σ.table + Tb.fresh E.Row E.Key E.Key-Dec σ.staging σ.deletion σ.table ≡ 0
+  nothing_new : (σ : St.Store E) → Bare σ → length σ.table + Tb.fresh E.Row E.Key E.key_dec σ.staging σ.deletion σ.table ≡ 0
   unfolding Tb.fresh
   nothing_new σ b = rw (b.staging, b.table) (omega arith)
 
   pub flush_bare : (σ : St.Store E) → Bare σ → St.flush_store E σ ≡ done (St.flushed E σ)
   flush_bare σ b =
-      ite_no (dec_lt E.table_cap (length σ.table + Tb.fresh E.Row E.Key E.Key-Dec σ.staging σ.deletion σ.table)) (refused 22) (done (St.flushed E σ))
+      ite_no (dec_lt E.table_cap (length σ.table + Tb.fresh E.Row E.Key E.key_dec σ.staging σ.deletion σ.table)) (refused 22) (done (St.flushed E σ))
       (λ h. omega (arith, nothing_new σ b))
 
   pub bare_flush : (σ : St.Store E) → Bare σ → Bare (St.flushed E σ)
   bare_flush σ b = record {
     staging = refl;
-    table = (λ i. Tb.remove_all E.Row E.Key E.Key-Dec (b.deletion i) (Tb.write_all E.Row E.Key E.Key-Dec (b.staging i) (b.deletion i) (b.table i)));
+    table = (λ i. Tb.remove_all E.Row E.Key E.key_dec (b.deletion i) (Tb.write_all E.Row E.Key E.key_dec (b.staging i) (b.deletion i) (b.table i)));
     deletion = refl;
   }

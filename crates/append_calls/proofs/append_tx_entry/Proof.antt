@@ -5,13 +5,13 @@ use borrow.Author.Rules.{rules}
 use Rattle.append_calls.proofs.append_tx_entry.Statement.{statement}
 use Rattle.append_calls.proofs.append_tx_entry.Tie as tie
 
-append_entry_requires : tie.Need-append-entry-requires
+append_entry_requires : tie.Need-append_entry-requires
 append_entry_requires c κs = search rules
 
-same_length : tie.Need-same-length
+same_length : tie.Need-shape_of-head
 same_length c = search rules
 
-same_length_2 : tie.Need-same-length-2
+same_length_2 : tie.Need-shape_of-staged
 same_length_2 c = search rules
 
 returns : tie.Need-returns

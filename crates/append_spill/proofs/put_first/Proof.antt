@@ -8,13 +8,13 @@ use borrow.Author.Rules.{rules}
 use Rattle.append_spill.proofs.put_first.Statement.{statement}
 use Rattle.append_spill.proofs.put_first.Tie as tie
 
-put_number_requires : tie.Need-put-number-requires
+put_number_requires : tie.Need-put_number-requires
 put_number_requires c κs = search rules
 
-clear_numbers_requires : tie.Need-clear-numbers-requires
+clear_numbers_requires : tie.Need-clear_numbers-requires
 clear_numbers_requires c κs = search rules
 
-same_length : tie.Need-same-length
+same_length : tie.Need-shape_of-head
 same_length c = search rules
 
 returns : tie.Need-returns

@@ -6,7 +6,7 @@ use Rattle.signed.proofs.SignedLaws.{back}
 use Rattle.balance.proofs.add_box.Statement.{statement}
 use Rattle.balance.proofs.add_box.Tie as tie
 
-change_box_requires : tie.Need-change-box-requires
+change_box_requires : tie.Need-change_box-requires
 change_box_requires c κs = search rules
 
 returns : tie.Need-returns

@@ -13,27 +13,27 @@ use Rattle.libc.proofs.read.Reads as read_reads
 use Rattle.stores.proofs.move_bytes.Reads as move_bytes_reads
 
 -- src/lib.rt:89:16
-sub_left : tie.Need-overflow-sub-left
+sub_left : tie.Need-overflow_sub-left
 sub_left c = search rules
 
 -- src/lib.rt:90:5
-move_bytes_requires : tie.Need-move-bytes-requires
+move_bytes_requires : tie.Need-move_bytes-requires
 move_bytes_requires c κs = search rules
 
 -- src/lib.rt:91:40
-sub_read : tie.Need-overflow-sub-read
+sub_read : tie.Need-slice_bounds-read-count
 sub_read c = search rules
 
 -- src/lib.rt:91:40
-part_read_start : tie.Need-slice-bounds-read-start
+part_read_start : tie.Need-slice_bounds-read-start
 part_read_start c = search rules
 
 -- src/lib.rt:91:40
-part_read_end : tie.Need-slice-bounds-read-end
+part_read_end : tie.Need-slice_bounds-read-end
 part_read_end c = search rules
 
 -- src/lib.rt:91:9
-read_requires : tie.Need-read-requires
+read_requires : tie.Need-read-got-requires
 read_requires c κs = search rules
 
 -- src/lib.rt:92:5
@@ -41,19 +41,19 @@ took_requires : tie.Need-took-requires
 took_requires c κs = search rules
 
 -- src/lib.rt:82:1
-same_length : tie.Need-same-length
+same_length : tie.Need-shape_of-input
 same_length c = search rules
 
 -- src/lib.rt:82:1
 returns : tie.Need-returns
 returns c =
-    let f = c.before.before.before.before.before.before.before.before.before.before.before in
+    let f = c.before.before.before.before.before.before.before.before.before.before in
     let a = f.args in
     let left = a.p.have - a.p.at in
-    let m = c.before.before.before.before.before.before.before.before.move_bytes in
-    let y = c.before.before.before.before.read.new.1.0 in
-    let l = m.new.0 in
-    let answer = to_z w64 (of_z w64 c.before.before.before.before.read.result) in
+    let m = c.before.before.before.before.before.before.before.move_bytes in
+    let y = c.before.before.before.read-got.new.buf in
+    let l = c.before.before.before.before.before.before.before.move_bytes.new.dst in
+    let answer = to_z w64 (of_z w64 c.before.before.before.read-got.result) in
     front_kept a.p.at a.p.have a.p.made a.code (length l - left) answer a.input.now l y c.took.result f.requires.0 f.requires.1 m.ensures (search rules) c.took.ensures
 
 pub read_spec : {M : Type 1} → statement M

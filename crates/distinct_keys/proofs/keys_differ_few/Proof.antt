@@ -4,7 +4,7 @@ use Rattle.distinct_keys.proofs.TreeLaws.{zeros}
 use Rattle.distinct_keys.proofs.keys_differ_few.Statement.{statement}
 use Rattle.distinct_keys.proofs.keys_differ_few.Tie as tie
 
-slice_aggregate_grow : tie.Need-slice-aggregate-grow
+slice_aggregate_grow : tie.Need-slice_bounds-grow-end
 slice_aggregate_grow c = search rules
 
 grow_requires : tie.Need-grow-requires

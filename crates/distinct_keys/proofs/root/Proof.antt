@@ -7,7 +7,7 @@ use Rattle.distinct_keys.proofs.root.Tie as tie
 word_requires : tie.Need-word-requires
 word_requires c κs = search rules
 
-rem_result : tie.Need-nonzero-rem-result
+rem_result : tie.Need-nonzero_rem-result
 rem_result c = search rules
 
 returns : tie.Need-returns

@@ -3,19 +3,19 @@ use Rattle.std.proofs.Common.{◌≡◌, ◌+◌, ◌-◌, arith, rules}
 use Rattle.distinct_keys.proofs.same_keys.Statement.{statement}
 use Rattle.distinct_keys.proofs.same_keys.Tie as tie
 
-add_end : tie.Need-overflow-add-end
+add_end : tie.Need-overflow_add-end
 add_end c = search rules
 
-sub_key_is : tie.Need-overflow-sub-key-is
+sub_key_is : tie.Need-slice_bounds-key_is-count
 sub_key_is c = search rules
 
-part_key_is_start : tie.Need-slice-bounds-key-is-start
+part_key_is_start : tie.Need-slice_bounds-key_is-start
 part_key_is_start c = search rules
 
-part_key_is_end : tie.Need-slice-bounds-key-is-end
+part_key_is_end : tie.Need-slice_bounds-key_is-end
 part_key_is_end c = search rules
 
-key_is_requires : tie.Need-key-is-requires
+key_is_requires : tie.Need-key_is-requires
 key_is_requires c κs = search rules
 
 returns : tie.Need-returns

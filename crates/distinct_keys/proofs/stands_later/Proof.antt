@@ -5,50 +5,50 @@ use Rattle.records.proofs.TurnLaws.{rest_part}
 use Rattle.distinct_keys.proofs.stands_later.Statement.{statement}
 use Rattle.distinct_keys.proofs.stands_later.Tie as tie
 
-add_next : tie.Need-overflow-add-next
+add_next : tie.Need-overflow_add-next
 add_next c = search rules
 
-add_end : tie.Need-overflow-add-end
+add_end : tie.Need-overflow_add-end
 add_end c = search rules
 
-sub_find : tie.Need-overflow-sub-find
+sub_find : tie.Need-slice_bounds-find-count
 sub_find c = search rules
 
-part_find_start : tie.Need-slice-bounds-find-start
+part_find_start : tie.Need-slice_bounds-find-start
 part_find_start c = search rules
 
-part_find_end : tie.Need-slice-bounds-find-end
+part_find_end : tie.Need-slice_bounds-find-end
 part_find_end c = search rules
 
-sub_find_2 : tie.Need-overflow-sub-find-2
+sub_find_2 : tie.Need-slice_bounds-find-count-2
 sub_find_2 c = search rules
 
-part_find_start_2 : tie.Need-slice-bounds-find-start-2
+part_find_start_2 : tie.Need-slice_bounds-find-start-2
 part_find_start_2 c = search rules
 
-part_find_end_2 : tie.Need-slice-bounds-find-end-2
+part_find_end_2 : tie.Need-slice_bounds-find-end-2
 part_find_end_2 c = search rules
 
-find_requires : tie.Need-find-requires
+find_requires : tie.Need-find-found-requires
 find_requires c κs = search rules
 
-enum_told : tie.Need-enum-told
+enum_told : tie.Need-enum_told-1
 enum_told c = search rules
 
-enum_told_2 : tie.Need-enum-told-2
+enum_told_2 : tie.Need-enum_told-in-Nothing
 enum_told_2 c = search rules
 
-returns : tie.Need-returns
+returns : tie.Need-returns-in-At
 returns c =
-    let at = c.before.before.before.before.before.before.args.at in
+    let at = c.before.before.before.before.before.args.at in
     let e : at + 32 - at ≡ 32 = omega arith in
-    ap is_found (sym c.enum_told.given.1 ∙ (rw (e, rest_part) at c.before.before.find.ensures))
+    ap is_found (sym c.in-At.is ∙ (rw (e, rest_part) at c.before.find-found.ensures))
 
-returns-2 : tie.Need-returns-2
+returns-2 : tie.Need-returns-in-Nothing
 returns-2 c =
-    let at = c.before.before.before.before.before.before.args.at in
+    let at = c.before.before.before.before.before.args.at in
     let e : at + 32 - at ≡ 32 = omega arith in
-    ap is_found (sym c.enum_told2.given.1 ∙ (rw (e, rest_part) at c.before.before.find.ensures))
+    ap is_found (sym c.in-Nothing.is ∙ (rw (e, rest_part) at c.before.find-found.ensures))
 
 pub stands_later_spec : {M : Type 1} → statement M
 stands_later_spec =

@@ -11,77 +11,77 @@ use borrow.Author.Rules.{rules}
 use Rattle.flip_rows.proofs.flip_hinted.Statement.{statement}
 use Rattle.flip_rows.proofs.flip_hinted.Tie as tie
 
-search_requires : tie.Need-search-requires
+search_requires : tie.Need-search-found-requires
 search_requires c κs = search rules
 
-enum_known_found : tie.Need-enum-known-found
+enum_known_found : tie.Need-enum_known-found
 enum_known_found c = search rules
 
-walk_down_requires : tie.Need-walk-down-requires
+walk_down_requires : tie.Need-walk_down-walk-requires
 walk_down_requires c κs =
-    let a = c.before.before.before.before.before.before.before.before.before.args in
+    let a = c.before.before.before.before.before.args in
     let w = sources a.parent.now a.staged.now a.staged_counts.count a.table.now a.table_count in
-    let k = search_most (lead_at (edition_of a.edition) w) a.target 0 a.spills _ _ (omega arith) c.before.before.before.before.search.ensures c.before.before.found.given.1 in
-    (c.before.before.before.before.before.before.before.before.before.requires.0.bounds.within, c.before.before.before.before.before.before.before.before.before.requires.0.within, omega (arith, c.before.before.before.before.before.before.before.before.before.requires.1), c.before.before.before.before.before.before.before.before.before.requires.0.apart)
+    let k = search_most (lead_at (edition_of a.edition) w) a.target 0 a.spills _ _ (omega arith) c.before.search-found.ensures c.in-Upto.is in
+    (c.before.before.before.before.before.requires.0.bounds.within, c.before.before.before.before.before.requires.0.within, omega (arith, c.before.before.before.before.before.requires.1), c.before.before.before.before.before.requires.0.apart)
 
-enum_known_walk : tie.Need-enum-known-walk
+enum_known_walk : tie.Need-enum_known-walk
 enum_known_walk c = search rules
 
 stage_requires : tie.Need-stage-requires
 stage_requires c κs =
-    let a = c.before.before.before.before.before.before.before.before.before.before.before.before.before.before.args in
-    let w = sources a.parent.now a.staged.now a.staged_counts.count a.table.now a.table_count in
-    let k = search_most (lead_at (edition_of a.edition) w) a.target 0 a.spills _ _ (omega arith) c.before.before.before.before.before.before.before.before.before.search.ensures c.before.before.before.before.before.before.before.found.given.1 in
-    let m = walk_hits (look_at (edition_of a.edition) w a.target a.spend) _ a.seen _ _ _ c.before.before.before.before.walk_down.ensures c.before.before.walk.given.1 in
-    (c.before.before.before.before.before.before.before.before.before.before.before.before.before.before.requires.0, omega (arith, c.before.before.before.before.before.before.before.before.before.before.before.before.before.before.requires.1, m.0), row_takes _ a.target a.spend _ c.before.before.before.before.before.before.before.before.before.before.before.before.before.before.requires.2 m.1)
-
-enum_known_walk_2 : tie.Need-enum-known-walk-2
-enum_known_walk_2 c = search rules
-
-no_entry_requires : tie.Need-no-entry-requires
-no_entry_requires c κs = search rules
-
-enum_known_walk_3 : tie.Need-enum-known-walk-3
-enum_known_walk_3 c = search rules
-
-enum_known_found_2 : tie.Need-enum-known-found-2
-enum_known_found_2 c = search rules
-
-same_length : tie.Need-same-length
-same_length c = search rules
-
-returns : tie.Need-returns
-returns c =
-    let a = c.before.before.before.before.before.before.before.before.before.before.before.before.before.before.before.before.before.args in
-    let w = sources a.parent.now a.staged.now a.staged_counts.count a.table.now a.table_count in
-    rows_walked a.edition w a.staged_counts a.staged.now a.target a.spend a.spills a.seen _ c.before.before.before.before.before.before.before.before.before.before.before.before.search.ensures _ c.before.before.before.before.before.before.before.before.before.before.found.given.1 _ c.before.before.before.before.before.before.before.walk_down.ensures _ _ (walk_hit a.edition w a.staged_counts a.staged.now _ _ _ _ _ c.before.before.before.before.before.walk.given.1 c.before.before.stage.ensures)
-
-same_length_2 : tie.Need-same-length-2
-same_length_2 c = search rules
-
-returns-2 : tie.Need-returns-2
-returns-2 c =
-    let a = c.before.before.before.before.before.before.before.before.before.before.before.before.before.before.args in
-    let w = sources a.parent.now a.staged.now a.staged_counts.count a.table.now a.table_count in
-    rows_walked a.edition w a.staged_counts a.staged.now a.target a.spend a.spills a.seen _ c.before.before.before.before.before.before.before.before.before.search.ensures _ c.before.before.before.before.before.before.before.found.given.1 _ c.before.before.before.before.walk_down.ensures _ _ (walk_ended a.edition w a.staged_counts a.staged.now _ _ _ c.before.before.walk2.given.1 c.no_entry.ensures)
-
-same_length_3 : tie.Need-same-length-3
-same_length_3 c = search rules
-
-returns-3 : tie.Need-returns-3
-returns-3 c =
-    let a = c.before.before.before.before.before.before.before.before.before.before.before.before.before.args in
-    let w = sources a.parent.now a.staged.now a.staged_counts.count a.table.now a.table_count in
-    rows_walked a.edition w a.staged_counts a.staged.now a.target a.spend a.spills a.seen _ c.before.before.before.before.before.before.before.before.search.ensures _ c.before.before.before.before.before.before.found.given.1 _ c.before.before.before.walk_down.ensures _ _ (walk_bad a.edition w a.staged_counts a.staged.now _ _ c.before.walk3.given.1)
-
-same_length_4 : tie.Need-same-length-4
-same_length_4 c = search rules
-
-returns-4 : tie.Need-returns-4
-returns-4 c =
     let a = c.before.before.before.before.before.before.before.before.args in
     let w = sources a.parent.now a.staged.now a.staged_counts.count a.table.now a.table_count in
-    rows_broken a.edition w a.staged_counts a.staged.now a.target a.spend a.spills a.seen _ c.before.before.before.search.ensures _ c.before.found2.given.1
+    let k = search_most (lead_at (edition_of a.edition) w) a.target 0 a.spills _ _ (omega arith) c.before.before.before.before.search-found.ensures c.before.before.before.in-Upto.is in
+    let m = walk_hits (look_at (edition_of a.edition) w a.target a.spend) _ a.seen _ _ _ c.before.before.walk_down-walk.ensures c.before.in-Hit.is in
+    (c.before.before.before.before.before.before.before.before.requires.0, omega (arith, c.before.before.before.before.before.before.before.before.requires.1, m.0), row_takes _ a.target a.spend _ c.before.before.before.before.before.before.before.before.requires.2 m.1)
+
+enum_known_walk_2 : tie.Need-enum_known-walk-in-Ended-1
+enum_known_walk_2 c = search rules
+
+no_entry_requires : tie.Need-no_entry-code-requires
+no_entry_requires c κs = search rules
+
+enum_known_walk_3 : tie.Need-enum_known-walk-in-Failed-1
+enum_known_walk_3 c = search rules
+
+enum_known_found_2 : tie.Need-enum_known-found-in-Broken-1
+enum_known_found_2 c = search rules
+
+same_length : tie.Need-shape_of-staged-in-Hit
+same_length c = search rules
+
+returns : tie.Need-returns-in-Hit
+returns c =
+    let a = c.before.before.before.before.before.before.before.before.before.before.before.args in
+    let w = sources a.parent.now a.staged.now a.staged_counts.count a.table.now a.table_count in
+    rows_walked a.edition w a.staged_counts a.staged.now a.target a.spend a.spills a.seen _ c.before.before.before.before.before.before.before.search-found.ensures _ c.before.before.before.before.before.before.in-Upto.is _ c.before.before.before.before.before.walk_down-walk.ensures _ _ (walk_hit a.edition w a.staged_counts a.staged.now _ _ _ _ _ c.before.before.before.before.in-Hit.is c.before.before.stage.ensures)
+
+same_length_2 : tie.Need-shape_of-staged-in-Ended
+same_length_2 c = search rules
+
+returns-2 : tie.Need-returns-in-Ended
+returns-2 c =
+    let a = c.before.before.before.before.before.before.before.before.args in
+    let w = sources a.parent.now a.staged.now a.staged_counts.count a.table.now a.table_count in
+    rows_walked a.edition w a.staged_counts a.staged.now a.target a.spend a.spills a.seen _ c.before.before.before.before.search-found.ensures _ c.before.before.before.in-Upto.is _ c.before.before.walk_down-walk.ensures _ _ (walk_ended a.edition w a.staged_counts a.staged.now _ _ _ c.before.in-Ended.is c.no_entry-code.ensures)
+
+same_length_3 : tie.Need-shape_of-staged-in-Failed
+same_length_3 c = search rules
+
+returns-3 : tie.Need-returns-in-Failed
+returns-3 c =
+    let a = c.before.before.before.before.before.before.before.args in
+    let w = sources a.parent.now a.staged.now a.staged_counts.count a.table.now a.table_count in
+    rows_walked a.edition w a.staged_counts a.staged.now a.target a.spend a.spills a.seen _ c.before.before.before.search-found.ensures _ c.before.before.in-Upto.is _ c.before.walk_down-walk.ensures _ _ (walk_bad a.edition w a.staged_counts a.staged.now _ _ c.in-Failed.is)
+
+same_length_4 : tie.Need-shape_of-staged-in-Broken
+same_length_4 c = search rules
+
+returns-4 : tie.Need-returns-in-Broken
+returns-4 c =
+    let a = c.before.before.before.before.before.args in
+    let w = sources a.parent.now a.staged.now a.staged_counts.count a.table.now a.table_count in
+    rows_broken a.edition w a.staged_counts a.staged.now a.target a.spend a.spills a.seen _ c.before.search-found.ensures _ c.in-Broken.is
 
 pub flip_hinted_spec : {M : Type 1} → statement M
 flip_hinted_spec =

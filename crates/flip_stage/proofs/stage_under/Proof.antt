@@ -7,97 +7,97 @@ use borrow.Author.Rules.{rules}
 use Rattle.flip_stage.proofs.stage_under.Statement.{statement}
 use Rattle.flip_stage.proofs.stage_under.Tie as tie
 
-record_size_requires : tie.Need-record-size-requires
+record_size_requires : tie.Need-record_size-size-requires
 record_size_requires c κs = search rules
 
-locate_hinted_requires : tie.Need-locate-hinted-requires
+locate_hinted_requires : tie.Need-locate_hinted-place-requires
 locate_hinted_requires c κs =
-    let q = c.before.before.before.before.before.before.requires in
-    let z = c.before.record_size.ensures.0 in
-    (rw z (omega (arith, sizes c.before.before.before.before.before.before.args.edition)), rw z q.0.bounds.within, rw z q.0.within, c.before.before.before.before.before.before.requires.3, rw z q.0.apart)
+    let q = c.before.before.before.before.before.requires in
+    let z = c.record_size-size.ensures.0 in
+    (rw z (omega (arith, sizes c.before.before.before.before.before.args.edition)), rw z q.0.bounds.within, rw z q.0.within, c.before.before.before.before.before.requires.3, rw z q.0.apart)
 
-enum_known_place : tie.Need-enum-known-place
+enum_known_place : tie.Need-enum_known-place
 enum_known_place c = search rules
 
-slice_aggregate_rewrite_record : tie.Need-slice-aggregate-rewrite-record
+slice_aggregate_rewrite_record : tie.Need-slice_bounds-rewrite_record-end
 slice_aggregate_rewrite_record c = search rules
 
-rewrite_record_requires : tie.Need-rewrite-record-requires
+rewrite_record_requires : tie.Need-rewrite_record-n-requires
 rewrite_record_requires c κs =
-    let z = c.before.before.before.before.before.before.before.record_size.ensures.0 in
-    (staged_lies c.before.before.before.before.before.before.before.before.before.before.before.before.args.edition c.before.before.before.before.before.before.before.before.before.before.before.before.args.parent.now c.before.before.before.before.before.before.before.before.before.before.before.before.args.staged.now c.before.before.before.before.before.before.before.before.before.before.before.before.args.staged_counts c.before.before.before.before.before.before.before.before.before.before.before.before.args.table.now c.before.before.before.before.before.before.before.before.before.before.before.before.args.table_count c.before.before.before.before.before.before.before.before.before.before.before.before.args.number c.before.before.before.before.before.before.before.before.before.before.before.before.args.at _ c.before.before.before.before.before.before.before.before.before.before.before.before.requires.2 _ (rw z at c.before.before.before.before.before.locate_hinted.ensures) _ c.before.before.before.place.given.1 c.before.before.before.before.before.before.before.before.before.before.before.before.requires.0.bounds.within, c.before.before.before.before.before.before.before.before.before.before.before.before.requires.1, search rules, staged_takes c.before.before.before.before.before.before.before.before.before.before.before.before.args.edition c.before.before.before.before.before.before.before.before.before.before.before.before.args.parent.now c.before.before.before.before.before.before.before.before.before.before.before.before.args.staged.now c.before.before.before.before.before.before.before.before.before.before.before.before.args.staged_counts c.before.before.before.before.before.before.before.before.before.before.before.before.args.table.now c.before.before.before.before.before.before.before.before.before.before.before.before.args.table_count c.before.before.before.before.before.before.before.before.before.before.before.before.args.number c.before.before.before.before.before.before.before.before.before.before.before.before.args.at _ c.before.before.before.before.before.before.before.before.before.before.before.before.requires.2 _ (rw z at c.before.before.before.before.before.locate_hinted.ensures) _ c.before.before.before.place.given.1 c.before.before.before.before.before.before.before.before.before.before.before.before.requires.4)
+    let z = c.before.before.before.record_size-size.ensures.0 in
+    (staged_lies c.before.before.before.before.before.before.before.before.args.edition c.before.before.before.before.before.before.before.before.args.parent.now c.before.before.before.before.before.before.before.before.args.staged.now c.before.before.before.before.before.before.before.before.args.staged_counts c.before.before.before.before.before.before.before.before.args.table.now c.before.before.before.before.before.before.before.before.args.table_count c.before.before.before.before.before.before.before.before.args.number c.before.before.before.before.before.before.before.before.args.at _ c.before.before.before.before.before.before.before.before.requires.2 _ (rw z at c.before.before.locate_hinted-place.ensures) _ c.before.in-Staged.is c.before.before.before.before.before.before.before.before.requires.0.bounds.within, c.before.before.before.before.before.before.before.before.requires.1, search rules, staged_takes c.before.before.before.before.before.before.before.before.args.edition c.before.before.before.before.before.before.before.before.args.parent.now c.before.before.before.before.before.before.before.before.args.staged.now c.before.before.before.before.before.before.before.before.args.staged_counts c.before.before.before.before.before.before.before.before.args.table.now c.before.before.before.before.before.before.before.before.args.table_count c.before.before.before.before.before.before.before.before.args.number c.before.before.before.before.before.before.before.before.args.at _ c.before.before.before.before.before.before.before.before.requires.2 _ (rw z at c.before.before.locate_hinted-place.ensures) _ c.before.in-Staged.is c.before.before.before.before.before.before.before.before.requires.4)
 
-array_share_prefix_row : tie.Need-array-share-prefix-row
+array_share_prefix_row : tie.Need-slice_bounds-row-end
 array_share_prefix_row c =
-    omega (arith, c.before.before.rewrite_record.ensures.0, c.before.before.rewrite_record.auto, limit_most c.before.before.before.before.before.before.before.before.before.before.before.before.before.before.before.args.edition)
+    omega (arith, c.before.before.rewrite_record-n.ensures.0, c.before.before.rewrite_record-n.auto, limit_most c.before.before.before.before.before.before.before.before.before.before.before.args.edition)
 
-slice_aggregate_put : tie.Need-slice-aggregate-put
+slice_aggregate_put : tie.Need-slice_bounds-put-end
 slice_aggregate_put c =
-    simp length-take (omega (arith, c.before.before.before.rewrite_record.ensures.0, c.before.before.before.rewrite_record.auto, limit_most c.before.before.before.before.before.before.before.before.before.before.before.before.before.before.before.before.args.edition))
+    simp length-take (omega (arith, c.before.before.before.rewrite_record-n.ensures.0, c.before.before.before.rewrite_record-n.auto, limit_most c.before.before.before.before.before.before.before.before.before.before.before.before.args.edition))
 
-put_requires : tie.Need-put-requires
+put_requires : tie.Need-put-count-requires
 put_requires c κs =
-    let z = c.before.before.before.before.before.before.before.before.before.before.before.record_size.ensures.0 in
-    (rw z c.before.before.before.before.before.before.before.before.before.before.before.before.before.before.before.before.requires.0.bounds.within, c.before.before.before.before.before.before.before.before.before.before.before.before.before.before.before.before.requires.3, rw z (simp length-take (omega (arith, c.before.before.before.rewrite_record.ensures.0, sizes c.before.before.before.before.before.before.before.before.before.before.before.before.before.before.before.before.args.edition))), rw z (staged_room c.before.before.before.before.before.before.before.before.before.before.before.before.before.before.before.before.args.edition c.before.before.before.before.before.before.before.before.before.before.before.before.before.before.before.before.args.parent.now c.before.before.before.before.before.before.before.before.before.before.before.before.before.before.before.before.args.staged.now c.before.before.before.before.before.before.before.before.before.before.before.before.before.before.before.before.args.staged_counts c.before.before.before.before.before.before.before.before.before.before.before.before.before.before.before.before.args.table.now c.before.before.before.before.before.before.before.before.before.before.before.before.before.before.before.before.args.table_count c.before.before.before.before.before.before.before.before.before.before.before.before.before.before.before.before.args.number c.before.before.before.before.before.before.before.before.before.before.before.before.before.before.before.before.args.at _ c.before.before.before.before.before.before.before.before.before.before.before.before.before.before.before.before.requires.2 _ (rw z at c.before.before.before.before.before.before.before.before.before.locate_hinted.ensures) _ c.before.before.before.before.before.before.before.place.given.1 c.before.before.before.before.before.before.before.before.before.before.before.before.before.before.before.before.requires.0.bounds.within))
+    let z = c.before.before.before.before.before.before.before.record_size-size.ensures.0 in
+    (rw z c.before.before.before.before.before.before.before.before.before.before.before.before.requires.0.bounds.within, c.before.before.before.before.before.before.before.before.before.before.before.before.requires.3, rw z (simp length-take (omega (arith, c.before.before.before.rewrite_record-n.ensures.0, sizes c.before.before.before.before.before.before.before.before.before.before.before.before.args.edition))), rw z (staged_room c.before.before.before.before.before.before.before.before.before.before.before.before.args.edition c.before.before.before.before.before.before.before.before.before.before.before.before.args.parent.now c.before.before.before.before.before.before.before.before.before.before.before.before.args.staged.now c.before.before.before.before.before.before.before.before.before.before.before.before.args.staged_counts c.before.before.before.before.before.before.before.before.before.before.before.before.args.table.now c.before.before.before.before.before.before.before.before.before.before.before.before.args.table_count c.before.before.before.before.before.before.before.before.before.before.before.before.args.number c.before.before.before.before.before.before.before.before.before.before.before.before.args.at _ c.before.before.before.before.before.before.before.before.before.before.before.before.requires.2 _ (rw z at c.before.before.before.before.before.before.locate_hinted-place.ensures) _ c.before.before.before.before.before.in-Staged.is c.before.before.before.before.before.before.before.before.before.before.before.before.requires.0.bounds.within))
 
-enum_known_place_2 : tie.Need-enum-known-place-2
+enum_known_place_2 : tie.Need-enum_known-place-in-Table-1
 enum_known_place_2 c = search rules
 
-same_length : tie.Need-same-length
+same_length : tie.Need-shape_of-staged-then-capacity-held
 same_length c = search rules
 
-returns : tie.Need-returns
+returns : tie.Need-returns-then-capacity-held
 returns c =
-    let z = c.before.before.before.before.before.before.record_size.ensures.0 in
-    stage_16 c.before.before.before.before.before.before.before.before.before.before.before.args.edition c.before.before.before.before.before.before.before.before.before.before.before.args.parent.now c.before.before.before.before.before.before.before.before.before.before.before.args.staged.now c.before.before.before.before.before.before.before.before.before.before.before.args.staged_counts c.before.before.before.before.before.before.before.before.before.before.before.args.table.now c.before.before.before.before.before.before.before.before.before.before.before.args.table_count c.before.before.before.before.before.before.before.before.before.before.before.args.number c.before.before.before.before.before.before.before.before.before.before.before.args.at _ c.before.before.before.before.before.before.before.before.before.before.before.requires.2 _ (rw z at c.before.before.before.before.locate_hinted.ensures) _ c.before.before.place2.given.1 c.if1.true
+    let z = c.before.before.before.record_size-size.ensures.0 in
+    stage_16 c.before.before.before.before.before.before.before.before.args.edition c.before.before.before.before.before.before.before.before.args.parent.now c.before.before.before.before.before.before.before.before.args.staged.now c.before.before.before.before.before.before.before.before.args.staged_counts c.before.before.before.before.before.before.before.before.args.table.now c.before.before.before.before.before.before.before.before.args.table_count c.before.before.before.before.before.before.before.before.args.number c.before.before.before.before.before.before.before.before.args.at _ c.before.before.before.before.before.before.before.before.requires.2 _ (rw z at c.before.before.locate_hinted-place.ensures) _ c.before.in-Table.is c.if-capacity-held.true
 
-slice_aggregate_rewrite_record_2 : tie.Need-slice-aggregate-rewrite-record-2
+slice_aggregate_rewrite_record_2 : tie.Need-slice_bounds-rewrite_record-end-in-Table
 slice_aggregate_rewrite_record_2 c = search rules
 
-rewrite_record_requires_2 : tie.Need-rewrite-record-requires-2
+rewrite_record_requires_2 : tie.Need-rewrite_record-n-requires-in-Table
 rewrite_record_requires_2 c κs =
-    let z = c.before.before.before.before.before.before.before.record_size.ensures.0 in
-    (table_lies c.before.before.before.before.before.before.before.before.before.before.before.before.args.edition c.before.before.before.before.before.before.before.before.before.before.before.before.args.parent.now c.before.before.before.before.before.before.before.before.before.before.before.before.args.staged.now c.before.before.before.before.before.before.before.before.before.before.before.before.args.staged_counts c.before.before.before.before.before.before.before.before.before.before.before.before.args.table.now c.before.before.before.before.before.before.before.before.before.before.before.before.args.table_count c.before.before.before.before.before.before.before.before.before.before.before.before.args.number c.before.before.before.before.before.before.before.before.before.before.before.before.args.at _ c.before.before.before.before.before.before.before.before.before.before.before.before.requires.2 _ (rw z at c.before.before.before.before.before.locate_hinted.ensures) _ c.before.before.before.place2.given.1 c.before.before.before.before.before.before.before.before.before.before.before.before.requires.0.within, c.before.before.before.before.before.before.before.before.before.before.before.before.requires.1, search rules, table_takes c.before.before.before.before.before.before.before.before.before.before.before.before.args.edition c.before.before.before.before.before.before.before.before.before.before.before.before.args.parent.now c.before.before.before.before.before.before.before.before.before.before.before.before.args.staged.now c.before.before.before.before.before.before.before.before.before.before.before.before.args.staged_counts c.before.before.before.before.before.before.before.before.before.before.before.before.args.table.now c.before.before.before.before.before.before.before.before.before.before.before.before.args.table_count c.before.before.before.before.before.before.before.before.before.before.before.before.args.number c.before.before.before.before.before.before.before.before.before.before.before.before.args.at _ c.before.before.before.before.before.before.before.before.before.before.before.before.requires.2 _ (rw z at c.before.before.before.before.before.locate_hinted.ensures) _ c.before.before.before.place2.given.1 c.before.before.before.before.before.before.before.before.before.before.before.before.requires.4)
+    let z = c.before.before.before.before.record_size-size.ensures.0 in
+    (table_lies c.before.before.before.before.before.before.before.before.before.args.edition c.before.before.before.before.before.before.before.before.before.args.parent.now c.before.before.before.before.before.before.before.before.before.args.staged.now c.before.before.before.before.before.before.before.before.before.args.staged_counts c.before.before.before.before.before.before.before.before.before.args.table.now c.before.before.before.before.before.before.before.before.before.args.table_count c.before.before.before.before.before.before.before.before.before.args.number c.before.before.before.before.before.before.before.before.before.args.at _ c.before.before.before.before.before.before.before.before.before.requires.2 _ (rw z at c.before.before.before.locate_hinted-place.ensures) _ c.before.before.in-Table.is c.before.before.before.before.before.before.before.before.before.requires.0.within, c.before.before.before.before.before.before.before.before.before.requires.1, search rules, table_takes c.before.before.before.before.before.before.before.before.before.args.edition c.before.before.before.before.before.before.before.before.before.args.parent.now c.before.before.before.before.before.before.before.before.before.args.staged.now c.before.before.before.before.before.before.before.before.before.args.staged_counts c.before.before.before.before.before.before.before.before.before.args.table.now c.before.before.before.before.before.before.before.before.before.args.table_count c.before.before.before.before.before.before.before.before.before.args.number c.before.before.before.before.before.before.before.before.before.args.at _ c.before.before.before.before.before.before.before.before.before.requires.2 _ (rw z at c.before.before.before.locate_hinted-place.ensures) _ c.before.before.in-Table.is c.before.before.before.before.before.before.before.before.before.requires.4)
 
-array_share_prefix_row_2 : tie.Need-array-share-prefix-row-2
+array_share_prefix_row_2 : tie.Need-slice_bounds-row-end-in-Table
 array_share_prefix_row_2 c =
-    omega (arith, c.before.before.rewrite_record2.ensures.0, c.before.before.rewrite_record2.auto, limit_most c.before.before.before.before.before.before.before.before.before.before.before.before.before.before.before.args.edition)
+    omega (arith, c.before.before.rewrite_record-n-in-Table.ensures.0, c.before.before.rewrite_record-n-in-Table.auto, limit_most c.before.before.before.before.before.before.before.before.before.before.before.before.args.edition)
 
-slice_aggregate_put_2 : tie.Need-slice-aggregate-put-2
+slice_aggregate_put_2 : tie.Need-slice_bounds-put-end-in-Table
 slice_aggregate_put_2 c =
-    simp length-take (omega (arith, c.before.before.before.rewrite_record2.ensures.0, c.before.before.before.rewrite_record2.auto, limit_most c.before.before.before.before.before.before.before.before.before.before.before.before.before.before.before.before.args.edition))
+    simp length-take (omega (arith, c.before.before.before.rewrite_record-n-in-Table.ensures.0, c.before.before.before.rewrite_record-n-in-Table.auto, limit_most c.before.before.before.before.before.before.before.before.before.before.before.before.before.args.edition))
 
-put_requires_2 : tie.Need-put-requires-2
+put_requires_2 : tie.Need-put-count-requires-in-Table
 put_requires_2 c κs =
-    let z = c.before.before.before.before.before.before.before.before.before.before.before.record_size.ensures.0 in
-    (rw z c.before.before.before.before.before.before.before.before.before.before.before.before.before.before.before.before.requires.0.bounds.within, c.before.before.before.before.before.before.before.before.before.before.before.before.before.before.before.before.requires.3, rw z (simp length-take (omega (arith, c.before.before.before.rewrite_record2.ensures.0, sizes c.before.before.before.before.before.before.before.before.before.before.before.before.before.before.before.before.args.edition))), rw z (table_room c.before.before.before.before.before.before.before.before.before.before.before.before.before.before.before.before.args.edition c.before.before.before.before.before.before.before.before.before.before.before.before.before.before.before.before.args.parent.now c.before.before.before.before.before.before.before.before.before.before.before.before.before.before.before.before.args.staged.now c.before.before.before.before.before.before.before.before.before.before.before.before.before.before.before.before.args.staged_counts c.before.before.before.before.before.before.before.before.before.before.before.before.before.before.before.before.args.table.now c.before.before.before.before.before.before.before.before.before.before.before.before.before.before.before.before.args.table_count c.before.before.before.before.before.before.before.before.before.before.before.before.before.before.before.before.args.number c.before.before.before.before.before.before.before.before.before.before.before.before.before.before.before.before.args.at _ c.before.before.before.before.before.before.before.before.before.before.before.before.before.before.before.before.requires.2 _ (rw z at c.before.before.before.before.before.before.before.before.before.locate_hinted.ensures) _ c.before.before.before.before.before.before.before.place2.given.1 c.before.before.before.before.before.if1.false c.before.before.before.before.before.before.before.before.before.before.before.before.before.before.before.before.requires.0.bounds))
+    let z = c.before.before.before.before.before.before.before.before.record_size-size.ensures.0 in
+    (rw z c.before.before.before.before.before.before.before.before.before.before.before.before.before.requires.0.bounds.within, c.before.before.before.before.before.before.before.before.before.before.before.before.before.requires.3, rw z (simp length-take (omega (arith, c.before.before.before.rewrite_record-n-in-Table.ensures.0, sizes c.before.before.before.before.before.before.before.before.before.before.before.before.before.args.edition))), rw z (table_room c.before.before.before.before.before.before.before.before.before.before.before.before.before.args.edition c.before.before.before.before.before.before.before.before.before.before.before.before.before.args.parent.now c.before.before.before.before.before.before.before.before.before.before.before.before.before.args.staged.now c.before.before.before.before.before.before.before.before.before.before.before.before.before.args.staged_counts c.before.before.before.before.before.before.before.before.before.before.before.before.before.args.table.now c.before.before.before.before.before.before.before.before.before.before.before.before.before.args.table_count c.before.before.before.before.before.before.before.before.before.before.before.before.before.args.number c.before.before.before.before.before.before.before.before.before.before.before.before.before.args.at _ c.before.before.before.before.before.before.before.before.before.before.before.before.before.requires.2 _ (rw z at c.before.before.before.before.before.before.before.locate_hinted-place.ensures) _ c.before.before.before.before.before.before.in-Table.is c.before.before.before.before.before.if-capacity-held.false c.before.before.before.before.before.before.before.before.before.before.before.before.before.requires.0.bounds))
 
-enum_told : tie.Need-enum-told
+enum_told : tie.Need-enum_told-1
 enum_told c = search rules
 
-same_length_2 : tie.Need-same-length-2
+same_length_2 : tie.Need-shape_of-staged-in-Staged
 same_length_2 c = search rules
 
-returns-2 : tie.Need-returns-2
+returns-2 : tie.Need-returns-in-Staged
 returns-2 c =
-    let z = c.before.before.before.before.before.before.before.before.before.before.before.before.before.before.record_size.ensures.0 in
-    stage_again c.before.before.before.before.before.before.before.before.before.before.before.before.before.before.before.before.before.before.before.args.edition c.before.before.before.before.before.before.before.before.before.before.before.before.before.before.before.before.before.before.before.args.parent.now c.before.before.before.before.before.before.before.before.before.before.before.before.before.before.before.before.before.before.before.args.staged.now c.before.before.before.before.before.before.before.before.before.before.before.before.before.before.before.before.before.before.before.args.staged_counts c.before.before.before.before.before.before.before.before.before.before.before.before.before.before.before.before.before.before.before.args.table.now c.before.before.before.before.before.before.before.before.before.before.before.before.before.before.before.before.before.before.before.args.table_count c.before.before.before.before.before.before.before.before.before.before.before.before.before.before.before.before.before.before.before.args.number c.before.before.before.before.before.before.before.before.before.before.before.before.before.before.before.before.before.before.before.args.at _ c.before.before.before.before.before.before.before.before.before.before.before.before.before.before.before.before.before.before.before.requires.2 _ (rw z at c.before.before.before.before.before.before.before.before.before.before.before.before.locate_hinted.ensures) _ c.before.before.before.before.before.before.before.before.before.before.place.given.1 _ c.before.before.before.before.before.before.rewrite_record.ensures.1 _ _ (rw z at c.before.before.put.ensures.0) (rw z at c.before.before.put.ensures.1)
+    let z = c.before.before.before.before.before.before.before.before.before.before.record_size-size.ensures.0 in
+    stage_again c.before.before.before.before.before.before.before.before.before.before.before.before.before.before.before.args.edition c.before.before.before.before.before.before.before.before.before.before.before.before.before.before.before.args.parent.now c.before.before.before.before.before.before.before.before.before.before.before.before.before.before.before.args.staged.now c.before.before.before.before.before.before.before.before.before.before.before.before.before.before.before.args.staged_counts c.before.before.before.before.before.before.before.before.before.before.before.before.before.before.before.args.table.now c.before.before.before.before.before.before.before.before.before.before.before.before.before.before.before.args.table_count c.before.before.before.before.before.before.before.before.before.before.before.before.before.before.before.args.number c.before.before.before.before.before.before.before.before.before.before.before.before.before.before.before.args.at _ c.before.before.before.before.before.before.before.before.before.before.before.before.before.before.before.requires.2 _ (rw z at c.before.before.before.before.before.before.before.before.before.locate_hinted-place.ensures) _ c.before.before.before.before.before.before.before.before.in-Staged.is _ c.before.before.before.before.before.before.rewrite_record-n.ensures.1 _ _ (rw z at c.before.before.put-count.ensures.0) (rw z at c.before.before.put-count.ensures.1)
 
-same_length_3 : tie.Need-same-length-3
+same_length_3 : tie.Need-shape_of-staged-else-capacity-held
 same_length_3 c = search rules
 
-returns-3 : tie.Need-returns-3
+returns-3 : tie.Need-returns-else-capacity-held
 returns-3 c =
-    let z = c.before.before.before.before.before.before.before.before.before.before.before.before.before.before.record_size.ensures.0 in
-    stage_copied c.before.before.before.before.before.before.before.before.before.before.before.before.before.before.before.before.before.before.before.args.edition c.before.before.before.before.before.before.before.before.before.before.before.before.before.before.before.before.before.before.before.args.parent.now c.before.before.before.before.before.before.before.before.before.before.before.before.before.before.before.before.before.before.before.args.staged.now c.before.before.before.before.before.before.before.before.before.before.before.before.before.before.before.before.before.before.before.args.staged_counts c.before.before.before.before.before.before.before.before.before.before.before.before.before.before.before.before.before.before.before.args.table.now c.before.before.before.before.before.before.before.before.before.before.before.before.before.before.before.before.before.before.before.args.table_count c.before.before.before.before.before.before.before.before.before.before.before.before.before.before.before.before.before.before.before.args.number c.before.before.before.before.before.before.before.before.before.before.before.before.before.before.before.before.before.before.before.args.at _ c.before.before.before.before.before.before.before.before.before.before.before.before.before.before.before.before.before.before.before.requires.2 _ (rw z at c.before.before.before.before.before.before.before.before.before.before.before.before.locate_hinted.ensures) _ c.before.before.before.before.before.before.before.before.before.before.place2.given.1 c.before.before.before.before.before.before.before.before.if1.false _ c.before.before.before.before.before.before.rewrite_record2.ensures.1 _ _ (rw z at c.before.before.put2.ensures.0) (rw z at c.before.before.put2.ensures.1)
+    let z = c.before.before.before.before.before.before.before.before.before.before.before.record_size-size.ensures.0 in
+    stage_copied c.before.before.before.before.before.before.before.before.before.before.before.before.before.before.before.before.args.edition c.before.before.before.before.before.before.before.before.before.before.before.before.before.before.before.before.args.parent.now c.before.before.before.before.before.before.before.before.before.before.before.before.before.before.before.before.args.staged.now c.before.before.before.before.before.before.before.before.before.before.before.before.before.before.before.before.args.staged_counts c.before.before.before.before.before.before.before.before.before.before.before.before.before.before.before.before.args.table.now c.before.before.before.before.before.before.before.before.before.before.before.before.before.before.before.before.args.table_count c.before.before.before.before.before.before.before.before.before.before.before.before.before.before.before.before.args.number c.before.before.before.before.before.before.before.before.before.before.before.before.before.before.before.before.args.at _ c.before.before.before.before.before.before.before.before.before.before.before.before.before.before.before.before.requires.2 _ (rw z at c.before.before.before.before.before.before.before.before.before.before.locate_hinted-place.ensures) _ c.before.before.before.before.before.before.before.before.before.in-Table.is c.before.before.before.before.before.before.before.before.if-capacity-held.false _ c.before.before.before.before.before.before.rewrite_record-n-in-Table.ensures.1 _ _ (rw z at c.before.before.put-count-in-Table.ensures.0) (rw z at c.before.before.put-count-in-Table.ensures.1)
 
-same_length_4 : tie.Need-same-length-4
+same_length_4 : tie.Need-shape_of-staged-in-Missing
 same_length_4 c = search rules
 
-returns-4 : tie.Need-returns-4
+returns-4 : tie.Need-returns-in-Missing
 returns-4 c =
-    let z = c.before.before.before.before.record_size.ensures.0 in
-    stage_12 c.before.before.before.before.before.before.before.before.before.args.edition c.before.before.before.before.before.before.before.before.before.args.parent.now c.before.before.before.before.before.before.before.before.before.args.staged.now c.before.before.before.before.before.before.before.before.before.args.staged_counts c.before.before.before.before.before.before.before.before.before.args.table.now c.before.before.before.before.before.before.before.before.before.args.table_count c.before.before.before.before.before.before.before.before.before.args.number c.before.before.before.before.before.before.before.before.before.args.at _ c.before.before.before.before.before.before.before.before.before.requires.2 _ (rw z at c.before.before.locate_hinted.ensures) c.enum_told.given.1
+    let z = c.before.before.record_size-size.ensures.0 in
+    stage_12 c.before.before.before.before.before.before.before.args.edition c.before.before.before.before.before.before.before.args.parent.now c.before.before.before.before.before.before.before.args.staged.now c.before.before.before.before.before.before.before.args.staged_counts c.before.before.before.before.before.before.before.args.table.now c.before.before.before.before.before.before.before.args.table_count c.before.before.before.before.before.before.before.args.number c.before.before.before.before.before.before.before.args.at _ c.before.before.before.before.before.before.before.requires.2 _ (rw z at c.before.locate_hinted-place.ensures) c.in-Missing.is
 
 pub stage_under_spec : {M : Type 1} → statement M
 stage_under_spec =

@@ -9,78 +9,78 @@ use mathlib.Core.Path.{◌≡◌, refl, sym, ◌∙◌}
 use Rattle.flip_walk.proofs.walk_down.Statement.{statement}
 use Rattle.flip_walk.proofs.walk_down.Tie as tie
 
-abbrev invariant_loop : tie.invariant_loop
+abbrev invariant_loop : tie.invariant-loop-low
 invariant_loop edition parent staged staged_count table table_count hints target spend from seen low₀ saw₀ low saw =
     let f = look_at (edition_of edition) (sources parent staged staged_count table table_count) target spend in
     (low < 2147483648) × (walk_from f from seen ≡ walk_from f low saw)
 
-abbrev decreases_loop : tie.decreases_loop
+abbrev decreases_loop : tie.decreases-loop-low
 decreases_loop edition parent staged staged_count table table_count hints target spend from seen low₀ saw₀ low saw = low
 
-loop-holds : tie.Need-loop-init invariant_loop decreases_loop
+loop-holds : tie.Need-loop-low-init invariant_loop decreases_loop
 loop-holds c = (search rules, refl)
 
-sub_low : tie.Need-overflow-sub-low invariant_loop decreases_loop
+sub_low : tie.Need-overflow_sub-low invariant_loop decreases_loop
 sub_low c = search rules
 
-look_at_requires : tie.Need-look-at-requires invariant_loop decreases_loop
+look_at_requires : tie.Need-look_at-look-requires invariant_loop decreases_loop
 look_at_requires c κs = search rules
 
-enum_known_look : tie.Need-enum-known-look invariant_loop decreases_loop
+enum_known_look : tie.Need-enum_known-look invariant_loop decreases_loop
 enum_known_look c = search rules
 
-returns : tie.Need-returns invariant_loop decreases_loop
+returns : tie.Need-returns-in-Take invariant_loop decreases_loop
 returns c =
-    let a = c.before.before.before.before.before.before.before.before.before.args in
+    let a = c.before.before.before.before.before.before.before.args in
     let f = look_at (edition_of a.edition) (sources a.parent.now a.staged.now a.staged_count a.table.now a.table_count) a.target a.spend in
-    let l = c.before.before.before.before.before.loop in
-    walk_take f l.low l.saw c.before.before.before.before.loop-test.true _ c.before.before.before.look_at.ensures _ c.before.look.given.1 ∙ sym l.invariant.1
+    let l = c.before.before.before.loop-low in
+    walk_take f l.low l.saw c.before.before.loop-low-test.true _ c.before.look_at-look.ensures _ c.in-Take.is ∙ sym l.invariant.1
 
-enum_known_look_2 : tie.Need-enum-known-look-2 invariant_loop decreases_loop
+enum_known_look_2 : tie.Need-enum_known-look-in-Stop-1 invariant_loop decreases_loop
 enum_known_look_2 c = search rules
 
 either_requires : tie.Need-either-requires invariant_loop decreases_loop
 either_requires c κs = search rules
 
-returns-2 : tie.Need-returns-2 invariant_loop decreases_loop
+returns-2 : tie.Need-returns-in-Stop invariant_loop decreases_loop
 returns-2 c =
-    let a = c.before.before.before.before.before.before.before.before.before.before.args in
+    let a = c.before.before.before.before.before.before.before.before.args in
     let f = look_at (edition_of a.edition) (sources a.parent.now a.staged.now a.staged_count a.table.now a.table_count) a.target a.spend in
-    let l = c.before.before.before.before.before.before.loop in
-    walk_stop f l.low l.saw c.before.before.before.before.before.loop-test.true _ c.before.before.before.before.look_at.ensures _ _ c.before.before.look2.given.1 c.either.ensures ∙ sym l.invariant.1
+    let l = c.before.before.before.before.loop-low in
+    walk_stop f l.low l.saw c.before.before.before.loop-low-test.true _ c.before.before.look_at-look.ensures _ _ c.before.in-Stop.is c.either.ensures ∙ sym l.invariant.1
 
-enum_known_look_3 : tie.Need-enum-known-look-3 invariant_loop decreases_loop
+enum_known_look_3 : tie.Need-enum_known-look-in-Next-1 invariant_loop decreases_loop
 enum_known_look_3 c = search rules
 
-either_requires_2 : tie.Need-either-requires-2 invariant_loop decreases_loop
+either_requires_2 : tie.Need-either-saw-requires invariant_loop decreases_loop
 either_requires_2 c κs = search rules
 
-loop-less : tie.Need-loop-smaller invariant_loop decreases_loop
+loop-less : tie.Need-loop-low-smaller invariant_loop decreases_loop
 loop-less c = search rules
 
-loop-again : tie.Need-loop-preserved invariant_loop decreases_loop
+loop-again : tie.Need-loop-low-preserved invariant_loop decreases_loop
 loop-again c =
-    let a = c.before.before.before.before.before.before.before.before.before.before.args in
+    let a = c.before.before.before.before.before.before.before.before.args in
     let f = look_at (edition_of a.edition) (sources a.parent.now a.staged.now a.staged_count a.table.now a.table_count) a.target a.spend in
-    let l = c.before.before.before.before.before.before.loop in
-    (search rules, l.invariant.1 ∙ walk_next f l.low l.saw c.before.before.before.before.before.loop-test.true _ c.before.before.before.before.look_at.ensures _ _ c.before.before.look3.given.1 c.either2.ensures)
+    let l = c.before.before.before.before.loop-low in
+    (search rules, l.invariant.1 ∙ walk_next f l.low l.saw c.before.before.before.loop-low-test.true _ c.before.before.look_at-look.ensures _ _ c.before.in-Next.is c.either-saw.ensures)
 
-enum_known_look_4 : tie.Need-enum-known-look-4 invariant_loop decreases_loop
+enum_known_look_4 : tie.Need-enum_known-look-in-Fail-1 invariant_loop decreases_loop
 enum_known_look_4 c = search rules
 
-returns-3 : tie.Need-returns-3 invariant_loop decreases_loop
+returns-3 : tie.Need-returns-in-Fail invariant_loop decreases_loop
 returns-3 c =
-    let a = c.before.before.before.before.before.before.before.before.before.args in
+    let a = c.before.before.before.before.before.before.before.args in
     let f = look_at (edition_of a.edition) (sources a.parent.now a.staged.now a.staged_count a.table.now a.table_count) a.target a.spend in
-    let l = c.before.before.before.before.before.loop in
-    walk_fail f l.low l.saw c.before.before.before.before.loop-test.true _ c.before.before.before.look_at.ensures _ c.before.look4.given.1 ∙ sym l.invariant.1
+    let l = c.before.before.before.loop-low in
+    walk_fail f l.low l.saw c.before.before.loop-low-test.true _ c.before.look_at-look.ensures _ c.in-Fail.is ∙ sym l.invariant.1
 
-returns-4 : tie.Need-returns-4 invariant_loop decreases_loop
+returns-4 : tie.Need-returns invariant_loop decreases_loop
 returns-4 c =
     let a = c.before.before.before.before.before.args in
     let f = look_at (edition_of a.edition) (sources a.parent.now a.staged.now a.staged_count a.table.now a.table_count) a.target a.spend in
-    let l = c.before.loop in
-    walk_end f l.low l.saw c.loop-test.false ∙ sym l.invariant.1
+    let l = c.before.loop-low in
+    walk_end f l.low l.saw c.loop-low-test.false ∙ sym l.invariant.1
 
 pub walk_down_spec : {M : Type 1} → statement M
 walk_down_spec =

@@ -16,7 +16,7 @@ record_size_requires c κs = search rules
 find_hinted_requires : tie.Need-find_hinted-found-requires
 find_hinted_requires c κs =
     let s = c.before.before.before.before in
-    let z = c.before.before.record_size.ensures.0 in
+    let z = c.record_size-size.ensures.0 in
     (omega (arith, z, sizes s.args.edition), rw z s.requires.0, s.requires.1, rw z s.requires.2)
 
 enum_known_found : tie.Need-enum_known-found
@@ -25,13 +25,13 @@ enum_known_found c = search rules
 remove_requires : tie.Need-remove-requires
 remove_requires c κs =
     let s = c.before.before.before.before.before.before.before.before in
-    let z = c.before.before.before.before.before.before.record_size.ensures.0 in
+    let z = c.before.before.before.before.record_size-size.ensures.0 in
     (omega (arith, z, sizes s.args.edition), rw z s.requires.0, found_in s.args.key.now (record_size s.args.edition) s.args.counts.count s.args.list.now _ _ (rw z at c.before.before.before.find_hinted-found.ensures) c.before.before.in-At.is)
 
 sub_result : tie.Need-overflow_sub-result
 sub_result c =
     let s = c.before.before.before.before.before.before.before.before.before.before.before.before.before in
-    let z = c.before.before.before.before.before.before.before.before.before.before.before.record_size.ensures.0 in
+    let z = c.before.before.before.before.before.before.before.before.before.record_size-size.ensures.0 in
     let k = found_in s.args.key.now (record_size s.args.edition) s.args.counts.count s.args.list.now _ _ (rw z at c.before.before.before.before.before.before.before.before.find_hinted-found.ensures) c.before.before.before.before.before.before.before.in-At.is in
     omega arith
 
@@ -47,7 +47,7 @@ same_length_2 c = search rules
 returns : tie.Need-returns-in-At
 unfolding remove_key
 returns c =
-    let z = c.before.before.before.before.before.before.before.before.before.before.before.record_size.ensures.0 in
+    let z = c.before.before.before.before.before.before.before.before.before.record_size-size.ensures.0 in
     rw (sym (rw z at c.before.before.before.before.before.before.before.before.find_hinted-found.ensures) ∙ c.before.before.before.before.before.before.before.in-At.is, rw z at c.before.before.before.before.remove.ensures)
 
 same_length_3 : tie.Need-shape_of-list-in-Nothing
@@ -59,7 +59,7 @@ same_length_4 c = search rules
 returns-2 : tie.Need-returns-in-Nothing
 unfolding remove_key
 returns-2 c =
-    let z = c.before.before.before.before.record_size.ensures.0 in
+    let z = c.before.before.record_size-size.ensures.0 in
     rw (sym (rw z at c.before.find_hinted-found.ensures) ∙ c.in-Nothing.is)
 
 pub remove_key_spec : {M : Type 1} → statement M

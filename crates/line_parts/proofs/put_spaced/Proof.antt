@@ -9,17 +9,17 @@ use Rattle.line_parts.proofs.PartLaws.{decimal_most}
 use Rattle.line_parts.proofs.put_spaced.Statement.{statement}
 use Rattle.line_parts.proofs.put_spaced.Tie as tie
 
-slice_write_out : tie.Need-slice-write-out
+slice_write_out : tie.Need-bounds-out-at
 slice_write_out c = search rules
 
-add_put_decimal : tie.Need-overflow-add-put-decimal
+add_put_decimal : tie.Need-overflow_add-at
 add_put_decimal c = search rules
 
-put_decimal_requires : tie.Need-put-decimal-requires
+put_decimal_requires : tie.Need-put_decimal-requires
 put_decimal_requires c κs = rw length-set (omega (arith, decimal_most c.before.before.args.n))
 
-same_length : tie.Need-same-length
-same_length c = c.before.before.put_decimal.auto.1.0 ∙ simp length-set
+same_length : tie.Need-shape_of-out
+same_length c = c.before.before.put_decimal.auto.out ∙ simp length-set
 
 returns : tie.Need-returns
 returns c =

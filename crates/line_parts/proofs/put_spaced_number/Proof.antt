@@ -13,17 +13,17 @@ use Rattle.line_parts.proofs.PartLaws.{number_most}
 use Rattle.line_parts.proofs.put_spaced_number.Statement.{statement}
 use Rattle.line_parts.proofs.put_spaced_number.Tie as tie
 
-slice_write_out : tie.Need-slice-write-out
+slice_write_out : tie.Need-bounds-out-at
 slice_write_out c = search rules
 
-add_put_number : tie.Need-overflow-add-put-number
+add_put_number : tie.Need-overflow_add-at
 add_put_number c = search rules
 
-put_number_requires : tie.Need-put-number-requires
+put_number_requires : tie.Need-put_number-requires
 put_number_requires c κs = rw length-set (omega (arith, number_most (to_z w64 (of_z w64 c.before.before.args.z))))
 
-same_length : tie.Need-same-length
-same_length c = c.before.before.put_number.auto.1.0 ∙ simp length-set
+same_length : tie.Need-shape_of-out
+same_length c = c.before.before.put_number.auto.out ∙ simp length-set
 
 returns : tie.Need-returns
 returns c =

@@ -8,16 +8,16 @@ use Rattle.load_core.specs.Draw.{drawn, next_box}
 use Rattle.load_core.proofs.next_box.Statement.{statement}
 use Rattle.load_core.proofs.next_box.Tie as tie
 
-i64_from_u64_requires : tie.Need-i64-from-u64-requires
+i64_from_u64_requires : tie.Need-i64_from_u64-number-requires
 i64_from_u64_requires c κs = search rules
 
-add_t8 : tie.Need-overflow-add-t8
+add_t8 : tie.Need-overflow_add-result
 add_t8 c = search rules
 
 returns : tie.Need-returns
 returns c =
     let a = c.before.args in
-    let e = back64 c.i64_from_u64.result c.i64_from_u64.type_inv ∙ c.i64_from_u64.ensures in
+    let e = back64 c.i64_from_u64-number.result c.i64_from_u64-number.type_inv ∙ c.i64_from_u64-number.ensures in
     λ i. drawn (Append Box 0 (e i)) (next_box a.d a.g).next
 
 pub next_box_spec : {M : Type 1} → statement M

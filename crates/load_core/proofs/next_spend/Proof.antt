@@ -11,16 +11,16 @@ use Rattle.load_core.specs.Draw.{drawn, next_spend}
 use Rattle.load_core.proofs.next_spend.Statement.{statement}
 use Rattle.load_core.proofs.next_spend.Tie as tie
 
-rem_i64_from_u64 : tie.Need-nonzero-rem-i64-from-u64
+rem_i64_from_u64 : tie.Need-nonzero_rem-d
 rem_i64_from_u64 c = search rules
 
-i64_from_u64_requires : tie.Need-i64-from-u64-requires
+i64_from_u64_requires : tie.Need-i64_from_u64-number-requires
 i64_from_u64_requires c κs = omega (arith, mod-lt (c.args.d / 8) c.requires.0)
 
 returns : tie.Need-returns
 returns c =
     let a = c.before.args in
-    let e = back64 c.i64_from_u64.result c.i64_from_u64.type_inv ∙ c.i64_from_u64.ensures in
+    let e = back64 c.i64_from_u64-number.result c.i64_from_u64-number.type_inv ∙ c.i64_from_u64-number.ensures in
     λ i. drawn (Flip Spend 0 (e i)) (next_spend a.d a.g).next
 
 pub next_spend_spec : {M : Type 1} → statement M

@@ -5,43 +5,43 @@ use Rattle.buffer_core.proofs.SizeLaws.{sizes}
 use Rattle.page_core.proofs.page_rows.Statement.{statement}
 use Rattle.page_core.proofs.page_rows.Tie as tie
 
-array_share_prefix_none : tie.Need-array-share-prefix-none
+array_share_prefix_none : tie.Need-slice_bounds-none-end
 array_share_prefix_none c = search rules
 
-slice_aggregate_page_hinted : tie.Need-slice-aggregate-page-hinted
+slice_aggregate_page_hinted : tie.Need-slice_bounds-page_hinted-end
 slice_aggregate_page_hinted c = search rules
 
-page_hinted_requires : tie.Need-page-hinted-requires
+page_hinted_requires : tie.Need-page_hinted-requires
 page_hinted_requires c κs = search rules
 
-same_length : tie.Need-same-length
+same_length : tie.Need-shape_of-out-then-table_count-le-FEW_RECORDS
 same_length c = search rules
 
-returns : tie.Need-returns
+returns : tie.Need-returns-then-table_count-le-FEW_RECORDS
 returns c = search rules
 
-record_size_requires : tie.Need-record-size-requires
+record_size_requires : tie.Need-record_size-size-requires
 record_size_requires c κs = search rules
 
-slice_aggregate_note_places : tie.Need-slice-aggregate-note-places
+slice_aggregate_note_places : tie.Need-slice_bounds-note_places-end
 slice_aggregate_note_places c = search rules
 
-note_places_requires : tie.Need-note-places-requires
+note_places_requires : tie.Need-note_places-requires
 note_places_requires c κs =
     let q = c.before.before.before.before.before.requires in
-    let z = c.before.record_size.ensures.0 in
+    let z = c.before.record_size-size.ensures.0 in
     (rw z (omega (arith, sizes c.before.before.before.before.before.args.edition)), rw z q.1)
 
-slice_aggregate_page_hinted_2 : tie.Need-slice-aggregate-page-hinted-2
+slice_aggregate_page_hinted_2 : tie.Need-slice_bounds-page_hinted-end-2
 slice_aggregate_page_hinted_2 c = search rules
 
-page_hinted_requires_2 : tie.Need-page-hinted-requires-2
+page_hinted_requires_2 : tie.Need-page_hinted-requires-2
 page_hinted_requires_2 c κs = search rules
 
-same_length_2 : tie.Need-same-length-2
+same_length_2 : tie.Need-shape_of-out
 same_length_2 c = search rules
 
-returns-2 : tie.Need-returns-2
+returns-2 : tie.Need-returns
 returns-2 c = search rules
 
 pub page_rows_spec : {M : Type 1} → statement M

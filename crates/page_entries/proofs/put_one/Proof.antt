@@ -18,13 +18,13 @@ returns : tie.Need-returns-then-not-is_above
 returns c =
     let s = c.before.before in
     let a = s.args in
-    one_passed a.wanted a.filling a.page.now s.requires a.x (ap is_above (sym (back w64 a.x s.ranges.x)) ∙ sym c.before.is_above.ensures ∙ not-true _ c.if-not-is_above.true)
+    one_passed a.wanted a.filling a.page.now s.requires a.x (ap is_above (sym (back w64 a.x s.ranges.x)) ∙ sym c.before.is_above.ensures ∙ c.if-not-is_above.true)
 
 -- it is above 0
 above : (c : tie.Else-not-is_above) → is_above c.before.before.args.x ≡ true
 above c =
     let s = c.before.before in
-    ap is_above (sym (back w64 s.args.x s.ranges.x)) ∙ sym c.before.is_above.ensures ∙ not-false _ c.if-not-is_above.false
+    ap is_above (sym (back w64 s.args.x s.ranges.x)) ∙ sym c.before.is_above.ensures ∙ c.if-not-is_above.false
 
 sub_t9 : tie.Need-overflow_sub-result
 sub_t9 c = search rules

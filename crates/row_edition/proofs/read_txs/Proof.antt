@@ -5,33 +5,33 @@ use borrow.Author.Rules.{rules}
 use Rattle.row_edition.proofs.read_txs.Statement.{statement}
 use Rattle.row_edition.proofs.read_txs.Tie as tie
 
-slice_aggregate_read_last_segment : tie.Need-slice-aggregate-read-last-segment
+slice_aggregate_read_last_segment : tie.Need-slice_bounds-read_last_segment-end
 slice_aggregate_read_last_segment c = search rules
 
-read_last_segment_requires : tie.Need-read-last-segment-requires
+read_last_segment_requires : tie.Need-read_last_segment-requires
 read_last_segment_requires c κs = search rules
 
-enum_known_txs : tie.Need-enum-known-txs
+enum_known_txs : tie.Need-enum_known-txs
 enum_known_txs c = search rules
 
-enum_known_code : tie.Need-enum-known-code
+enum_known_code : tie.Need-enum_known-code
 enum_known_code c = search rules
 
-same_length : tie.Need-same-length
+same_length : tie.Need-shape_of-out-in-Read
 same_length c = search rules
 
-returns : tie.Need-returns
+returns : tie.Need-returns-in-Read
 returns c =
-    let a = c.before.before.before.before.before.before.before.before.before.args in
-    txs_read a.row.now a.at _ a.out.now _ _ _ c.before.before.before.before.before.read_last_segment.ensures c.before.before.before.before.before.before.before.before.before.requires _ _ _ _ _ c.before.txs.given.1
+    let a = c.before.before.before.before.before.before.before.args in
+    txs_read a.row.now a.at _ a.out.now _ _ _ c.before.before.before.read_last_segment.ensures c.before.before.before.before.before.before.before.requires _ _ _ _ _ c.in-Read.is
 
-same_length_2 : tie.Need-same-length-2
+same_length_2 : tie.Need-shape_of-out-in-Refused
 same_length_2 c = search rules
 
-returns-2 : tie.Need-returns-2
+returns-2 : tie.Need-returns-in-Refused
 returns-2 c =
-    let a = c.before.before.before.before.before.before.before.before.before.args in
-    none_read a.row.now a.at _ a.out.now _ _ _ c.before.before.before.before.before.read_last_segment.ensures Tx _ c.before.code.given.1 _
+    let a = c.before.before.before.before.before.before.before.args in
+    none_read a.row.now a.at _ a.out.now _ _ _ c.before.before.before.read_last_segment.ensures Tx _ c.in-Refused.is _
 
 pub read_txs_spec : {M : Type 1} → statement M
 read_txs_spec =

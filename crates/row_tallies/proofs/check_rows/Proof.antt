@@ -8,24 +8,24 @@ use Rattle.row_tallies.proofs.TallyLaws.{all_good, first_bad}
 use Rattle.row_tallies.proofs.check_rows.Statement.{statement}
 use Rattle.row_tallies.proofs.check_rows.Tie as tie
 
-count_rows_requires : tie.Need-count-rows-requires
+count_rows_requires : tie.Need-count_rows-tallied-requires
 count_rows_requires c κs = search rules
 
-enum_told : tie.Need-enum-told
+enum_told : tie.Need-enum_told-1
 enum_told c = search rules
 
-enum_known_tallied : tie.Need-enum-known-tallied
+enum_known_tallied : tie.Need-enum_known-tallied
 enum_known_tallied c = search rules
 
-returns : tie.Need-returns
+returns : tie.Need-returns-in-Counts
 returns c =
-    let a = c.before.before.before.before.before.before.args in
-    all_good (row_checked (edition_of a.edition) (sources a.parent.now a.staged.now a.staged_count a.table.now a.table_count)) a.rows _ _ (sym c.enum_told.given.1 ∙ c.before.before.count_rows.ensures)
+    let a = c.before.before.before.before.before.args in
+    all_good (row_checked (edition_of a.edition) (sources a.parent.now a.staged.now a.staged_count a.table.now a.table_count)) a.rows _ _ (sym c.in-Counts.is ∙ c.before.count_rows-tallied.ensures)
 
-returns-2 : tie.Need-returns-2
+returns-2 : tie.Need-returns-in-Refused
 returns-2 c =
-    let a = c.before.before.before.before.before.before.before.args in
-    first_bad (row_checked (edition_of a.edition) (sources a.parent.now a.staged.now a.staged_count a.table.now a.table_count)) a.rows _ _ (sym c.before.tallied.given.1 ∙ c.before.before.before.count_rows.ensures)
+    let a = c.before.before.before.before.before.args in
+    first_bad (row_checked (edition_of a.edition) (sources a.parent.now a.staged.now a.staged_count a.table.now a.table_count)) a.rows _ _ (sym c.in-Refused.is ∙ c.before.count_rows-tallied.ensures)
 
 pub check_rows_spec : {M : Type 1} → statement M
 check_rows_spec =

@@ -5,30 +5,30 @@ use borrow.Author.Rules.{rules}
 use Rattle.row_tallies.proofs.count_row.Statement.{statement}
 use Rattle.row_tallies.proofs.count_row.Tie as tie
 
-slice_aggregate_read_checked : tie.Need-slice-aggregate-read-checked
+slice_aggregate_read_checked : tie.Need-slice_bounds-read_checked-end
 slice_aggregate_read_checked c = search rules
 
-read_checked_requires : tie.Need-read-checked-requires
+read_checked_requires : tie.Need-read_checked-read-requires
 read_checked_requires c κs = search rules
 
-enum_told : tie.Need-enum-told
+enum_told : tie.Need-enum_told-1
 enum_told c = search rules
 
-slice_aggregate_tally_entries : tie.Need-slice-aggregate-tally-entries
+slice_aggregate_tally_entries : tie.Need-slice_bounds-tally_entries-end
 slice_aggregate_tally_entries c = search rules
 
-tally_entries_requires : tie.Need-tally-entries-requires
+tally_entries_requires : tie.Need-tally_entries-requires
 tally_entries_requires c κs = search rules
 
-enum_known_read : tie.Need-enum-known-read
+enum_known_read : tie.Need-enum_known-read
 enum_known_read c = search rules
 
-returns : tie.Need-returns
+returns : tie.Need-returns-in-Good
 returns c =
-    counted_good _ _ _ c.before.before.before.before.before.read_checked.ensures c.before.before.enum_told.given.1 _ c.tally_entries.ensures (take_all 512 _ (search rules))
+    counted_good _ _ _ c.before.before.before.before.read_checked-read.ensures c.before.before.in-Good.is _ c.tally_entries.ensures (take_all 512 _ (search rules))
 
-returns-2 : tie.Need-returns-2
-returns-2 c = counted_bad _ _ _ c.before.before.before.before.read_checked.ensures _ c.before.read.given.1
+returns-2 : tie.Need-returns-in-Faulty
+returns-2 c = counted_bad _ _ _ c.before.before.read_checked-read.ensures _ c.in-Faulty.is
 
 pub count_row_spec : {M : Type 1} → statement M
 count_row_spec =

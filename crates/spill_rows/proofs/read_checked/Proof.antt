@@ -3,16 +3,16 @@ use borrow.Author.Rules.{rules}
 use Rattle.spill_rows.proofs.read_checked.Statement.{statement}
 use Rattle.spill_rows.proofs.read_checked.Tie as tie
 
-spill_key_requires : tie.Need-spill-key-requires
+spill_key_requires : tie.Need-spill_key-key-requires
 spill_key_requires c κs = search rules
 
-slice_aggregate_read_checked_under : tie.Need-slice-aggregate-read-checked-under
+slice_aggregate_read_checked_under : tie.Need-slice_bounds-read_checked_under-end
 slice_aggregate_read_checked_under c = search rules
 
-read_checked_under_requires : tie.Need-read-checked-under-requires
-read_checked_under_requires c κs = (search rules, search rules, search rules, search rules, c.before.before.spill_key.ensures.0, c.before.before.spill_key.ensures.1, search rules)
+read_checked_under_requires : tie.Need-read_checked_under-requires
+read_checked_under_requires c κs = (search rules, search rules, search rules, search rules, c.before.before.spill_key-key.ensures.0, c.before.before.spill_key-key.ensures.1, search rules)
 
-same_length : tie.Need-same-length
+same_length : tie.Need-shape_of-out
 same_length c = search rules
 
 returns : tie.Need-returns

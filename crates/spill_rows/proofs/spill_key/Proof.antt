@@ -6,10 +6,10 @@ use borrow.Author.Rules.{rules}
 use Rattle.spill_rows.proofs.spill_key.Statement.{statement}
 use Rattle.spill_rows.proofs.spill_key.Tie as tie
 
-i32_from_usize_requires : tie.Need-i32-from-usize-requires
+i32_from_usize_requires : tie.Need-i32_from_usize-requires
 i32_from_usize_requires c κs = search rules
 
-row_key_requires : tie.Need-row-key-requires
+row_key_requires : tie.Need-row_key-requires
 row_key_requires c κs = search rules
 
 returns : tie.Need-returns

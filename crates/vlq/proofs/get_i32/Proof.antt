@@ -3,7 +3,7 @@ use borrow.Author.Rules.{rules}
 use Rattle.vlq.proofs.get_i32.Statement.{statement}
 use Rattle.vlq.proofs.get_i32.Tie as tie
 
-get_i32_requires : tie.Need-get-i32-requires
+get_i32_requires : tie.Need-get_i32-requires
 get_i32_requires c κs = search rules
 
 returns : tie.Need-returns

@@ -3,7 +3,7 @@ use borrow.Author.Rules.{rules}
 use Rattle.vlq.proofs.get_i64.Statement.{statement}
 use Rattle.vlq.proofs.get_i64.Tie as tie
 
-get_i64_requires : tie.Need-get-i64-requires
+get_i64_requires : tie.Need-get_i64-requires
 get_i64_requires c κs = search rules
 
 returns : tie.Need-returns

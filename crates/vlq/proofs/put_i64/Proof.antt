@@ -11,32 +11,32 @@ use borrow.Author.Rules.{rules}
 use Rattle.vlq.proofs.put_i64.Statement.{statement}
 use Rattle.vlq.proofs.put_i64.Tie as tie
 
-number_len_requires : tie.Need-number-len-requires
+number_len_requires : tie.Need-number_len-requires
 number_len_requires c κs = search rules
 
-has_room_requires : tie.Need-has-room-requires
+has_room_requires : tie.Need-has_room-requires
 has_room_requires c κs = search rules
 
-returns : tie.Need-returns
+returns : tie.Need-returns-then-not-has_room
 returns c =
     let s = c.before.before.before.before in
     let h = c.before.has_room in
-    put_short (ap (λ (z : ℤ). enc (zig z)) (to_z-of_z {w = w64} s.ranges.n)) s.args.out.now s.args.at _ c.before.before.number_len.ensures.0 h.result h.ensures (not-true _ c.if1.true)
+    put_short (ap (λ (z : ℤ). enc (zig z)) (to_z-of_z {w = w64} s.ranges.n)) s.args.out.now s.args.at _ c.before.before.number_len.ensures.0 h.result h.ensures (c.if-not-has_room.true)
 
-emit_i64_requires : tie.Need-emit-i64-requires
+emit_i64_requires : tie.Need-emit_i64-requires
 emit_i64_requires c κs =
     let s = c.before.before.before.before.before in
     let h = c.before.before.has_room in
-    put_room (ap (λ (z : ℤ). enc (zig z)) (to_z-of_z {w = w64} s.ranges.n)) s.args.out.now s.args.at _ c.before.before.before.number_len.ensures.0 h.result h.ensures (not-false _ c.before.if1.false)
+    put_room (ap (λ (z : ℤ). enc (zig z)) (to_z-of_z {w = w64} s.ranges.n)) s.args.out.now s.args.at _ c.before.before.before.number_len.ensures.0 h.result h.ensures (c.before.if-not-has_room.false)
 
-same_length : tie.Need-same-length
+same_length : tie.Need-shape_of-out
 same_length c = search rules
 
-returns-2 : tie.Need-returns-2
+returns-2 : tie.Need-returns
 returns-2 c =
     let s = c.before.before.before.before.before.before.before.before in
     let h = c.before.before.before.before.before.has_room in
-    put_done (ap (λ (z : ℤ). enc (zig z)) (to_z-of_z {w = w64} s.ranges.n)) s.args.out.now s.args.at _ c.before.before.before.before.before.before.number_len.ensures.0 h.result h.ensures (not-false _ c.before.before.before.before.if1.false) _ _ c.before.before.emit_i64.ensures
+    put_done (ap (λ (z : ℤ). enc (zig z)) (to_z-of_z {w = w64} s.ranges.n)) s.args.out.now s.args.at _ c.before.before.before.before.before.before.number_len.ensures.0 h.result h.ensures (c.before.before.before.before.if-not-has_room.false) _ _ c.before.before.emit_i64.ensures
 
 pub put_i64_spec : {M : Type 1} → statement M
 put_i64_spec =
