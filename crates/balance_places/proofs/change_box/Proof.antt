@@ -30,142 +30,142 @@ abbrev changed : tie.Start → Changed
 changed s = change_tokens s.args.adding s.args.box_ids.now s.args.box_amounts.now 0 s.args.n (held_by (entry s))
 
 -- the buffers have passed
-passed : (e : tie.Else1) → let s = e.before.before.before.before.before.before in
+passed : (e : tie.Else-not-buffers_ok) → let s = e.before.before.before.before.before.before in
     buffers_ok (entry s).count s.args.box_ids.now s.args.box_amounts.now s.args.n ≡ true
-passed e = sym e.before.buffers_ok.ensures ∙ not-false _ e.if1.false
+passed e = sym e.before.buffers_ok.ensures ∙ e.if-not-buffers_ok.false
 
 -- the new nanoErgs, of the numbers themselves
-nanos_are : (a : tie.After_change_nanos) → let s = a.before.before.before.before.before.before.before.before in
+nanos_are : (a : tie.After-change_nanos) → let s = a.before.before.before.before.before.before.before.before in
     a.change_nanos.result ≡ nanos_after s.args.adding (entry s).nanos s.args.nanos
 nanos_are a =
     let s = a.before.before.before.before.before.before.before.before in
-    a.change_nanos.ensures ∙ simp (back64 (entry s).nanos a.before.old.given, back w64 s.args.nanos s.ranges.nanos)
+    a.change_nanos.ensures ∙ simp (back64 (entry s).nanos a.before.old-1.given, back w64 s.args.nanos s.ranges.nanos)
 
-mul_last : tie.Need-overflow-mul-last
+mul_last : tie.Need-overflow_mul-last
 mul_last c = search rules
 
-add_last : tie.Need-overflow-add-last
+add_last : tie.Need-overflow_add-last
 add_last c = search rules
 
-mul_held : tie.Need-overflow-mul-held
+mul_held : tie.Need-offset_bounds-lengths-last
 mul_held c = search rules
 
-slice_read_held : tie.Need-slice-read-held
+slice_read_held : tie.Need-bounds-lengths-last
 slice_read_held c = search rules
 
-buffers_ok_requires : tie.Need-buffers-ok-requires
+buffers_ok_requires : tie.Need-buffers_ok-requires
 buffers_ok_requires c κs = search rules
 
 says_requires : tie.Need-says-requires
 says_requires c κs = search rules
 
-returns : tie.Need-returns
+returns : tie.Need-returns-then-not-buffers_ok
 returns c =
     let s = c.before.before.before.before.before.before.before in
-    rw c.says.ensures (unchanged s.args.p s.args.ids.now s.args.numbers.now s.args.lengths.now s.requires.0 s.requires.1 s.requires.2 25 ∙ ap (λ (o : Outcome). changed_by o s.args.p s.args.ids.now s.args.numbers.now s.args.lengths.now) (box_25 s.args.adding (entry s) s.args.nanos s.args.box_ids.now s.args.box_amounts.now s.args.n (sym c.before.before.buffers_ok.ensures ∙ not-true _ c.before.if1.true)))
+    rw c.says.ensures (unchanged s.args.p s.args.ids.now s.args.numbers.now s.args.lengths.now s.requires.0 s.requires.1 s.requires.2 25 ∙ ap (λ (o : Outcome). changed_by o s.args.p s.args.ids.now s.args.numbers.now s.args.lengths.now) (box_25 s.args.adding (entry s) s.args.nanos s.args.box_ids.now s.args.box_amounts.now s.args.n (sym c.before.before.buffers_ok.ensures ∙ c.before.if-not-buffers_ok.true)))
 
-mul_at : tie.Need-overflow-mul-at
+mul_at : tie.Need-overflow_mul-at
 mul_at c = search rules
 
-add_at : tie.Need-overflow-add-at
+add_at : tie.Need-overflow_add-at
 add_at c = search rules
 
-mul_old : tie.Need-overflow-mul-old
+mul_old : tie.Need-offset_bounds-numbers-at
 mul_old c = search rules
 
-slice_copy_out_old : tie.Need-slice-copy-out-old
+slice_copy_out_old : tie.Need-slice_copy_out-old
 slice_copy_out_old c = search rules
 
-change_nanos_requires : tie.Need-change-nanos-requires
+change_nanos_requires : tie.Need-change_nanos-requires
 change_nanos_requires c κs = search rules
 
-enum_known_sum : tie.Need-enum-known-sum
+enum_known_sum : tie.Need-enum_known-sum
 enum_known_sum c = search rules
 
-mul_i : tie.Need-overflow-mul-i
+mul_i : tie.Need-overflow_mul-i
 mul_i c = search rules
 
-add_i : tie.Need-overflow-add-i
+add_i : tie.Need-overflow_add-i
 add_i c = search rules
 
-mul_a : tie.Need-overflow-mul-a
+mul_a : tie.Need-overflow_mul-a
 mul_a c = search rules
 
-add_a : tie.Need-overflow-add-a
+add_a : tie.Need-overflow_add-a
 add_a c = search rules
 
-change_tokens_requires : tie.Need-change-tokens-requires
+change_tokens_requires : tie.Need-change_tokens-requires
 change_tokens_requires c κs =
-    let s = c.before.before.before.before.before.before.before.before.before.before.before.before.before in
-    let f = fit (entry s).count s.args.box_ids.now s.args.box_amounts.now s.args.n (passed c.before.before.before.before.before.before.before) in
+    let s = c.before.before.before.before.before.before.before.before.before.before.before in
+    let f = fit (entry s).count s.args.box_ids.now s.args.box_amounts.now s.args.n (passed c.before.before.before.before.before) in
     (omega (arith, s.requires.0), omega (arith, s.requires.1), f.few, f.ids_there, f.amounts_there)
 
-enum_known_m : tie.Need-enum-known-m
+enum_known_m : tie.Need-enum_known-m
 enum_known_m c = search rules
 
-mul_sum : tie.Need-overflow-mul-sum
+mul_sum : tie.Need-offset_bounds-numbers-at-in-Count
 mul_sum c = search rules
 
-slice_set_from_sum : tie.Need-slice-set-from-sum
+slice_set_from_sum : tie.Need-bounds-numbers-at
 slice_set_from_sum c = search rules
 
-mul_lengths : tie.Need-overflow-mul-lengths
+mul_lengths : tie.Need-offset_bounds-lengths-last-in-Count
 mul_lengths c = search rules
 
-slice_write_lengths : tie.Need-slice-write-lengths
+slice_write_lengths : tie.Need-bounds-lengths-last-in-Count
 slice_write_lengths c = search rules
 
-says_requires_2 : tie.Need-says-requires-2
+says_requires_2 : tie.Need-says-requires-in-Count
 says_requires_2 c κs = search rules
 
-enum_known_code : tie.Need-enum-known-code
+enum_known_code : tie.Need-enum_known-code
 enum_known_code c = search rules
 
-says_requires_3 : tie.Need-says-requires-3
+says_requires_3 : tie.Need-says-requires-in-Refused
 says_requires_3 c κs = search rules
 
-enum_told : tie.Need-enum-told
+enum_told : tie.Need-enum_told-1
 enum_told c = search rules
 
-says_requires_4 : tie.Need-says-requires-4
+says_requires_4 : tie.Need-says-requires-in-Out
 says_requires_4 c κs = search rules
 
-same_length : tie.Need-same-length
+same_length : tie.Need-shape_of-ids-in-Count
 same_length c = search rules
 
-same_length_2 : tie.Need-same-length-2
+same_length_2 : tie.Need-shape_of-numbers-in-Count
 same_length_2 c = search rules
 
-same_length_3 : tie.Need-same-length-3
+same_length_3 : tie.Need-shape_of-lengths
 same_length_3 c = search rules
 
-returns-2 : tie.Need-returns-2
+returns-2 : tie.Need-returns-in-Count
 returns-2 c =
-    let s = c.before.before.before.before.before.before.before.before.before.before.before.before.before.before.before.before.before.before.before.before.before in
-    let v = c.before.before.before.before.before.before.before.before.before.before.before.sum.given.0.0 in
-    let q = sym c.before.before.before.before.before.before.before.before.before.before.before.sum.given.1 ∙ nanos_are c.before.before.before.before.before.before.before.before.before.before.before.before.before in
-    let d = rw c.before.before.m.given.1 at c.before.before.before.before.before.before.before.change_tokens.ensures in
-    rw (c.says2.ensures, back64 v (nanos_fit s.args.adding (entry s).nanos s.args.nanos v q))
-    (tokens_taken s.args.p s.args.ids.now s.args.numbers.now s.args.lengths.now _ v _ _ (changed s) d ∙ ap (λ (o : Outcome). changed_by o s.args.p s.args.ids.now s.args.numbers.now s.args.lengths.now) (box_on s.args.adding (entry s) s.args.nanos s.args.box_ids.now s.args.box_amounts.now s.args.n (passed c.before.before.before.before.before.before.before.before.before.before.before.before.before.before.before) v q (changed s) refl))
+    let s = c.before.before.before.before.before.before.before.before.before.before.before.before.before.before.before.before.before in
+    let v = c.before.before.before.before.before.before.before.before.in-Is.sum in
+    let q = sym c.before.before.before.before.before.before.before.before.in-Is.is ∙ nanos_are c.before.before.before.before.before.before.before.before.before in
+    let d = rw c.before.in-Count.is at c.before.before.before.before.before.change_tokens.ensures in
+    rw (c.says-in-Count.ensures, back64 v (nanos_fit s.args.adding (entry s).nanos s.args.nanos v q))
+    (tokens_taken s.args.p s.args.ids.now s.args.numbers.now s.args.lengths.now _ v _ _ (changed s) d ∙ ap (λ (o : Outcome). changed_by o s.args.p s.args.ids.now s.args.numbers.now s.args.lengths.now) (box_on s.args.adding (entry s) s.args.nanos s.args.box_ids.now s.args.box_amounts.now s.args.n (passed c.before.before.before.before.before.before.before.before.before.before.before) v q (changed s) refl))
 
-same_length_4 : tie.Need-same-length-4
+same_length_4 : tie.Need-shape_of-ids-in-Refused
 same_length_4 c = search rules
 
-same_length_5 : tie.Need-same-length-5
+same_length_5 : tie.Need-shape_of-numbers-in-Refused
 same_length_5 c = search rules
 
-returns-3 : tie.Need-returns-3
+returns-3 : tie.Need-returns-in-Refused
 returns-3 c =
-    let s = c.before.before.before.before.before.before.before.before.before.before.before.before.before.before.before.before.before.before.before.before.before in
-    let v = c.before.before.before.before.before.before.before.before.before.before.before.sum.given.0.0 in
-    let q = sym c.before.before.before.before.before.before.before.before.before.before.before.sum.given.1 ∙ nanos_are c.before.before.before.before.before.before.before.before.before.before.before.before.before in
-    let d = rw c.before.before.code.given.1 at c.before.before.before.before.before.before.before.change_tokens.ensures in
-    rw c.says3.ensures (token_refused s.args.p s.args.ids.now s.args.numbers.now s.args.lengths.now s.requires.0 s.requires.1 s.requires.2 _ v _ _ (changed s) d ∙ ap (λ (o : Outcome). changed_by o s.args.p s.args.ids.now s.args.numbers.now s.args.lengths.now) (box_on s.args.adding (entry s) s.args.nanos s.args.box_ids.now s.args.box_amounts.now s.args.n (passed c.before.before.before.before.before.before.before.before.before.before.before.before.before.before.before) v q (changed s) refl))
+    let s = c.before.before.before.before.before.before.before.before.before.before.before.before.before.before.before.before.before in
+    let v = c.before.before.before.before.before.before.before.before.in-Is.sum in
+    let q = sym c.before.before.before.before.before.before.before.before.in-Is.is ∙ nanos_are c.before.before.before.before.before.before.before.before.before in
+    let d = rw c.before.in-Refused.is at c.before.before.before.before.before.change_tokens.ensures in
+    rw c.says-in-Refused.ensures (token_refused s.args.p s.args.ids.now s.args.numbers.now s.args.lengths.now s.requires.0 s.requires.1 s.requires.2 _ v _ _ (changed s) d ∙ ap (λ (o : Outcome). changed_by o s.args.p s.args.ids.now s.args.numbers.now s.args.lengths.now) (box_on s.args.adding (entry s) s.args.nanos s.args.box_ids.now s.args.box_amounts.now s.args.n (passed c.before.before.before.before.before.before.before.before.before.before.before) v q (changed s) refl))
 
-returns-4 : tie.Need-returns-4
+returns-4 : tie.Need-returns-in-Out
 returns-4 c =
-    let s = c.before.before.before.before.before.before.before.before.before.before.before in
-    rw c.says4.ensures (unchanged s.args.p s.args.ids.now s.args.numbers.now s.args.lengths.now s.requires.0 s.requires.1 s.requires.2 23 ∙ ap (λ (o : Outcome). changed_by o s.args.p s.args.ids.now s.args.numbers.now s.args.lengths.now) (box_23 s.args.adding (entry s) s.args.nanos s.args.box_ids.now s.args.box_amounts.now s.args.n (passed c.before.before.before.before.before) (sym c.before.enum_told.given.1 ∙ nanos_are c.before.before.before)))
+    let s = c.before.before.before.before.before.before.before.before.before.before in
+    rw c.says-in-Out.ensures (unchanged s.args.p s.args.ids.now s.args.numbers.now s.args.lengths.now s.requires.0 s.requires.1 s.requires.2 23 ∙ ap (λ (o : Outcome). changed_by o s.args.p s.args.ids.now s.args.numbers.now s.args.lengths.now) (box_23 s.args.adding (entry s) s.args.nanos s.args.box_ids.now s.args.box_amounts.now s.args.n (passed c.before.before.before.before) (sym c.before.in-Out.is ∙ nanos_are c.before.before)))
 
 pub change_box_spec : {M : Type 1} → statement M
 change_box_spec =

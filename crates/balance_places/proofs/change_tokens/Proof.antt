@@ -8,40 +8,40 @@ use borrow.Author.Rules.{rules}
 use Rattle.balance_places.proofs.change_tokens.Statement.{statement}
 use Rattle.balance_places.proofs.change_tokens.Tie as tie
 
-add_j : tie.Need-overflow-add-j
+add_j : tie.Need-overflow_add-j
 add_j c = search rules
 
-add_e : tie.Need-overflow-add-e
+add_e : tie.Need-overflow_add-e
 add_e c = search rules
 
-sub_change_kept : tie.Need-overflow-sub-change-kept
+sub_change_kept : tie.Need-slice_bounds-change_kept-count
 sub_change_kept c = search rules
 
-part_change_kept_start : tie.Need-slice-bounds-change-kept-start
+part_change_kept_start : tie.Need-slice_bounds-change_kept-start
 part_change_kept_start c = search rules
 
-part_change_kept_end : tie.Need-slice-bounds-change-kept-end
+part_change_kept_end : tie.Need-slice_bounds-change_kept-end
 part_change_kept_end c = search rules
 
-mul_change_kept : tie.Need-overflow-mul-change-kept
+mul_change_kept : tie.Need-offset_bounds-numbers-a
 mul_change_kept c = search rules
 
-sub_change_kept_2 : tie.Need-overflow-sub-change-kept-2
+sub_change_kept_2 : tie.Need-slice_bounds-change_kept-count-2
 sub_change_kept_2 c = search rules
 
-part_change_kept_start_2 : tie.Need-slice-bounds-change-kept-start-2
+part_change_kept_start_2 : tie.Need-slice_bounds-change_kept-start-2
 part_change_kept_start_2 c = search rules
 
-part_change_kept_end_2 : tie.Need-slice-bounds-change-kept-end-2
+part_change_kept_end_2 : tie.Need-slice_bounds-change_kept-end-2
 part_change_kept_end_2 c = search rules
 
-change_kept_requires : tie.Need-change-kept-requires
+change_kept_requires : tie.Need-change_kept-requires
 change_kept_requires c κs = search rules
 
-same_length : tie.Need-same-length
+same_length : tie.Need-shape_of-ids
 same_length c = search rules
 
-same_length_2 : tie.Need-same-length-2
+same_length_2 : tie.Need-shape_of-numbers
 same_length_2 c = search rules
 
 returns : tie.Need-returns

@@ -7,7 +7,7 @@ use Rattle.call_steps.proofs.after_flush.Lts as lts
 use Rattle.call_steps.proofs.says.Reads as says_reads
 
 -- src/lib.rt:318:23
-enum_known_r : tie.Need-enum-known-r
+enum_known_r : tie.Need-enum_known-r
 enum_known_r c = search rules
 
 -- src/lib.rt:319:19
@@ -15,20 +15,20 @@ says_requires : tie.Need-says-requires
 says_requires c κs = search rules
 
 -- src/lib.rt:326:26
-enum_known_r_2 : tie.Need-enum-known-r-2
+enum_known_r_2 : tie.Need-enum_known-r-in-Refused-1
 enum_known_r_2 c = search rules
 
 -- src/lib.rt:327:19
-says_requires_2 : tie.Need-says-requires-2
+says_requires_2 : tie.Need-says-requires-in-Refused
 says_requires_2 c κs = search rules
 
 -- src/lib.rt:314:1
-returns : tie.Need-returns
-returns c = let a = c.before.before.before.before.args in flush_done a.counts c.before.before.r.given.0.0 c.before.before.r.given.0.1.0 c.before.before.r.given.0.1.1.0 _ c.before.before.r.given.1 c.says.ensures
+returns : tie.Need-returns-in-Done
+returns c = let a = c.before.before.args in flush_done a.counts c.before.in-Done.table c.before.in-Done.staged c.before.in-Done.deleted _ c.before.in-Done.is c.says.ensures
 
 -- src/lib.rt:314:1
-returns-2 : tie.Need-returns-2
-returns-2 c = let a = c.before.before.before.before.args in flush_refused a.counts c.before.before.r2.given.0.0 _ c.before.before.r2.given.1 c.says2.ensures
+returns-2 : tie.Need-returns-in-Refused
+returns-2 c = let a = c.before.before.args in flush_refused a.counts c.before.in-Refused.code _ c.before.in-Refused.is c.says-in-Refused.ensures
 
 pub after_flush_spec : {M : Type 1} → statement M
 after_flush_spec =

@@ -10,15 +10,15 @@ use Rattle.call_steps.proofs.says.Reads as says_reads
 use Rattle.call_steps.proofs.write_counts.Reads as write_counts_reads
 
 -- src/lib.rt:250:24
-enum_known_r : tie.Need-enum-known-r
+enum_known_r : tie.Need-enum_known-r
 enum_known_r c = search rules
 
 -- src/lib.rt:252:13
-write_counts_requires : tie.Need-write-counts-requires
+write_counts_requires : tie.Need-write_counts-requires
 write_counts_requires c κs = search rules
 
 -- src/lib.rt:266:25
-enum_known_r_2 : tie.Need-enum-known-r-2
+enum_known_r_2 : tie.Need-enum_known-r-in-Refused-1
 enum_known_r_2 c = search rules
 
 -- src/lib.rt:267:19
@@ -26,20 +26,20 @@ says_requires : tie.Need-says-requires
 says_requires c κs = search rules
 
 -- src/lib.rt:238:1
-same_length : tie.Need-same-length
+same_length : tie.Need-shape_of-lengths
 same_length c = search rules
 
 -- src/lib.rt:238:1
-same_length_2 : tie.Need-same-length-2
+same_length_2 : tie.Need-shape_of-spills
 same_length_2 c = search rules
 
 -- src/lib.rt:238:1
-returns : tie.Need-returns
-returns c = let a = c.before.before.before.before.before.before.before.before.before.before.before.args in let g = c.before.before.before.before.before.before.before.before.r.given in pop_done a.kind a.p a.counts a.lengths.now a.spills.now g.0.0 _ g.0.1.0 g.0.1.1.0 g.0.1.1.1.0 _ _ g.1 (back w64 g.0.0 (search rules)) c.before.before.before.write_counts.ensures.0 c.before.before.before.write_counts.ensures.1
+returns : tie.Need-returns-in-Number
+returns c = let a = c.before.before.before.before.before.before.before.before.before.args in  pop_done a.kind a.p a.counts a.lengths.now a.spills.now c.before.before.before.before.before.before.before.in-Number.number _ c.before.before.before.before.before.before.before.in-Number.after c.before.before.before.before.before.before.before.in-Number.staged c.before.before.before.before.before.before.before.in-Number.deleted _ _ c.before.before.before.before.before.before.before.in-Number.is (back w64 c.before.before.before.before.before.before.before.in-Number.number (search rules)) c.before.before.before.write_counts.ensures.0 c.before.before.before.write_counts.ensures.1
 
 -- src/lib.rt:238:1
-returns-2 : tie.Need-returns-2
-returns-2 c = let a = c.before.before.before.before.before.args in pop_refused a.kind a.p a.counts a.lengths.now a.spills.now c.before.before.r2.given.0.0 _ c.before.before.r2.given.1 c.says.ensures
+returns-2 : tie.Need-returns-in-Refused
+returns-2 c = let a = c.before.before.before.args in pop_refused a.kind a.p a.counts a.lengths.now a.spills.now c.before.in-Refused.code _ c.before.in-Refused.is c.says.ensures
 
 pub after_pop_spec : {M : Type 1} → statement M
 after_pop_spec =

@@ -10,19 +10,19 @@ use Rattle.call_steps.proofs.head_at.Lts as lts
 use Rattle.call_steps.proofs.kind_number.Reads as kind_number_reads
 
 -- src/lib.rt:102:5
-mul_result : tie.Need-overflow-mul-result
+mul_result : tie.Need-overflow_mul-result
 mul_result c = search rules
 
 -- src/lib.rt:102:16
-kind_number_requires : tie.Need-kind-number-requires
+kind_number_requires : tie.Need-kind_number-requires
 kind_number_requires c κs = search rules
 
 -- src/lib.rt:102:16
-mul_result_2 : tie.Need-overflow-mul-result-2
+mul_result_2 : tie.Need-overflow_mul-result-2
 mul_result_2 c = omega (arith, c.kind_number.ensures, kind_few c.before.args.kind)
 
 -- src/lib.rt:102:5
-add_result : tie.Need-overflow-add-result
+add_result : tie.Need-overflow_add-result
 add_result c = omega (arith, c.before.requires, c.kind_number.ensures, kind_few c.before.args.kind)
 
 -- src/lib.rt:98:1

@@ -11,31 +11,31 @@ use Rattle.call_steps.proofs.parent_id.Lts as lts
 use Rattle.stores.proofs.copy_bytes.Reads as copy_bytes_reads
 
 -- src/lib.rt:68:13
-mul_a : tie.Need-overflow-mul-a
+mul_a : tie.Need-overflow_mul-a
 mul_a c = search rules
 
 -- src/lib.rt:69:13
-add_e : tie.Need-overflow-add-e
+add_e : tie.Need-overflow_add-e
 add_e c = search rules
 
 -- src/lib.rt:70:24
-slice_aggregate_copy_bytes : tie.Need-slice-aggregate-copy-bytes
+slice_aggregate_copy_bytes : tie.Need-slice_bounds-copy_bytes-end
 slice_aggregate_copy_bytes c = search rules
 
 -- src/lib.rt:70:36
-sub_copy_bytes : tie.Need-overflow-sub-copy-bytes
+sub_copy_bytes : tie.Need-slice_bounds-copy_bytes-count
 sub_copy_bytes c = search rules
 
 -- src/lib.rt:70:36
-part_copy_bytes_start : tie.Need-slice-bounds-copy-bytes-start
+part_copy_bytes_start : tie.Need-slice_bounds-copy_bytes-start
 part_copy_bytes_start c = search rules
 
 -- src/lib.rt:70:36
-part_copy_bytes_end : tie.Need-slice-bounds-copy-bytes-end
+part_copy_bytes_end : tie.Need-slice_bounds-copy_bytes-end-2
 part_copy_bytes_end c = search rules
 
 -- src/lib.rt:70:5
-copy_bytes_requires : tie.Need-copy-bytes-requires
+copy_bytes_requires : tie.Need-copy_bytes-requires
 copy_bytes_requires c κs = search rules
 
 -- src/lib.rt:63:1

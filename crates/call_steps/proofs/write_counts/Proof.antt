@@ -14,54 +14,54 @@ use Rattle.call_steps.proofs.write_counts.Lts as lts
 use Rattle.call_steps.proofs.kind_number.Reads as kind_number_reads
 
 -- src/lib.rt:88:9
-kind_number_requires : tie.Need-kind-number-requires
+kind_number_requires : tie.Need-kind_number-k-requires
 kind_number_requires c κs = search rules
 
 -- src/lib.rt:89:13
-mul_l : tie.Need-overflow-mul-l
+mul_l : tie.Need-overflow_mul-l
 mul_l c = search rules
 
 -- src/lib.rt:89:13
-add_l : tie.Need-overflow-add-l
-add_l c = omega (arith, c.before.before.requires.0, c.kind_number.ensures, kind_few c.before.before.args.kind)
+add_l : tie.Need-overflow_add-l
+add_l c = omega (arith, c.before.before.requires.0, c.kind_number-k.ensures, kind_few c.before.before.args.kind)
 
 -- src/lib.rt:90:13
-mul_s : tie.Need-overflow-mul-s
+mul_s : tie.Need-overflow_mul-s
 mul_s c = search rules
 
 -- src/lib.rt:90:13
-add_s : tie.Need-overflow-add-s
-add_s c = omega (arith, c.before.before.requires.1, c.kind_number.ensures, kind_few c.before.before.args.kind)
+add_s : tie.Need-overflow_add-s
+add_s c = omega (arith, c.before.before.requires.1, c.kind_number-k.ensures, kind_few c.before.before.args.kind)
 
 -- src/lib.rt:93:5
-mul_lengths : tie.Need-overflow-mul-lengths
-mul_lengths c = omega (arith, c.before.before.before.requires.0, c.before.kind_number.ensures, kind_few c.before.before.before.args.kind)
+mul_lengths : tie.Need-offset_bounds-lengths-l
+mul_lengths c = omega (arith, c.before.before.before.requires.0, c.before.kind_number-k.ensures, kind_few c.before.before.before.args.kind)
 
 -- src/lib.rt:93:5
-slice_write_lengths : tie.Need-slice-write-lengths
-slice_write_lengths c = omega (arith, c.before.before.before.requires.0, c.before.kind_number.ensures, kind_few c.before.before.before.args.kind)
+slice_write_lengths : tie.Need-bounds-lengths-l
+slice_write_lengths c = omega (arith, c.before.before.before.requires.0, c.before.kind_number-k.ensures, kind_few c.before.before.before.args.kind)
 
 -- src/lib.rt:94:5
-mul_count : tie.Need-overflow-mul-count
-mul_count c = omega (arith, c.before.before.before.requires.1, c.before.kind_number.ensures, kind_few c.before.before.before.args.kind)
+mul_count : tie.Need-offset_bounds-spills-s
+mul_count c = omega (arith, c.before.before.before.requires.1, c.before.kind_number-k.ensures, kind_few c.before.before.before.args.kind)
 
 -- src/lib.rt:94:5
-slice_set_from_count : tie.Need-slice-set-from-count
-slice_set_from_count c = omega (arith, c.before.before.before.requires.1, c.before.kind_number.ensures, kind_few c.before.before.before.args.kind)
+slice_set_from_count : tie.Need-bounds-spills-s
+slice_set_from_count c = omega (arith, c.before.before.before.requires.1, c.before.kind_number-k.ensures, kind_few c.before.before.before.args.kind)
 
 -- src/lib.rt:84:1
-same_length : tie.Need-same-length
+same_length : tie.Need-shape_of-lengths
 same_length c = search rules
 
 -- src/lib.rt:84:1
-same_length_2 : tie.Need-same-length-2
+same_length_2 : tie.Need-shape_of-spills
 same_length_2 c = search rules
 
 -- src/lib.rt:84:1
 returns : tie.Need-returns
 returns c =
     let a = c.before.before.before.args in
-    let k = c.before.kind_number.ensures in
+    let k = c.before.kind_number-k.ensures in
     let e = back w32 a.counts.spills (search rules) in
     ((λ i. set a.lengths.now (a.p * 3 + k i) a.counts.len), (λ i. set a.spills.now (a.p * 2 + k i) (e i)))
 

@@ -7,41 +7,41 @@ use Rattle.signed.proofs.SignedLaws.{back}
 use Rattle.run_answers.proofs.put_answer.Statement.{statement}
 use Rattle.run_answers.proofs.put_answer.Tie as tie
 
-flag_requires : tie.Need-flag-requires
+flag_requires : tie.Need-flag-marked-requires
 flag_requires c κs = search rules
 
-mul_a : tie.Need-overflow-mul-a
+mul_a : tie.Need-overflow_mul-a
 mul_a c = search rules
 
-mul_b : tie.Need-overflow-mul-b
+mul_b : tie.Need-overflow_mul-b
 mul_b c = search rules
 
-add_b : tie.Need-overflow-add-b
+add_b : tie.Need-overflow_add-b
 add_b c = search rules
 
-slice_write_answers : tie.Need-slice-write-answers
+slice_write_answers : tie.Need-bounds-answers-a
 slice_write_answers c = search rules
 
-slice_write_answers_2 : tie.Need-slice-write-answers-2
+slice_write_answers_2 : tie.Need-bounds-answers-b
 slice_write_answers_2 c =
     let a = c.before.before.before.args in omega (arith, c.before.before.before.requires.0, length-set a.answers.now (a.i * 2) a.said.code)
 
-mul_number : tie.Need-overflow-mul-number
+mul_number : tie.Need-offset_bounds-popped-i
 mul_number c = search rules
 
-slice_set_from_number : tie.Need-slice-set-from-number
+slice_set_from_number : tie.Need-bounds-popped-i
 slice_set_from_number c = search rules
 
-same_length : tie.Need-same-length
+same_length : tie.Need-shape_of-answers
 same_length c = search rules
 
-same_length_2 : tie.Need-same-length-2
+same_length_2 : tie.Need-shape_of-popped
 same_length_2 c = search rules
 
 returns : tie.Need-returns
 returns c =
     let a = c.before.before.before.args in
-    let f = c.flag.ensures in
+    let f = c.flag-marked.ensures in
     let z = back w64 a.said.number (search rules) in
     ((λ i. set (set a.answers.now (a.i * 2) a.said.code) (a.i * 2 + 1) (f i)), (λ i. set a.popped.now a.i (z i)))
 

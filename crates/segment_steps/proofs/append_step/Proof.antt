@@ -16,72 +16,72 @@ use Rattle.call_steps.proofs.parent_id.Reads as parent_id_reads
 use Rattle.call_steps.proofs.read_counts.Reads as read_counts_reads
 
 -- src/lib.rt:157:14
-parent_id_requires : tie.Need-parent-id-requires
+parent_id_requires : tie.Need-parent_id-id-requires
 parent_id_requires c κs = search rules
 
 -- src/lib.rt:158:9
-read_counts_requires : tie.Need-read-counts-requires
+read_counts_requires : tie.Need-read_counts-h-requires
 read_counts_requires c κs = search rules
 
 -- src/lib.rt:159:9
-head_at_requires : tie.Need-head-at-requires
+head_at_requires : tie.Need-head_at-a-requires
 head_at_requires c κs = search rules
 
 -- src/lib.rt:160:13
-add_e : tie.Need-overflow-add-e
+add_e : tie.Need-overflow_add-e
 add_e c = search rules
 
 -- src/lib.rt:167:9
-mul_append : tie.Need-overflow-mul-append
+mul_append : tie.Need-offset_bounds-numbers-a
 mul_append c = search rules
 
 -- src/lib.rt:167:9
-sub_append : tie.Need-overflow-sub-append
+sub_append : tie.Need-slice_bounds-append-count
 sub_append c = search rules
 
 -- src/lib.rt:167:9
-part_append_start : tie.Need-slice-bounds-append-start
+part_append_start : tie.Need-slice_bounds-append-start
 part_append_start c = search rules
 
 -- src/lib.rt:167:9
-part_append_end : tie.Need-slice-bounds-append-end
+part_append_end : tie.Need-slice_bounds-append-end
 part_append_end c = search rules
 
 -- src/lib.rt:161:9
-append_requires : tie.Need-append-requires
+append_requires : tie.Need-append-r-requires
 append_requires c κs =
-    let s = c.before.before.before.before.before.before.before.before.before.before.before.before in
+    let s = c.before.before.before.before.before.before.before.before.before.before in
     let a = s.args in
-    let w : c.before.before.before.head_at.result + 512 - c.before.before.before.head_at.result ≡ 512 = omega arith in
-    append_asks a.numbers.now a.lengths.now a.spills.now a.counts a.p c.before.before.before.before.read_counts.result c.before.before.before.head_at.result (c.before.before.before.head_at.result + 512 - c.before.before.before.head_at.result) w a.kind a.staged.now s.requires.1 c.before.before.before.before.read_counts.ensures c.before.before.before.head_at.ensures.0
+    let w : c.before.before.before.head_at-a.result + 512 - c.before.before.before.head_at-a.result ≡ 512 = omega arith in
+    append_asks a.numbers.now a.lengths.now a.spills.now a.counts a.p c.before.before.before.before.read_counts-h.result c.before.before.before.head_at-a.result (c.before.before.before.head_at-a.result + 512 - c.before.before.before.head_at-a.result) w a.kind a.staged.now s.requires.1 c.before.before.before.before.read_counts-h.ensures c.before.before.before.head_at-a.ensures.0
 
 -- src/lib.rt:170:5
-after_append_requires : tie.Need-after-append-requires
+after_append_requires : tie.Need-after_append-requires
 after_append_requires c κs = search rules
 
 -- src/lib.rt:140:1
-same_length : tie.Need-same-length
+same_length : tie.Need-shape_of-numbers
 same_length c = search rules
 
 -- src/lib.rt:140:1
-same_length_2 : tie.Need-same-length-2
+same_length_2 : tie.Need-shape_of-lengths
 same_length_2 c = search rules
 
 -- src/lib.rt:140:1
-same_length_3 : tie.Need-same-length-3
+same_length_3 : tie.Need-shape_of-spills
 same_length_3 c = search rules
 
 -- src/lib.rt:140:1
-same_length_4 : tie.Need-same-length-4
+same_length_4 : tie.Need-shape_of-staged
 same_length_4 c = search rules
 
 -- src/lib.rt:140:1
 returns : tie.Need-returns
 returns c =
-    let s = c.before.before.before.before.before.before.before.before.before.before.before.before.before.before.before.before.before.before.before.before.before.before in
+    let s = c.before.before.before.before.before.before.before.before.before.before.before.before.before.before.before.before.before.before.before.before in
     let a = s.args in
-    let w : c.before.before.before.before.before.before.before.before.before.before.before.before.before.head_at.result + 512 - c.before.before.before.before.before.before.before.before.before.before.before.before.before.head_at.result ≡ 512 = omega arith in
-    append_law a.ids.now a.numbers.now a.lengths.now a.spills.now a.counts a.p a.kind a.number _ a.staged.now _ _ _ _ _ _ _ _ s.requires.1 c.before.before.before.before.before.before.before.before.before.before.before.before.before.before.before.before.before.parent_id.ensures c.before.before.before.before.before.before.before.before.before.before.before.before.before.before.read_counts.ensures c.before.before.before.before.before.before.before.before.before.before.before.before.before.head_at.ensures.0 w (back w64 a.number s.ranges.number) c.before.before.before.before.before.before.before.before.before.append.ensures c.before.before.before.after-append.ensures
+    let w : c.before.before.before.before.before.before.before.before.before.before.before.before.before.head_at-a.result + 512 - c.before.before.before.before.before.before.before.before.before.before.before.before.before.head_at-a.result ≡ 512 = omega arith in
+    append_law a.ids.now a.numbers.now a.lengths.now a.spills.now a.counts a.p a.kind a.number _ a.staged.now _ _ _ _ _ _ _ _ s.requires.1 c.before.before.before.before.before.before.before.before.before.before.before.before.before.before.before.parent_id-id.ensures c.before.before.before.before.before.before.before.before.before.before.before.before.before.before.read_counts-h.ensures c.before.before.before.before.before.before.before.before.before.before.before.before.before.head_at-a.ensures.0 w (back w64 a.number s.ranges.number) c.before.before.before.before.before.before.before.before.before.append-r.ensures c.before.before.before.after_append.ensures
 
 pub append_step_spec : {M : Type 1} → statement M
 append_step_spec =

@@ -3,7 +3,7 @@ use borrow.Author.Rules.{rules}
 use Rattle.spills.proofs.locate_alike.Statement.{statement}
 use Rattle.spills.proofs.locate_alike.Tie as tie
 
-locate_spill_requires : tie.Need-locate-spill-requires
+locate_spill_requires : tie.Need-locate_spill-requires
 locate_spill_requires c κs = search rules
 
 returns : tie.Need-returns

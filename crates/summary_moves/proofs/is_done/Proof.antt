@@ -4,17 +4,17 @@ use borrow.Author.Rules.{rules}
 use Rattle.summary_moves.proofs.is_done.Statement.{statement}
 use Rattle.summary_moves.proofs.is_done.Tie as tie
 
-enum_told : tie.Need-enum-told
+enum_told : tie.Need-enum_told-1
 enum_told c = search rules
 
-enum_told_2 : tie.Need-enum-told-2
+enum_told_2 : tie.Need-enum_told-in-Refused
 enum_told_2 c = search rules
 
-returns : tie.Need-returns
-returns c = rw c.enum_told.given.1 refl
+returns : tie.Need-returns-in-Done
+returns c = rw c.in-Done.is refl
 
-returns-2 : tie.Need-returns-2
-returns-2 c = rw c.enum_told2.given.1 refl
+returns-2 : tie.Need-returns-in-Refused
+returns-2 c = rw c.in-Refused.is refl
 
 pub is_done_spec : {M : Type 1} → statement M
 is_done_spec = tie.close (tie.spec enum_told enum_told_2 returns returns-2)

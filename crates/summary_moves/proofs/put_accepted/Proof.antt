@@ -11,24 +11,24 @@ use borrow.Author.Rules.{rules}
 use Rattle.summary_moves.proofs.put_accepted.Statement.{statement}
 use Rattle.summary_moves.proofs.put_accepted.Tie as tie
 
-usize_from_i32_requires : tie.Need-usize-from-i32-requires
-usize_from_i32_requires c κs = rw (back w32 c.before.before.before.args.spills (search rules)) (c.before.before.before.requires c.before.if1.true).0
+usize_from_i32_requires : tie.Need-usize_from_i32-requires
+usize_from_i32_requires c κs = rw (back w32 c.before.before.before.args.spills (search rules)) (c.before.before.before.requires c.before.if-accepted.true).0
 
-put_line_requires : tie.Need-put-line-requires
+put_line_requires : tie.Need-put_line-requires
 put_line_requires c κs =
     let e = c.usize_from_i32.ensures ∙ ap nat_abs (back w32 c.before.before.before.before.args.spills (search rules)) in
-    omega (arith, e, (c.before.before.before.before.requires c.before.before.if1.true).1)
+    omega (arith, e, (c.before.before.before.before.requires c.before.before.if-accepted.true).1)
 
-same_length : tie.Need-same-length
+same_length : tie.Need-shape_of-summary
 same_length c = search rules
 
-returns : tie.Need-returns
+returns : tie.Need-returns-then-accepted
 returns c =
     let a = c.before.before.before.before.before.before.before.args in
     let e = c.before.before.before.usize_from_i32.ensures ∙ ap nat_abs (back w32 a.spills (search rules)) in
-    rw c.before.before.before.before.before.if1.true (c.before.before.put_line.ensures ∙ ap (λ (n : ℕ). put_line n (line_numbers a.line) a.summary.now) e)
+    rw c.before.before.before.before.before.if-accepted.true (c.before.before.put_line.ensures ∙ ap (λ (n : ℕ). put_line n (line_numbers a.line) a.summary.now) e)
 
-returns-2 : tie.Need-returns-2
+returns-2 : tie.Need-returns-else-accepted
 returns-2 c = search rules
 
 pub put_accepted_spec : {M : Type 1} → statement M

@@ -11,7 +11,7 @@ use borrow.Fn.PlainCycle.{Measures, is, falls, and}
 use Rattle.summary_search.proofs.search.Reads as search'
 use Rattle.summary_search.proofs.search.Kinds as search_kinds
 use Rattle.summary_lines.proofs.number_at.Reads as number_at_reads
-use Rattle.summary_search.proofs.+search.Lts_search as search_lts
+use Rattle.summary_search.proofs.+search.Lts-search as search_lts
 use Rattle.summary_search.proofs.+search.{statement}
 use Rattle.summary_search.proofs.+search.Tie.{close}
 
@@ -24,7 +24,7 @@ search_at t = and 1 search_kinds.ps (is 1 search_kinds.ps μ_search t) search'.P
 abbrev search_below : ℕ → In 1 search_kinds.ps
 search_below t = and 1 search_kinds.ps (falls 1 search_kinds.ps ◌<◌ μ_search t) search'.Pre
 
-search_sub_middle : (t : ℕ) → search_lts.Need-overflow-sub-middle (
+search_sub_middle : (t : ℕ) → search_lts.Need-overflow_sub-middle (
   number_at_reads.Asked,
   number_at_reads.Learnt,
   search_below t,
@@ -32,31 +32,31 @@ search_sub_middle : (t : ℕ) → search_lts.Need-overflow-sub-middle (
 ) (search_at t) search'.Post
 search_sub_middle t c = search rules
 
-search_add_middle : (t : ℕ) → search_lts.Need-overflow-add-middle (
+search_add_middle : (t : ℕ) → search_lts.Need-overflow_add-middle (
   number_at_reads.Asked,
   number_at_reads.Learnt,
   search_below t,
   search'.Post,
 ) (search_at t) search'.Post
-search_add_middle t c = omega (arith, middle_below c.before.before.args.low c.before.before.args.high c.if1.true)
+search_add_middle t c = omega (arith, middle_below c.before.before.args.low c.before.before.args.high c.if-low-high.true)
 
-search_number_at_requires : (t : ℕ) → search_lts.Need-number-at-requires (
+search_number_at_requires : (t : ℕ) → search_lts.Need-number_at-first-requires (
   number_at_reads.Asked,
   number_at_reads.Learnt,
   search_below t,
   search'.Post,
 ) (search_at t) search'.Post
 search_number_at_requires t c κs =
-    (omega arith, omega (arith, c.before.before.requires.1, middle_below c.before.before.args.low c.before.before.args.high c.if1.true))
+    (omega arith, omega (arith, c.before.before.requires.1, middle_below c.before.before.args.low c.before.before.args.high c.if-low-high.true))
 
-search_add_search : (t : ℕ) → search_lts.Need-overflow-add-search (
+search_add_search : (t : ℕ) → search_lts.Need-overflow_add-middle-then-first-target (
   number_at_reads.Asked,
   number_at_reads.Learnt,
   search_below t,
   search'.Post,
 ) (search_at t) search'.Post
 search_add_search t c =
-    omega (arith, c.before.before.before.before.requires.1, middle_below c.before.before.before.before.args.low c.before.before.before.before.args.high c.before.before.if1.true)
+    omega (arith, c.before.before.before.before.requires.1, middle_below c.before.before.before.before.args.low c.before.before.before.before.args.high c.before.before.if-low-high.true)
 
 search_search_requires : (t : ℕ) → search_lts.Need-search-requires (
   number_at_reads.Asked,
@@ -65,18 +65,18 @@ search_search_requires : (t : ℕ) → search_lts.Need-search-requires (
   search'.Post,
 ) (search_at t) search'.Post
 search_search_requires t c κs =
-    (falls_up c.before.before.before.before.args.low c.before.before.before.before.args.high t c.before.before.before.before.requires.0 c.before.before.if1.true, c.before.before.before.before.requires.1)
+    (falls_up c.before.before.before.before.args.low c.before.before.before.before.args.high t c.before.before.before.before.requires.0 c.before.before.if-low-high.true, c.before.before.before.before.requires.1)
 
-search_search_requires_2 : (t : ℕ) → search_lts.Need-search-requires-2 (
+search_search_requires_2 : (t : ℕ) → search_lts.Need-search-requires-else-first-target (
   number_at_reads.Asked,
   number_at_reads.Learnt,
   search_below t,
   search'.Post,
 ) (search_at t) search'.Post
 search_search_requires_2 t c κs =
-    (falls_down c.before.before.before.before.args.low c.before.before.before.before.args.high t c.before.before.before.before.requires.0 c.before.before.if1.true, omega (arith, c.before.before.before.before.requires.1, middle_below c.before.before.before.before.args.low c.before.before.before.before.args.high c.before.before.if1.true))
+    (falls_down c.before.before.before.before.args.low c.before.before.before.before.args.high t c.before.before.before.before.requires.0 c.before.before.if-low-high.true, omega (arith, c.before.before.before.before.requires.1, middle_below c.before.before.before.before.args.low c.before.before.before.before.args.high c.before.before.if-low-high.true))
 
-search_returns : (t : ℕ) → search_lts.Need-returns (
+search_returns : (t : ℕ) → search_lts.Need-returns-then-first-target (
   number_at_reads.Asked,
   number_at_reads.Learnt,
   search_below t,
@@ -84,9 +84,9 @@ search_returns : (t : ℕ) → search_lts.Need-returns (
 ) (search_at t) search'.Post
 search_returns t c =
     let a = c.before.before.before.before.before.args in
-    search_up (line_lead a.summary.now) a.target a.low a.high c.before.before.before.if1.true _ (ap Leads c.before.before.number_at.ensures) _ _ refl c.before.if2.true c.search.ensures
+    search_up (line_lead a.summary.now) a.target a.low a.high c.before.before.before.if-low-high.true _ (ap Leads c.before.before.number_at-first.ensures) _ _ refl c.before.if-first-target.true c.search.ensures
 
-search_returns_2 : (t : ℕ) → search_lts.Need-returns-2 (
+search_returns_2 : (t : ℕ) → search_lts.Need-returns-else-first-target (
   number_at_reads.Asked,
   number_at_reads.Learnt,
   search_below t,
@@ -94,9 +94,9 @@ search_returns_2 : (t : ℕ) → search_lts.Need-returns-2 (
 ) (search_at t) search'.Post
 search_returns_2 t c =
     let a = c.before.before.before.before.before.args in
-    search_down (line_lead a.summary.now) a.target a.low a.high c.before.before.before.if1.true _ (ap Leads c.before.before.number_at.ensures) _ _ refl c.before.if2.false c.search2.ensures
+    search_down (line_lead a.summary.now) a.target a.low a.high c.before.before.before.if-low-high.true _ (ap Leads c.before.before.number_at-first.ensures) _ _ refl c.before.if-first-target.false c.search-else-first-target.ensures
 
-search_returns_3 : (t : ℕ) → search_lts.Need-returns-3 (
+search_returns_3 : (t : ℕ) → search_lts.Need-returns-else-low-high (
   number_at_reads.Asked,
   number_at_reads.Learnt,
   search_below t,
@@ -104,7 +104,7 @@ search_returns_3 : (t : ℕ) → search_lts.Need-returns-3 (
 ) (search_at t) search'.Post
 search_returns_3 t c =
     let a = c.before.before.args in
-    search_end (line_lead a.summary.now) a.target a.low a.high c.if1.false
+    search_end (line_lead a.summary.now) a.target a.low a.high c.if-low-high.false
 
 pub +search_spec : {M : Type 1} → statement M
 +search_spec = close μ_search λ t. search_lts.spec (

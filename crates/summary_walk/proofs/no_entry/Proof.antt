@@ -5,7 +5,7 @@ use borrow.Author.Rules.{rules}
 use Rattle.summary_walk.proofs.no_entry.Statement.{statement}
 use Rattle.summary_walk.proofs.no_entry.Tie as tie
 
-no_entry_requires : tie.Need-no-entry-requires
+no_entry_requires : tie.Need-no_entry-requires
 no_entry_requires c κs = search rules
 
 returns : tie.Need-returns

@@ -13,101 +13,101 @@ use Rattle.summary_walk.proofs.WalkLaws.{walk_over, walk_ended, walk_stopped, st
 use Rattle.summary_walk.proofs.walk_down.Statement.{statement}
 use Rattle.summary_walk.proofs.walk_down.Tie as tie
 
-abbrev invariant_loop : tie.invariant_loop
+abbrev invariant_loop : tie.invariant-loop-low
 invariant_loop edition parent target spend from seen staged_counts staged₀ table_count table summary₀ low₀ saw₀ staged summary low saw =
     let f = line_look (edition_of edition) (sources parent staged₀ staged_counts.count table table_count) summary₀ target spend in
     (low ≤ from) × (staged ≡ staged₀) × (summary ≡ summary₀) × (walk_from f from seen ≡ walk_from f low saw)
 
-abbrev decreases_loop : tie.decreases_loop
+abbrev decreases_loop : tie.decreases-loop-low
 decreases_loop edition parent target spend from seen staged_counts staged₀ table_count table summary₀ low₀ saw₀ staged summary low saw = low
 
-loop-holds : tie.Need-loop-init invariant_loop decreases_loop
+loop-holds : tie.Need-loop-low-init invariant_loop decreases_loop
 loop-holds c = (search rules, refl, refl, refl)
 
-sub_low : tie.Need-overflow-sub-low invariant_loop decreases_loop
+sub_low : tie.Need-overflow_sub-low invariant_loop decreases_loop
 sub_low c = search rules
 
-try_line_requires : tie.Need-try-line-requires invariant_loop decreases_loop
+try_line_requires : tie.Need-try_line-tried-requires invariant_loop decreases_loop
 try_line_requires c κs =
     let s = c.before.before.before.before.before.before.before in
-    let l = c.before.before.before.loop in
+    let l = c.before.before.before.loop-low in
     rw (l.invariant.1, l.invariant.2) (s.requires.0, omega arith, s.requires.2, omega (arith, s.requires.3))
 
-enum_known_tried : tie.Need-enum-known-tried invariant_loop decreases_loop
+enum_known_tried : tie.Need-enum_known-tried invariant_loop decreases_loop
 enum_known_tried c = search rules
 
-same_length : tie.Need-same-length invariant_loop decreases_loop
+same_length : tie.Need-shape_of-staged-in-Ended invariant_loop decreases_loop
 same_length c = search rules
 
-same_length_2 : tie.Need-same-length-2 invariant_loop decreases_loop
+same_length_2 : tie.Need-shape_of-summary-in-Ended invariant_loop decreases_loop
 same_length_2 c = search rules
 
-returns : tie.Need-returns invariant_loop decreases_loop
+returns : tie.Need-returns-in-Ended invariant_loop decreases_loop
 returns c =
-    let s = c.before.before.before.before.before.before.before.before.before.before.before.before.before.before.before in
+    let s = c.before.before.before.before.before.before.before.before.before.before.before.before.before in
     let a = s.args in
     let w = sources a.parent.now a.staged.now a.staged_counts.count a.table.now a.table_count in
-    let l = c.before.before.before.before.before.before.before.before.before.before.before.loop in
-    walk_ended a.edition w a.staged_counts a.staged.now a.summary.now a.target a.spend a.from a.seen l.low l.saw l.invariant.3 c.before.before.before.before.before.before.before.before.before.before.loop-test.true _ _ _ (rw (l.invariant.1, l.invariant.2) at c.before.before.before.before.before.before.before.try_line.ensures) _ c.before.tried.given.1
+    let l = c.before.before.before.before.before.before.before.before.before.loop-low in
+    walk_ended a.edition w a.staged_counts a.staged.now a.summary.now a.target a.spend a.from a.seen l.low l.saw l.invariant.3 c.before.before.before.before.before.before.before.before.loop-low-test.true _ _ _ (rw (l.invariant.1, l.invariant.2) at c.before.before.before.before.before.try_line-tried.ensures) _ c.in-Ended.is
 
-enum_known_tried_2 : tie.Need-enum-known-tried-2 invariant_loop decreases_loop
+enum_known_tried_2 : tie.Need-enum_known-tried-in-Stop-1 invariant_loop decreases_loop
 enum_known_tried_2 c = search rules
 
 either_requires : tie.Need-either-requires invariant_loop decreases_loop
 either_requires c κs = search rules
 
-no_entry_requires : tie.Need-no-entry-requires invariant_loop decreases_loop
+no_entry_requires : tie.Need-no_entry-requires invariant_loop decreases_loop
 no_entry_requires c κs = search rules
 
-same_length_3 : tie.Need-same-length-3 invariant_loop decreases_loop
+same_length_3 : tie.Need-shape_of-staged-in-Stop invariant_loop decreases_loop
 same_length_3 c = search rules
 
-same_length_4 : tie.Need-same-length-4 invariant_loop decreases_loop
+same_length_4 : tie.Need-shape_of-summary-in-Stop invariant_loop decreases_loop
 same_length_4 c = search rules
 
-returns-2 : tie.Need-returns-2 invariant_loop decreases_loop
+returns-2 : tie.Need-returns-in-Stop invariant_loop decreases_loop
 returns-2 c =
-    let s = c.before.before.before.before.before.before.before.before.before.before.before.before.before.before.before.before.before in
+    let s = c.before.before.before.before.before.before.before.before.before.before.before.before.before.before.before in
     let a = s.args in
     let w = sources a.parent.now a.staged.now a.staged_counts.count a.table.now a.table_count in
-    let l = c.before.before.before.before.before.before.before.before.before.before.before.before.before.loop in
-    walk_stopped a.edition w a.staged_counts a.staged.now a.summary.now a.target a.spend a.from a.seen l.low l.saw l.invariant.3 c.before.before.before.before.before.before.before.before.before.before.before.before.loop-test.true _ _ _ (rw (l.invariant.1, l.invariant.2) at c.before.before.before.before.before.before.before.before.before.try_line.ensures) _ _ c.before.before.before.tried2.given.1 c.before.either.ensures _ c.no_entry.ensures
+    let l = c.before.before.before.before.before.before.before.before.before.before.before.loop-low in
+    walk_stopped a.edition w a.staged_counts a.staged.now a.summary.now a.target a.spend a.from a.seen l.low l.saw l.invariant.3 c.before.before.before.before.before.before.before.before.before.before.loop-low-test.true _ _ _ (rw (l.invariant.1, l.invariant.2) at c.before.before.before.before.before.before.before.try_line-tried.ensures) _ _ c.before.before.in-Stop.is c.before.either.ensures _ c.no_entry.ensures
 
-enum_known_tried_3 : tie.Need-enum-known-tried-3 invariant_loop decreases_loop
+enum_known_tried_3 : tie.Need-enum_known-tried-in-Next-1 invariant_loop decreases_loop
 enum_known_tried_3 c = search rules
 
-either_requires_2 : tie.Need-either-requires-2 invariant_loop decreases_loop
+either_requires_2 : tie.Need-either-saw-requires invariant_loop decreases_loop
 either_requires_2 c κs = search rules
 
-loop-less : tie.Need-loop-smaller invariant_loop decreases_loop
+loop-less : tie.Need-loop-low-smaller invariant_loop decreases_loop
 loop-less c = search rules
 
-loop-again : tie.Need-loop-preserved invariant_loop decreases_loop
+loop-again : tie.Need-loop-low-preserved invariant_loop decreases_loop
 loop-again c =
-    let s = c.before.before.before.before.before.before.before.before.before.before.before.before.before.before.before.before in
+    let s = c.before.before.before.before.before.before.before.before.before.before.before.before.before.before in
     let a = s.args in
     let w = sources a.parent.now a.staged.now a.staged_counts.count a.table.now a.table_count in
-    let l = c.before.before.before.before.before.before.before.before.before.before.before.before.loop in
+    let l = c.before.before.before.before.before.before.before.before.before.before.loop-low in
     let f = line_look (edition_of a.edition) w a.summary.now a.target a.spend in
-    let q = stays a.edition w a.staged_counts a.staged.now a.summary.now a.target a.spend a.from a.seen l.low l.saw l.invariant.3 c.before.before.before.before.before.before.before.before.before.before.before.loop-test.true _ _ _ (rw (l.invariant.1, l.invariant.2) at c.before.before.before.before.before.before.before.before.try_line.ensures) _ c.before.before.tried3.given.1 in
-    (omega arith, q.1, q.2, l.invariant.3 ∙ walk_next f l.low l.saw c.before.before.before.before.before.before.before.before.before.before.before.loop-test.true _ refl _ _ q.0 c.either2.ensures)
+    let q = stays a.edition w a.staged_counts a.staged.now a.summary.now a.target a.spend a.from a.seen l.low l.saw l.invariant.3 c.before.before.before.before.before.before.before.before.before.loop-low-test.true _ _ _ (rw (l.invariant.1, l.invariant.2) at c.before.before.before.before.before.before.try_line-tried.ensures) _ c.before.in-Next.is in
+    (omega arith, q.1, q.2, l.invariant.3 ∙ walk_next f l.low l.saw c.before.before.before.before.before.before.before.before.before.loop-low-test.true _ refl _ _ q.0 c.either-saw.ensures)
 
-no_entry_requires_2 : tie.Need-no-entry-requires-2 invariant_loop decreases_loop
+no_entry_requires_2 : tie.Need-no_entry-requires-2 invariant_loop decreases_loop
 no_entry_requires_2 c κs = search rules
 
-same_length_5 : tie.Need-same-length-5 invariant_loop decreases_loop
+same_length_5 : tie.Need-shape_of-staged invariant_loop decreases_loop
 same_length_5 c = search rules
 
-same_length_6 : tie.Need-same-length-6 invariant_loop decreases_loop
+same_length_6 : tie.Need-shape_of-summary invariant_loop decreases_loop
 same_length_6 c = search rules
 
-returns-3 : tie.Need-returns-3 invariant_loop decreases_loop
+returns-3 : tie.Need-returns invariant_loop decreases_loop
 returns-3 c =
     let s = c.before.before.before.before.before.before in
     let a = s.args in
     let w = sources a.parent.now a.staged.now a.staged_counts.count a.table.now a.table_count in
-    let l = c.before.before.loop in
-    rw (l.invariant.1, l.invariant.2) (walk_over a.edition w a.staged_counts a.staged.now a.summary.now a.target a.spend a.from a.seen l.low l.saw l.invariant.3 c.before.loop-test.false _ c.no_entry2.ensures)
+    let l = c.before.before.loop-low in
+    rw (l.invariant.1, l.invariant.2) (walk_over a.edition w a.staged_counts a.staged.now a.summary.now a.target a.spend a.from a.seen l.low l.saw l.invariant.3 c.before.loop-low-test.false _ c.no_entry-2.ensures)
 
 pub walk_down_spec : {M : Type 1} → statement M
 walk_down_spec =

@@ -17,35 +17,35 @@ use Rattle.tally_core.proofs.TallyLaws.{tally_10, tally_11, tally_on}
 use Rattle.tally_core.proofs.tally.Statement.{statement}
 use Rattle.tally_core.proofs.tally.Tie as tie
 
-order_ok_requires : tie.Need-order-ok-requires
+order_ok_requires : tie.Need-order_ok-requires
 order_ok_requires c κs = search rules
 
-returns : tie.Need-returns
+returns : tie.Need-returns-then-not-order_ok
 returns c =
     let a = c.before.before.before.before.before.args in
-    tally_10 (edition_of a.edition) (sources a.parent.now a.staged.now a.staged_counts.count a.table.now a.table_counts.count) a.counts.spills (take a.counts.len a.head.now) (sym c.before.order_ok.ensures ∙ not-true _ c.if1.true)
+    tally_10 (edition_of a.edition) (sources a.parent.now a.staged.now a.staged_counts.count a.table.now a.table_counts.count) a.counts.spills (take a.counts.len a.head.now) (sym c.before.order_ok.ensures ∙ c.if-not-order_ok.true)
 
-is_negative_i32_requires : tie.Need-is-negative-i32-requires
+is_negative_i32_requires : tie.Need-is_negative_i32-requires
 is_negative_i32_requires c κs = search rules
 
-returns-2 : tie.Need-returns-2
+returns-2 : tie.Need-returns-then-is_negative_i32
 returns-2 c =
     let a = c.before.before.before.before.before.before.before.args in
     let e = back w32 a.counts.spills (search rules) in
-    tally_11 (edition_of a.edition) (sources a.parent.now a.staged.now a.staged_counts.count a.table.now a.table_counts.count) a.counts.spills (take a.counts.len a.head.now) (sym c.before.before.before.order_ok.ensures ∙ not-false _ c.before.before.if1.false) (ap is_negative (sym e) ∙ sym c.before.is_negative_i32.ensures ∙ c.if2.true)
+    tally_11 (edition_of a.edition) (sources a.parent.now a.staged.now a.staged_counts.count a.table.now a.table_counts.count) a.counts.spills (take a.counts.len a.head.now) (sym c.before.before.before.order_ok.ensures ∙ c.before.before.if-not-order_ok.false) (ap is_negative (sym e) ∙ sym c.before.is_negative_i32.ensures ∙ c.if-is_negative_i32.true)
 
-usize_from_i32_requires : tie.Need-usize-from-i32-requires
-usize_from_i32_requires c κs = sym c.before.is_negative_i32.ensures ∙ c.if2.false
+usize_from_i32_requires : tie.Need-usize_from_i32-requires
+usize_from_i32_requires c κs = sym c.before.is_negative_i32.ensures ∙ c.if-is_negative_i32.false
 
-tally_entries_requires : tie.Need-tally-entries-requires
+tally_entries_requires : tie.Need-tally_entries-requires
 tally_entries_requires c κs = search rules
 
-count_spills_requires : tie.Need-count-spills-requires
+count_spills_requires : tie.Need-count_spills-requires
 count_spills_requires c κs =
     let s = c.before.before.before.before.before.before.before.before.before in
     let a = s.args in
     let e = back w32 a.counts.spills (search rules) in
-    let n = ap is_negative (sym e) ∙ sym c.before.before.before.is_negative_i32.ensures ∙ c.before.before.if2.false in
+    let n = ap is_negative (sym e) ∙ sym c.before.before.before.is_negative_i32.ensures ∙ c.before.before.if-is_negative_i32.false in
     let zs = take a.counts.len a.head.now in
     let t = length-take-le a.counts.len a.head.now (omega (arith, s.requires.few, s.requires.long)) in
     let k = c.tally_entries.ensures in (
@@ -58,14 +58,14 @@ count_spills_requires c κs =
       s.requires.apart,
     )
 
-returns-3 : tie.Need-returns-3
+returns-3 : tie.Need-returns
 returns-3 c =
     let s = c.before.before.before.before.before.before.before.before.before.before in
     let a = s.args in
     let e = back w32 a.counts.spills (search rules) in
     tally_on (edition_of a.edition) (sources a.parent.now a.staged.now a.staged_counts.count a.table.now a.table_counts.count) a.counts.spills (take a.counts.len a.head.now)
-    (sym c.before.before.before.before.before.before.order_ok.ensures ∙ not-false _ c.before.before.before.before.before.if1.false)
-    (ap is_negative (sym e) ∙ sym c.before.before.before.before.is_negative_i32.ensures ∙ c.before.before.before.if2.false)
+    (sym c.before.before.before.before.before.before.order_ok.ensures ∙ c.before.before.before.before.before.if-not-order_ok.false)
+    (ap is_negative (sym e) ∙ sym c.before.before.before.before.is_negative_i32.ensures ∙ c.before.before.before.if-is_negative_i32.false)
     _ _ (c.before.before.usize_from_i32.ensures ∙ ap nat_abs e) c.before.tally_entries.ensures _ c.count_spills.ensures
 
 pub tally_spec : {M : Type 1} → statement M
