@@ -22,33 +22,27 @@
 # make crash-test  kills an indexer at random moments (KILLS), opens its store again and compares it with a replay
 # make store-bench the index and the reference over the same LMDB (BOXES, STORE_PARENTS)
 # make fmt    the layout of all Rattle and antt files
-# make times  the seconds of the last gate, crate by crate
 # make facts  by which fact the prover refused each must-fail edit of the last gate
 
 SHELL := /bin/bash
 .SHELLFLAGS := -o pipefail -c
-# Six checks at a time keep two cores busy: rt waits for the slowest of those that it started together.
-export RT_JOBS ?= 6
-# The prover's allocator keeps its pages.
-export MIMALLOC_PURGE_DELAY ?= -1
-# Its temporary files stand in memory, where there is room.
-export TMPDIR := $(shell scripts/temporary-folder.sh)
 RT := $(shell command -v rt 2>/dev/null)
 NO_RT := the Rattle kit is missing: no command 'rt' on PATH (expected in /opt/rattle/bin)
 ARCHIVE := target/staticlib/libergo_index.a
 # What cargo is told of it.
 WITH_ARCHIVE := ERGO_INDEX_LIB_DIR=$(CURDIR)/target/staticlib
 
-.PHONY: setup indexer store-demo store-check crash-test store-bench run load histories fork-trial test times facts c-test bindings convert flat-view copies sorted-accounts compare compare-full compare-sample compare-build vectors bench all-checks fmt
+.PHONY: setup indexer store-demo store-check crash-test store-bench run load histories fork-trial test facts c-test bindings convert flat-view copies sorted-accounts compare compare-full compare-sample compare-build vectors bench all-checks fmt
 
 run:
 ifeq ($(RT),)
 	@echo "$(NO_RT)" >&2; exit 2
 else
 	@echo "proving the call runner and what it builds on: minutes the first time, seconds afterwards"
-	@mkdir -p target; rt check call_runner 2>&1 | tee target/run.log | grep --line-buffered '^rt: ' || { tail -n 20 target/run.log >&2; exit 1; }
+	@mkdir -p target; cd crates/call_runner && rt run < /dev/null 2>&1 >/dev/null | tee ../../target/run.log | grep --line-buffered '^rt: ' || true
+	@test -x crates/call_runner/out/call_runner || { tail -n 20 target/run.log >&2; exit 1; }
 	@echo "the last lines of the sample history, which has 545 calls:"
-	@target/bin/call_runner < sample/fork.calls | tail -n 32
+	@crates/call_runner/out/call_runner < sample/fork.calls | tail -n 32
 endif
 
 STATE := 1
@@ -58,8 +52,8 @@ load:
 ifeq ($(RT),)
 	@echo "$(NO_RT)" >&2; exit 2
 else
-	@mkdir -p target; rt check load_writer >target/load.log 2>&1 || { tail -n 20 target/load.log >&2; exit 1; }
-	@target/bin/load_writer $(STATE) $(CALLS)
+	@mkdir -p target; (cd crates/load_writer && rt run -- $(STATE) 0) >/dev/null 2>target/load.log || { tail -n 20 target/load.log >&2; exit 1; }
+	@crates/load_writer/out/load_writer $(STATE) $(CALLS)
 endif
 
 STEPS := 2000 2000 2000 -2 2000
@@ -68,15 +62,15 @@ fork-trial: $(ARCHIVE)
 	@cd bindings/rust && $(WITH_ARCHIVE) cargo run --offline --locked --quiet --release --example fork_trial -- $(STATE) $(STEPS)
 
 histories: $(ARCHIVE)
-	@mkdir -p target; rt check history_printer >target/histories.log 2>&1 || { tail -n 20 target/histories.log >&2; exit 1; }
-	@target/bin/history_printer
+	@mkdir -p target; (cd crates/history_printer && rt run) >/dev/null 2>target/histories.log || { tail -n 20 target/histories.log >&2; exit 1; }
+	@crates/history_printer/out/history_printer
 	@cd bindings/rust && $(WITH_ARCHIVE) cargo run --offline --locked --quiet --release --example short_histories
 
 test:
 ifeq ($(RT),)
 	@echo "$(NO_RT)" >&2; exit 2
 else
-	@rt ci
+	@scripts/gate.sh
 endif
 
 # The archive is proved and built again when a source has changed.
@@ -150,14 +144,11 @@ copies: $(ARCHIVE)
 facts:
 	@scripts/facts.py
 
-times:
-	@scripts/times.py
-
 fmt:
 ifeq ($(RT),)
 	@echo "$(NO_RT)" >&2; exit 2
 else
-	@rt fmt
+	@for crate in crates/*/; do (cd $$crate && rt fmt >/dev/null) || exit 1; done
 endif
 
 

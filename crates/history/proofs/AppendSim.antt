@@ -173,7 +173,7 @@ module _ (E : Edition) (ids : Parent → List ℕ) (L : EditionLaws E ids) (caps
         → RecordsOk E.size E.limit d m → d.capacity ≡ c.capacity → S.Inv E ids caps (index (set_part b.parts ch v) (with_staged d m b.lists))
     inv_part v d m x y z t q = record {
       heads_in = all_set (λ q. head_ok q.head q.places ≡ true) b.parts ch v x I.heads_in;
-      not-below = all_set (λ q. is_negative q.head.spills ≡ false) b.parts ch v y I.not_below;
+      not_below = all_set (λ q. is_negative q.head.spills ≡ false) b.parts ch v y I.not_below;
       spills_in = all_set (λ q. nat_abs q.head.spills ≤ 2147483647) b.parts ch v z I.spills_in;
       lists_in = fit_lists E (with_staged d m b.lists) (record { in_staged = t; in_table = lf.in_table; in_deleted = lf.in_deleted });
       table_at = I.table_at;

@@ -146,7 +146,7 @@ module _ (E : Edition) (ids : Parent → List ℕ) (L : EditionLaws E ids) (caps
         → S.Inv E ids caps (index (set_part b.parts (boxes p) v) (with_staged d l x))
     inv_part v d l y h t e = record {
       heads_in = all_set (λ z. head_ok z.head z.places ≡ true) b.parts (boxes p) v y I.heads_in;
-      not-below = all_set (λ z. is_negative z.head.spills ≡ false) b.parts (boxes p) v (rw h (I.not_below (boxes p))) I.not_below;
+      not_below = all_set (λ z. is_negative z.head.spills ≡ false) b.parts (boxes p) v (rw h (I.not_below (boxes p))) I.not_below;
       spills_in = all_set (λ z. nat_abs z.head.spills ≤ 2147483647) b.parts (boxes p) v (rw h (I.spills_in (boxes p))) I.spills_in;
       lists_in = fit_lists E (with_staged d l x) (record { in_staged = t; in_table = lf.in_table; in_deleted = lf.in_deleted });
       table_at = I.table_at;

@@ -274,7 +274,7 @@ module _ (E : Edition) (ids : Parent → List ℕ) (L : EditionLaws E ids) (caps
         let q : z ≡ d = cc in
         rw (← q) (record {
           heads_in = I.heads_in;
-          not-below = I.not_below;
+          not_below = I.not_below;
           spills_in = I.spills_in;
           lists_in = fit_lists E y (record {
             in_staged = records_ok_after_clear E.size E.limit x.staged_counts x.staged lf.in_staged.bounds.room;

@@ -83,7 +83,7 @@ module _ (E : Edition) (ids : Parent → List ℕ) (L : EditionLaws E ids) (B : 
   start_inv : Inv begin
   start_inv = record {
     heads_in = λ ch. fit_head (begin.parts ch) (omega arith) (B.places_in ch);
-    not-below = λ ch. refl;
+    not_below = λ ch. refl;
     spills_in = λ ch. omega arith;
     lists_in = fit_lists E begin.lists (record {
       in_staged = none_records E.size E.limit B.staged_cap B.staged B.staged_in;

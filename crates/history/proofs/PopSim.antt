@@ -177,7 +177,7 @@ module _ (E : Edition) (ids : Parent → List ℕ) (L : EditionLaws E ids) (caps
         → ListsFit E y → S.Inv E ids caps (index (set_part b.parts ch v) y)
     inv_part v y h n z e₁ e₂ e₃ t = record {
       heads_in = all_set (λ q. head_ok q.head q.places ≡ true) b.parts ch v h I.heads_in;
-      not-below = all_set (λ q. is_negative q.head.spills ≡ false) b.parts ch v n I.not_below;
+      not_below = all_set (λ q. is_negative q.head.spills ≡ false) b.parts ch v n I.not_below;
       spills_in = all_set (λ q. nat_abs q.head.spills ≤ 2147483647) b.parts ch v z I.spills_in;
       lists_in = fit_lists E y t;
       table_at = e₁ ∙ I.table_at;

@@ -89,7 +89,7 @@ module _ (E : Edition) (ids : Parent → List ℕ) (L : EditionLaws E ids) (B : 
         (record {
           fits = fits;
           in_order = Si.head_passes E ids L B s Z Q U apart b R F q sorted;
-          not-below = F.0.not_below (boxes q);
+          not_below = F.0.not_below (boxes q);
           numbers = rows.0;
           rows = rows.1;
         }) (R q)

@@ -76,7 +76,7 @@ both_accepted a b o e =
     let t = not_refused (passes a) (passes b) (id_twice a.counts a.ids) (id_twice b.counts b.ids) (box_side a) (tx_side a) (box_side b) (tx_side b) _ o e in
     record {
       first = record { address = a; buffers = t.first_passes; once = t.first_once; boxes = t.a; boxes_read = t.first_boxes; txs = t.b; txs_read = t.first_txs };
-      first-is = refl;
+      first_is = refl;
       second = record { address = b; buffers = t.second_passes; once = t.second_once; boxes = t.c; boxes_read = t.second_boxes; txs = t.d; txs_read = t.second_txs };
       second_is = refl;
     }

@@ -11,22 +11,22 @@ use borrow.Author.Rules.{rules}
 use Rattle.balance_steps.proofs.change_step.Statement.{statement}
 use Rattle.balance_steps.proofs.change_step.Tie as tie
 
-slice_aggregate_change_box : tie.Need-slice-aggregate-change-box
+slice_aggregate_change_box : tie.Need-slice_bounds-change_box-end
 slice_aggregate_change_box c = search rules
 
-slice_aggregate_change_box_2 : tie.Need-slice-aggregate-change-box-2
+slice_aggregate_change_box_2 : tie.Need-slice_bounds-change_box-end-2
 slice_aggregate_change_box_2 c = search rules
 
-change_box_requires : tie.Need-change-box-requires
+change_box_requires : tie.Need-change_box-requires
 change_box_requires c κs = search rules
 
-same_length : tie.Need-same-length
+same_length : tie.Need-shape_of-ids
 same_length c = search rules
 
-same_length_2 : tie.Need-same-length-2
+same_length_2 : tie.Need-shape_of-numbers
 same_length_2 c = search rules
 
-same_length_3 : tie.Need-same-length-3
+same_length_3 : tie.Need-shape_of-lengths
 same_length_3 c = search rules
 
 returns : tie.Need-returns

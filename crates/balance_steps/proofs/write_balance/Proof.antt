@@ -13,85 +13,85 @@ use Rattle.stores.proofs.copy_bytes.Reads as copy_bytes_reads
 use Rattle.stores.proofs.copy_numbers.Reads as copy_numbers_reads
 
 -- src/lib.rt:402:29
-mul_copy_bytes : tie.Need-overflow-mul-copy-bytes
+mul_copy_bytes : tie.Need-overflow_mul-p
 mul_copy_bytes c = search rules
 
 -- src/lib.rt:402:29
-add_copy_bytes : tie.Need-overflow-add-copy-bytes
+add_copy_bytes : tie.Need-overflow_add-p
 add_copy_bytes c = search rules
 
 -- src/lib.rt:402:44
-slice_aggregate_copy_bytes : tie.Need-slice-aggregate-copy-bytes
+slice_aggregate_copy_bytes : tie.Need-slice_bounds-copy_bytes-end
 slice_aggregate_copy_bytes c = search rules
 
 -- src/lib.rt:402:5
-copy_bytes_requires : tie.Need-copy-bytes-requires
+copy_bytes_requires : tie.Need-copy_bytes-requires
 copy_bytes_requires c κs =
     let s = c.before.before.before.before.before.before.before in
     let e : length s.args.balance.ids ≡ 4096 = search rules in
     omega (arith, s.requires.0, e)
 
 -- src/lib.rt:403:35
-mul_copy_numbers : tie.Need-overflow-mul-copy-numbers
+mul_copy_numbers : tie.Need-overflow_mul-p-2
 mul_copy_numbers c = search rules
 
 -- src/lib.rt:403:35
-add_copy_numbers : tie.Need-overflow-add-copy-numbers
+add_copy_numbers : tie.Need-overflow_add-p-2
 add_copy_numbers c = search rules
 
 -- src/lib.rt:403:52
-slice_aggregate_copy_numbers : tie.Need-slice-aggregate-copy-numbers
+slice_aggregate_copy_numbers : tie.Need-slice_bounds-copy_numbers-end
 slice_aggregate_copy_numbers c = search rules
 
 -- src/lib.rt:403:5
-copy_numbers_requires : tie.Need-copy-numbers-requires
+copy_numbers_requires : tie.Need-copy_numbers-requires
 copy_numbers_requires c κs =
     let s = c.before.before.before.before.before.before.before.before.before.before.before.before in
     let e : length s.args.balance.amounts ≡ 128 = search rules in
     omega (arith, s.requires.1, e)
 
 -- src/lib.rt:404:14
-mul_at : tie.Need-overflow-mul-at
+mul_at : tie.Need-overflow_mul-at
 mul_at c = search rules
 
 -- src/lib.rt:404:14
-add_at : tie.Need-overflow-add-at
+add_at : tie.Need-overflow_add-at
 add_at c = search rules
 
 -- src/lib.rt:405:5
-mul_nanos : tie.Need-overflow-mul-nanos
+mul_nanos : tie.Need-offset_bounds-numbers-at
 mul_nanos c = search rules
 
 -- src/lib.rt:405:5
-slice_set_from_nanos : tie.Need-slice-set-from-nanos
+slice_set_from_nanos : tie.Need-bounds-numbers-at
 slice_set_from_nanos c = search rules
 
 -- src/lib.rt:406:16
-mul_last : tie.Need-overflow-mul-last
+mul_last : tie.Need-overflow_mul-last
 mul_last c = search rules
 
 -- src/lib.rt:406:16
-add_last : tie.Need-overflow-add-last
+add_last : tie.Need-overflow_add-last
 add_last c = search rules
 
 -- src/lib.rt:407:5
-mul_lengths : tie.Need-overflow-mul-lengths
+mul_lengths : tie.Need-offset_bounds-lengths-last
 mul_lengths c = search rules
 
 -- src/lib.rt:407:5
-slice_write_lengths : tie.Need-slice-write-lengths
+slice_write_lengths : tie.Need-bounds-lengths-last
 slice_write_lengths c = search rules
 
 -- src/lib.rt:387:1
-same_length : tie.Need-same-length
+same_length : tie.Need-shape_of-ids
 same_length c = search rules
 
 -- src/lib.rt:387:1
-same_length_2 : tie.Need-same-length-2
+same_length_2 : tie.Need-shape_of-numbers
 same_length_2 c = search rules
 
 -- src/lib.rt:387:1
-same_length_3 : tie.Need-same-length-3
+same_length_3 : tie.Need-shape_of-lengths
 same_length_3 c = search rules
 
 -- src/lib.rt:387:1

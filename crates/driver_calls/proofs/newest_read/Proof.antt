@@ -9,44 +9,44 @@ use Rattle.driver_calls.specs.Reads.{headed_read, newest_read}
 use Rattle.driver_calls.proofs.newest_read.Statement.{statement}
 use Rattle.driver_calls.proofs.newest_read.Tie as tie
 
-returns : tie.Need-returns
+returns : tie.Need-returns-then-used-lt-HEADER_BYTES
 unfolding newest_read
-returns c = simp (lt-ltb _ _ c.if1.true)
+returns c = simp (lt-ltb _ _ c.if-used-lt-HEADER_BYTES.true)
 
-add_small_at : tie.Need-overflow-add-small-at
+add_small_at : tie.Need-overflow_add-h
 add_small_at c = search rules
 
-small_at_requires : tie.Need-small-at-requires
+small_at_requires : tie.Need-small_at-count-requires
 small_at_requires c κs = search rules
 
-returns-2 : tie.Need-returns-2
+returns-2 : tie.Need-returns-then-room-count
 unfolding newest_read
 returns-2 c =
     let a = c.before.before.before.before.args in
     let h = a.used - 17 in
-    let q = c.before.small_at.ensures.0 in
-    simp (le-ltb _ _ c.before.before.if1.false, lt-ltb (h / 40) (tokens_told a.s.now h) (omega (arith, q, c.if2.true)))
+    let q = c.before.small_at-count.ensures.0 in
+    simp (le-ltb _ _ c.before.before.if-used-lt-HEADER_BYTES.false, lt-ltb (h / 40) (tokens_told a.s.now h) (omega (arith, q, c.if-room-count.true)))
 
-mul_size : tie.Need-overflow-mul-size
+mul_size : tie.Need-overflow_mul-size
 mul_size c = search rules
 
-add_size : tie.Need-overflow-add-size
+add_size : tie.Need-overflow_add-size
 add_size c = search rules
 
-sub_headed_read : tie.Need-overflow-sub-headed-read
+sub_headed_read : tie.Need-overflow_sub-used
 sub_headed_read c = search rules
 
-headed_read_requires : tie.Need-headed-read-requires
+headed_read_requires : tie.Need-headed_read-requires
 headed_read_requires c κs = search rules
 
-returns-3 : tie.Need-returns-3
+returns-3 : tie.Need-returns
 unfolding newest_read
 returns-3 c =
     let a = c.before.before.before.before.before.args in
     let h = a.used - 17 in
-    let q = c.before.before.small_at.ensures.0 in
+    let q = c.before.before.small_at-count.ensures.0 in
     c.headed_read.ensures ∙ ap (λ (k : ℕ). headed_read a.parents a.s.now h (h / 40) (a.used - (17 + k * 40))) q
-    ∙ simp (le-ltb _ _ c.before.before.before.if1.false, le-ltb (h / 40) (tokens_told a.s.now h) (omega (arith, q, c.before.if2.false)))
+    ∙ simp (le-ltb _ _ c.before.before.before.if-used-lt-HEADER_BYTES.false, le-ltb (h / 40) (tokens_told a.s.now h) (omega (arith, q, c.before.if-room-count.false)))
 
 pub newest_read_spec : {M : Type 1} → statement M
 newest_read_spec =

@@ -4,17 +4,17 @@ use mir.ValLaws.{to_z-of_z}
 use Rattle.driver_calls.proofs.taking_read.Statement.{statement}
 use Rattle.driver_calls.proofs.taking_read.Tie as tie
 
-returns : tie.Need-returns
-returns c = simp (eq-eqb _ _ c.if1.true, to_z-of_z w64 _ c.before.ranges.n)
+returns : tie.Need-returns-then-kind-eq4
+returns c = simp (eq-eqb _ _ c.if-kind-eq4.true, to_z-of_z w64 _ c.before.ranges.n)
 
-returns-2 : tie.Need-returns-2
-returns-2 c = simp (ne_eqb _ _ c.before.if1.false, eq-eqb _ _ c.if2.true)
+returns-2 : tie.Need-returns-then-kind-eq5
+returns-2 c = simp (ne_eqb _ _ c.before.if-kind-eq4.false, eq-eqb _ _ c.if-kind-eq5.true)
 
-returns-3 : tie.Need-returns-3
-returns-3 c = simp (ne_eqb _ _ c.before.before.if1.false, ne_eqb _ _ c.before.if2.false, eq-eqb _ _ c.if3.true)
+returns-3 : tie.Need-returns-then-kind-eq6
+returns-3 c = simp (ne_eqb _ _ c.before.before.if-kind-eq4.false, ne_eqb _ _ c.before.if-kind-eq5.false, eq-eqb _ _ c.if-kind-eq6.true)
 
-returns-4 : tie.Need-returns-4
-returns-4 c = simp (ne_eqb _ _ c.before.before.if1.false, ne_eqb _ _ c.before.if2.false, ne_eqb _ _ c.if3.false)
+returns-4 : tie.Need-returns
+returns-4 c = simp (ne_eqb _ _ c.before.before.if-kind-eq4.false, ne_eqb _ _ c.before.if-kind-eq5.false, ne_eqb _ _ c.if-kind-eq6.false)
 
 pub taking_read_spec : {M : Type 1} → statement M
 taking_read_spec = tie.close (tie.spec returns returns-2 returns-3 returns-4)

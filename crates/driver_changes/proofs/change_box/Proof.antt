@@ -12,70 +12,70 @@ use Rattle.driver_changes.proofs.change_box.Statement.{statement}
 use Rattle.driver_changes.proofs.change_box.Tie as tie
 
 -- the new nanoErgs, of the numbers themselves
-nanos_are : (a : tie.After_change_nanos) → let s = a.before.before.before.before in
+nanos_are : (a : tie.After-change_nanos) → let s = a.before.before.before.before in
     a.change_nanos.result ≡ nanos_after s.args.adding s.args.balance.nanos s.args.nanos
 nanos_are a =
     let s = a.before.before.before.before in
     let h : SFits w64 s.args.balance.nanos = search rules in
     a.change_nanos.ensures ∙ simp (back w64 s.args.balance.nanos h, back w64 s.args.nanos s.ranges.nanos)
 
-returns : tie.Need-returns
+returns : tie.Need-returns-then-held-gt-TOKEN_LIMIT
 returns c =
     let s = c.before.before in
     let a = s.args in
-    bytes_25 a.adding a.balance a.nanos a.s.now a.i a.a a.n s.requires.0 c.if1.true
+    bytes_25 a.adding a.balance a.nanos a.s.now a.i a.a a.n s.requires.0 c.if-held-gt-TOKEN_LIMIT.true
 
-change_nanos_requires : tie.Need-change-nanos-requires
+change_nanos_requires : tie.Need-change_nanos-requires
 change_nanos_requires c κs = search rules
 
-enum_known_sum : tie.Need-enum-known-sum
+enum_known_sum : tie.Need-enum_known-sum
 enum_known_sum c = search rules
 
-slice_aggregate_change_tokens : tie.Need-slice-aggregate-change-tokens
+slice_aggregate_change_tokens : tie.Need-slice_bounds-change_tokens-end
 slice_aggregate_change_tokens c = search rules
 
-slice_aggregate_change_tokens_2 : tie.Need-slice-aggregate-change-tokens-2
+slice_aggregate_change_tokens_2 : tie.Need-slice_bounds-change_tokens-end-in-Is
 slice_aggregate_change_tokens_2 c = search rules
 
-change_tokens_requires : tie.Need-change-tokens-requires
+change_tokens_requires : tie.Need-change_tokens-requires
 change_tokens_requires c κs = search rules
 
-enum_known_m : tie.Need-enum-known-m
+enum_known_m : tie.Need-enum_known-m
 enum_known_m c = search rules
 
-enum_known_code : tie.Need-enum-known-code
+enum_known_code : tie.Need-enum_known-code
 enum_known_code c = search rules
 
-enum_told : tie.Need-enum-told
+enum_told : tie.Need-enum_told-1
 enum_told c = search rules
 
-returns-2 : tie.Need-returns-2
+returns-2 : tie.Need-returns-in-Count
 returns-2 c =
-    let k = c.before.before.before.before.before.before.before.before.before.before.before.before.before in
-    let s = c.before.before.before.before.before.before.before.before.before.before.before.before.before.before.before.before.before in
+    let k = c.before.before.before.before.before.before.before.before.before in
+    let s = c.before.before.before.before.before.before.before.before.before.before.before.before.before in
     let a = s.args in
-    let v = c.before.before.before.before.before.before.before.before.before.before.before.sum.given.0.0 in
-    let q = sym c.before.before.before.before.before.before.before.before.before.before.before.sum.given.1 ∙ nanos_are k in
-    let d = rw c.before.m.given.1 at c.before.before.before.before.before.change_tokens.ensures in
-    let few = c.before.before.before.before.before.before.before.before.before.before.before.before.before.before.before.if1.false in
+    let v = c.before.before.before.before.before.before.before.before.in-Is.sum in
+    let q = sym c.before.before.before.before.before.before.before.before.in-Is.is ∙ nanos_are k in
+    let d = rw c.in-Count.is at c.before.before.before.change_tokens.ensures in
+    let few = c.before.before.before.before.before.before.before.before.before.before.before.if-held-gt-TOKEN_LIMIT.false in
     rw (back64 v (nanos_fit a.adding a.balance.nanos a.nanos v q)) (bytes_on a.adding a.balance a.nanos a.s.now a.i a.a a.n s.requires.0 (omega (arith, few)) v q _ d)
 
-returns-3 : tie.Need-returns-3
+returns-3 : tie.Need-returns-in-Refused
 returns-3 c =
-    let k = c.before.before.before.before.before.before.before.before.before.before.before.before.before in
-    let s = c.before.before.before.before.before.before.before.before.before.before.before.before.before.before.before.before.before in
+    let k = c.before.before.before.before.before.before.before.before.before in
+    let s = c.before.before.before.before.before.before.before.before.before.before.before.before.before in
     let a = s.args in
-    let v = c.before.before.before.before.before.before.before.before.before.before.before.sum.given.0.0 in
-    let q = sym c.before.before.before.before.before.before.before.before.before.before.before.sum.given.1 ∙ nanos_are k in
-    let d = rw c.before.code.given.1 at c.before.before.before.before.before.change_tokens.ensures in
-    let few = c.before.before.before.before.before.before.before.before.before.before.before.before.before.before.before.if1.false in
+    let v = c.before.before.before.before.before.before.before.before.in-Is.sum in
+    let q = sym c.before.before.before.before.before.before.before.before.in-Is.is ∙ nanos_are k in
+    let d = rw c.in-Refused.is at c.before.before.before.change_tokens.ensures in
+    let few = c.before.before.before.before.before.before.before.before.before.before.before.if-held-gt-TOKEN_LIMIT.false in
     bytes_on a.adding a.balance a.nanos a.s.now a.i a.a a.n s.requires.0 (omega (arith, few)) v q _ d
 
-returns-4 : tie.Need-returns-4
+returns-4 : tie.Need-returns-in-Out
 returns-4 c =
-    let s = c.before.before.before.before.before.before in
+    let s = c.before.before.before.before.before in
     let a = s.args in
-    bytes_23 a.adding a.balance a.nanos a.s.now a.i a.a a.n s.requires.0 (omega (arith, c.before.before.before.before.if1.false)) (sym c.enum_told.given.1 ∙ nanos_are c.before.before)
+    bytes_23 a.adding a.balance a.nanos a.s.now a.i a.a a.n s.requires.0 (omega (arith, c.before.before.before.if-held-gt-TOKEN_LIMIT.false)) (sym c.in-Out.is ∙ nanos_are c.before)
 
 pub change_box_spec : {M : Type 1} → statement M
 change_box_spec =

@@ -11,43 +11,43 @@ use borrow.Author.Rules.{rules}
 use Rattle.driver_changes.proofs.change_few.Statement.{statement}
 use Rattle.driver_changes.proofs.change_few.Tie as tie
 
-mul_e : tie.Need-overflow-mul-e
+mul_e : tie.Need-overflow_mul-e
 mul_e c = search rules
 
-add_e : tie.Need-overflow-add-e
+add_e : tie.Need-overflow_add-e
 add_e c = search rules
 
-slice_aggregate_read_amounts : tie.Need-slice-aggregate-read-amounts
+slice_aggregate_read_amounts : tie.Need-slice_bounds-read_amounts-end
 slice_aggregate_read_amounts c = search rules
 
-read_amounts_requires : tie.Need-read-amounts-requires
+read_amounts_requires : tie.Need-read_amounts-requires
 read_amounts_requires c κs = search rules
 
-sub_change_box : tie.Need-overflow-sub-change-box
+sub_change_box : tie.Need-slice_bounds-change_box-count
 sub_change_box c = search rules
 
-part_change_box_start : tie.Need-slice-bounds-change-box-start
+part_change_box_start : tie.Need-slice_bounds-change_box-start
 part_change_box_start c = search rules
 
-part_change_box_end : tie.Need-slice-bounds-change-box-end
+part_change_box_end : tie.Need-slice_bounds-change_box-end
 part_change_box_end c = search rules
 
-array_share_prefix_amounts : tie.Need-array-share-prefix-amounts
+array_share_prefix_amounts : tie.Need-slice_bounds-amounts-end
 array_share_prefix_amounts c = search rules
 
-slice_aggregate_change_box : tie.Need-slice-aggregate-change-box
+slice_aggregate_change_box : tie.Need-slice_bounds-change_box-end-2
 slice_aggregate_change_box c = simp length-take (omega (arith, c.before.before.before.read_amounts.auto, c.before.before.before.before.before.before.before.before.requires.1, length-replicate {A = ℤ} 128 (pos 0)))
 
-change_box_requires : tie.Need-change-box-requires
+change_box_requires : tie.Need-change_box-requires
 change_box_requires c κs = search rules
 
-same_length : tie.Need-same-length
+same_length : tie.Need-shape_of-ids
 same_length c = search rules
 
-same_length_2 : tie.Need-same-length-2
+same_length_2 : tie.Need-shape_of-numbers
 same_length_2 c = search rules
 
-same_length_3 : tie.Need-same-length-3
+same_length_3 : tie.Need-shape_of-lengths
 same_length_3 c = search rules
 
 returns : tie.Need-returns

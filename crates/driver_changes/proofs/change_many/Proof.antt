@@ -9,39 +9,39 @@ use Rattle.driver_changes.proofs.TokenLaws.{change_tokens_law}
 use Rattle.driver_changes.proofs.change_many.Statement.{statement}
 use Rattle.driver_changes.proofs.change_many.Tie as tie
 
-read_balance_requires : tie.Need-read-balance-requires
+read_balance_requires : tie.Need-read_balance-held-requires
 read_balance_requires c κs = search rules
 
-mul_change_box : tie.Need-overflow-mul-change-box
+mul_change_box : tie.Need-overflow_mul-n
 mul_change_box c = search rules
 
-add_change_box : tie.Need-overflow-add-change-box
+add_change_box : tie.Need-overflow_add-t
 add_change_box c = search rules
 
-change_box_requires : tie.Need-change-box-requires
+change_box_requires : tie.Need-change_box-o-requires
 change_box_requires c κs = search rules
 
-write_balance_requires : tie.Need-write-balance-requires
+write_balance_requires : tie.Need-write_balance-requires
 write_balance_requires c κs = search rules
 
-said_by_requires : tie.Need-said-by-requires
+said_by_requires : tie.Need-said_by-requires
 said_by_requires c κs = search rules
 
-same_length : tie.Need-same-length
+same_length : tie.Need-shape_of-ids
 same_length c = search rules
 
-same_length_2 : tie.Need-same-length-2
+same_length_2 : tie.Need-shape_of-numbers
 same_length_2 c = search rules
 
-same_length_3 : tie.Need-same-length-3
+same_length_3 : tie.Need-shape_of-lengths
 same_length_3 c = search rules
 
 returns : tie.Need-returns
 returns c =
-    let s = c.before.before.before.before.before.before.before.before.before.before.before.before.before.before.before.before.before.before.before in
+    let s = c.before.before.before.before.before.before.before.before.before.before.before.before.before.before.before.before in
     let a = s.args in
-    change_tokens_law a.adding a.p a.nanos _ (tokens_at a.s.now a.t (a.t + a.n * 32) a.n) a.ids.now a.numbers.now a.lengths.now _ _ _ _ _ _ c.before.before.before.before.before.before.before.before.before.before.before.before.read_balance.ensures
-    (back w64 a.nanos s.ranges.nanos) c.before.before.before.before.before.before.before.before.before.before.before.change_box.ensures c.before.before.before.before.before.before.write_balance.ensures c.said_by.ensures
+    change_tokens_law a.adding a.p a.nanos _ (tokens_at a.s.now a.t (a.t + a.n * 32) a.n) a.ids.now a.numbers.now a.lengths.now _ _ _ _ _ _ c.before.before.before.before.before.before.before.before.before.before.before.before.read_balance-held.ensures
+    (back w64 a.nanos s.ranges.nanos) c.before.before.before.before.before.before.before.before.before.before.before.change_box-o.ensures c.before.before.before.before.before.before.write_balance.ensures c.said_by.ensures
 
 pub change_many_spec : {M : Type 1} → statement M
 change_many_spec =

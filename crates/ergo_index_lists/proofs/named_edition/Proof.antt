@@ -3,11 +3,11 @@ use mathlib.Core.Path.{refl}
 use Rattle.ergo_index_lists.proofs.named_edition.Statement.{statement}
 use Rattle.ergo_index_lists.proofs.named_edition.Tie as tie
 
-returns : tie.Need-returns
-returns c = rw c.if1.true refl
+returns : tie.Need-returns-then-second
+returns c = rw c.if-second.true refl
 
-returns-2 : tie.Need-returns-2
-returns-2 c = rw c.if1.false refl
+returns-2 : tie.Need-returns-else-second
+returns-2 c = rw c.if-second.false refl
 
 pub named_edition_spec : {M : Type 1} → statement M
 named_edition_spec = tie.close (tie.spec returns returns-2)

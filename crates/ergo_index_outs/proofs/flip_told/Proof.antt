@@ -4,17 +4,17 @@ use borrow.Author.Rules.{rules}
 use Rattle.ergo_index_outs.proofs.flip_told.Statement.{statement}
 use Rattle.ergo_index_outs.proofs.flip_told.Tie as tie
 
-enum_known_flipped : tie.Need-enum-known-flipped
+enum_known_flipped : tie.Need-enum_known-flipped
 enum_known_flipped c = search rules
 
-enum_known_flipped_2 : tie.Need-enum-known-flipped-2
+enum_known_flipped_2 : tie.Need-enum_known-flipped-in-Refused-1
 enum_known_flipped_2 c = search rules
 
-returns : tie.Need-returns
-returns c head staged = flip_done _ c.before.before.before.args.staged_count.now head staged _ c.before.flipped.given.1
+returns : tie.Need-returns-in-Done
+returns c head staged = flip_done _ c.before.args.staged_count.now head staged _ c.in-Done.is
 
-returns-2 : tie.Need-returns-2
-returns-2 c head staged = flip_refused _ c.before.before.before.args.staged_count.now head staged _ c.before.flipped2.given.1
+returns-2 : tie.Need-returns-in-Refused
+returns-2 c head staged = flip_refused _ c.before.args.staged_count.now head staged _ c.in-Refused.is
 
 pub flip_told_spec : {M : Type 1} → statement M
 flip_told_spec = tie.close (tie.spec enum_known_flipped enum_known_flipped_2 returns returns-2)

@@ -10,62 +10,62 @@ use borrow.Author.Rules.{rules}
 use Rattle.flat_list.proofs.flip.Statement.{statement}
 use Rattle.flat_list.proofs.flip.Tie as tie
 
-magnitude_requires : tie.Need-magnitude-requires
+magnitude_requires : tie.Need-magnitude-size-requires
 magnitude_requires c κs = search rules
 
-flat_ok_requires : tie.Need-flat-ok-requires
+flat_ok_requires : tie.Need-flat_ok-requires
 flat_ok_requires c κs = search rules
 
-same_length : tie.Need-same-length
+same_length : tie.Need-shape_of-list-then-not-flat_ok
 same_length c = search rules
 
-returns : tie.Need-returns
+returns : tie.Need-returns-then-not-flat_ok
 returns c =
+    let a = c.before.before.before.args in
+    let n = a.count in
+    let l = a.list.now in
+    flip_25 n l a.spend a.target (sym c.before.flat_ok.ensures ∙ c.if-not-flat_ok.true)
+
+same_length_2 : tie.Need-shape_of-list-then-size-ge9223372036854775808
+same_length_2 c = search rules
+
+returns-2 : tie.Need-returns-then-size-ge9223372036854775808
+returns-2 c =
     let a = c.before.before.before.before.args in
     let n = a.count in
     let l = a.list.now in
-    flip_25 n l a.spend a.target (sym c.before.flat_ok.ensures ∙ not-true _ c.if1.true)
+    flip_9 n l a.spend a.target (sym c.before.before.flat_ok.ensures ∙ c.before.if-not-flat_ok.false) _ (c.before.before.before.magnitude-size.ensures ∙ ap nat_abs (back w64 a.target (search rules))) c.if-size-ge9223372036854775808.true
 
-same_length_2 : tie.Need-same-length-2
-same_length_2 c = search rules
-
-returns-2 : tie.Need-returns-2
-returns-2 c =
-    let a = c.before.before.before.before.before.args in
-    let n = a.count in
-    let l = a.list.now in
-    flip_9 n l a.spend a.target (sym c.before.before.flat_ok.ensures ∙ not-false _ c.before.if1.false) _ (c.before.before.before.before.magnitude.ensures ∙ ap nat_abs (back w64 a.target (search rules))) c.if2.true
-
-order_ok_requires : tie.Need-order-ok-requires
+order_ok_requires : tie.Need-order_ok-requires
 order_ok_requires c κs =
-    let a = c.before.before.before.before.before.before.args in
-    omega (arith, bounds a.count a.list.now (sym c.before.before.before.flat_ok.ensures ∙ not-false _ c.before.before.if1.false))
+    let a = c.before.before.before.before.args in
+    omega (arith, bounds a.count a.list.now (sym c.before.before.flat_ok.ensures ∙ c.before.if-not-flat_ok.false))
 
-same_length_3 : tie.Need-same-length-3
+same_length_3 : tie.Need-shape_of-list-then-not-order_ok
 same_length_3 c = search rules
 
-returns-3 : tie.Need-returns-3
+returns-3 : tie.Need-returns-then-not-order_ok
 returns-3 c =
-    let a = c.before.before.before.before.before.before.before.before.args in
+    let a = c.before.before.before.before.before.before.args in
     let n = a.count in
     let l = a.list.now in
-    flip_10 n l a.spend a.target (sym c.before.before.before.before.before.flat_ok.ensures ∙ not-false _ c.before.before.before.before.if1.false) _ (c.before.before.before.before.before.before.before.magnitude.ensures ∙ ap nat_abs (back w64 a.target (search rules))) c.before.before.before.if2.false (sym c.before.order_ok.ensures ∙ not-true _ c.if3.true)
+    flip_10 n l a.spend a.target (sym c.before.before.before.before.flat_ok.ensures ∙ c.before.before.before.if-not-flat_ok.false) _ (c.before.before.before.before.before.magnitude-size.ensures ∙ ap nat_abs (back w64 a.target (search rules))) c.before.before.if-size-ge9223372036854775808.false (sym c.before.order_ok.ensures ∙ c.if-not-order_ok.true)
 
-flip_target_requires : tie.Need-flip-target-requires
+flip_target_requires : tie.Need-flip_target-requires
 flip_target_requires c κs =
-    let a = c.before.before.before.before.before.before.before.before.before.args in
-    let b = bounds a.count a.list.now (sym c.before.before.before.before.before.before.flat_ok.ensures ∙ not-false _ c.before.before.before.before.before.if1.false) in
-    (omega (arith, b.0, b.1), sym c.before.before.order_ok.ensures ∙ not-false _ c.before.if3.false, c.before.before.before.before.if2.false)
+    let a = c.before.before.before.before.before.before.before.args in
+    let b = bounds a.count a.list.now (sym c.before.before.before.before.before.flat_ok.ensures ∙ c.before.before.before.before.if-not-flat_ok.false) in
+    (omega (arith, b.0, b.1), sym c.before.before.order_ok.ensures ∙ c.before.if-not-order_ok.false, c.before.before.before.if-size-ge9223372036854775808.false)
 
-same_length_4 : tie.Need-same-length-4
+same_length_4 : tie.Need-shape_of-list
 same_length_4 c = search rules
 
-returns-4 : tie.Need-returns-4
+returns-4 : tie.Need-returns
 returns-4 c =
-    let a = c.before.before.before.before.before.before.before.before.before.before.before.args in
+    let a = c.before.before.before.before.before.before.before.before.before.args in
     let n = a.count in
     let l = a.list.now in
-    flip_on n l a.spend a.target (sym c.before.before.before.before.before.before.before.before.flat_ok.ensures ∙ not-false _ c.before.before.before.before.before.before.before.if1.false) _ (c.before.before.before.before.before.before.before.before.before.before.magnitude.ensures ∙ ap nat_abs (back w64 a.target (search rules))) c.before.before.before.before.before.before.if2.false (sym c.before.before.before.before.order_ok.ensures ∙ not-false _ c.before.before.before.if3.false) _ c.before.flip_target.ensures
+    flip_on n l a.spend a.target (sym c.before.before.before.before.before.before.before.flat_ok.ensures ∙ c.before.before.before.before.before.before.if-not-flat_ok.false) _ (c.before.before.before.before.before.before.before.before.magnitude-size.ensures ∙ ap nat_abs (back w64 a.target (search rules))) c.before.before.before.before.before.if-size-ge9223372036854775808.false (sym c.before.before.before.before.order_ok.ensures ∙ c.before.before.before.if-not-order_ok.false) _ c.before.flip_target.ensures
 
 pub flip_spec : {M : Type 1} → statement M
 flip_spec =

@@ -8,47 +8,47 @@ use borrow.Author.Rules.{rules}
 use Rattle.flat_list.proofs.pop_box.Statement.{statement}
 use Rattle.flat_list.proofs.pop_box.Tie as tie
 
-flat_ok_requires : tie.Need-flat-ok-requires
+flat_ok_requires : tie.Need-flat_ok-requires
 flat_ok_requires c κs = search rules
 
-same_length : tie.Need-same-length
+same_length : tie.Need-shape_of-list-then-not-flat_ok
 same_length c = search rules
 
-returns : tie.Need-returns
+returns : tie.Need-returns-then-not-flat_ok
 returns c =
+    let a = c.before.before.args in
+    let n = a.count in
+    let l = a.list.now in
+    pop_25 n l (sym c.before.flat_ok.ensures ∙ c.if-not-flat_ok.true)
+
+same_length_2 : tie.Need-shape_of-list-then-count-eq0
+same_length_2 c = search rules
+
+returns-2 : tie.Need-returns-then-count-eq0
+returns-2 c =
     let a = c.before.before.before.args in
     let n = a.count in
     let l = a.list.now in
-    pop_25 n l (sym c.before.flat_ok.ensures ∙ not-true _ c.if1.true)
+    pop_19 n l (sym c.before.before.flat_ok.ensures ∙ c.before.if-not-flat_ok.false) c.if-count-eq0.true
 
-same_length_2 : tie.Need-same-length-2
-same_length_2 c = search rules
-
-returns-2 : tie.Need-returns-2
-returns-2 c =
-    let a = c.before.before.before.before.args in
-    let n = a.count in
-    let l = a.list.now in
-    pop_19 n l (sym c.before.before.flat_ok.ensures ∙ not-false _ c.before.if1.false) c.if2.true
-
-take_last_requires : tie.Need-take-last-requires
+take_last_requires : tie.Need-take_last-last-requires
 take_last_requires c κs =
-    let a = c.before.before.before.before.before.args in
-    let b = bounds a.count a.list.now (sym c.before.before.before.flat_ok.ensures ∙ not-false _ c.before.before.if1.false) in
-    (omega (arith, c.before.if2.false), omega (arith, b.0, b.1))
+    let a = c.before.before.before.before.args in
+    let b = bounds a.count a.list.now (sym c.before.before.before.flat_ok.ensures ∙ c.before.before.if-not-flat_ok.false) in
+    (omega (arith, c.before.if-count-eq0.false), omega (arith, b.0, b.1))
 
-sub_t11 : tie.Need-overflow-sub-t11
+sub_t11 : tie.Need-overflow_sub-result
 sub_t11 c = search rules
 
-same_length_3 : tie.Need-same-length-3
+same_length_3 : tie.Need-shape_of-list
 same_length_3 c = search rules
 
-returns-3 : tie.Need-returns-3
+returns-3 : tie.Need-returns
 returns-3 c =
-    let a = c.before.before.before.before.before.before.before.args in
+    let a = c.before.before.before.before.before.before.args in
     let n = a.count in
     let l = a.list.now in
-    pop_last n l (sym c.before.before.before.before.before.flat_ok.ensures ∙ not-false _ c.before.before.before.before.if1.false) c.before.before.before.if2.false _ _ (back64 c.before.take_last.result c.before.take_last.type_inv ∙ c.before.take_last.ensures.0) c.before.take_last.ensures.1
+    pop_last n l (sym c.before.before.before.before.before.flat_ok.ensures ∙ c.before.before.before.before.if-not-flat_ok.false) c.before.before.before.if-count-eq0.false _ _ (back64 c.before.take_last-last.result c.before.take_last-last.type_inv ∙ c.before.take_last-last.ensures.0) c.before.take_last-last.ensures.1
 
 pub pop_box_spec : {M : Type 1} → statement M
 pop_box_spec =

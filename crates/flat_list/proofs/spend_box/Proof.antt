@@ -8,7 +8,7 @@ use Rattle.flat_list.proofs.spend_box.Tie as tie
 flip_requires : tie.Need-flip-requires
 flip_requires c κs = search rules
 
-same_length : tie.Need-same-length
+same_length : tie.Need-shape_of-list
 same_length c = search rules
 
 returns : tie.Need-returns

@@ -10,7 +10,7 @@ use borrow.Fn.Kinds.{In}
 use borrow.Fn.PlainCycle.{Measures, is, falls, and}
 use Rattle.history_steps.proofs.count.Reads as count
 use Rattle.history_steps.proofs.count.Kinds as count_kinds
-use Rattle.history_steps.proofs.+count.Lts_count as count_lts
+use Rattle.history_steps.proofs.+count.Lts-count as count_lts
 use Rattle.history_steps.proofs.number.Reads as number_reads
 use Rattle.history_steps.proofs.without_newest.Reads as without_newest_reads
 use Rattle.history_steps.proofs.+count.{statement}
@@ -25,7 +25,7 @@ count_at t = and 0 count_kinds.ps (is 0 count_kinds.ps μ_count t) count.Pre
 abbrev count_below : ℕ → In 0 count_kinds.ps
 count_below t = and 0 count_kinds.ps (falls 0 count_kinds.ps ◌<◌ μ_count t) count.Pre
 
-count_returns : (t : ℕ) → count_lts.Need-returns (
+count_returns : (t : ℕ) → count_lts.Need-returns-then-len-eq0 (
   without_newest_reads.Asked,
   without_newest_reads.Learnt,
   count_below t,
@@ -33,9 +33,9 @@ count_returns : (t : ℕ) → count_lts.Need-returns (
   number_reads.Asked,
   number_reads.Learnt,
 ) (count_at t) count.Post
-count_returns t c = counted_none c.before.args.k c.before.args.l c.if1.true
+count_returns t c = counted_none c.before.args.k c.before.args.l c.if-len-eq0.true
 
-count_without_newest_requires : (t : ℕ) → count_lts.Need-without-newest-requires (
+count_without_newest_requires : (t : ℕ) → count_lts.Need-without_newest-requires (
   without_newest_reads.Asked,
   without_newest_reads.Learnt,
   count_below t,
@@ -45,7 +45,7 @@ count_without_newest_requires : (t : ℕ) → count_lts.Need-without-newest-requ
 ) (count_at t) count.Post
 count_without_newest_requires t c κs = c.before.requires.1
 
-count_count_requires : (t : ℕ) → count_lts.Need-count-requires (
+count_count_requires : (t : ℕ) → count_lts.Need-count-rest-requires (
   without_newest_reads.Asked,
   without_newest_reads.Learnt,
   count_below t,
@@ -56,7 +56,7 @@ count_count_requires : (t : ℕ) → count_lts.Need-count-requires (
 count_count_requires t c κs =
     let s = c.before.before in
     let r = c.without_newest.ensures.1 in
-    (omega (arith, r, s.requires.0, s.requires.1, c.before.if1.false), omega (arith, r, s.requires.1))
+    (omega (arith, r, s.requires.0, s.requires.1, c.before.if-len-eq0.false), omega (arith, r, s.requires.1))
 
 count_number_requires : (t : ℕ) → count_lts.Need-number-requires (
   without_newest_reads.Asked,
@@ -78,7 +78,7 @@ count_number_requires_2 : (t : ℕ) → count_lts.Need-number-requires-2 (
 ) (count_at t) count.Post
 count_number_requires_2 t c κs = search rules
 
-count_add_result : (t : ℕ) → count_lts.Need-overflow-add-result (
+count_add_result : (t : ℕ) → count_lts.Need-overflow_add-result (
   without_newest_reads.Asked,
   without_newest_reads.Learnt,
   count_below t,
@@ -89,9 +89,9 @@ count_add_result : (t : ℕ) → count_lts.Need-overflow-add-result (
 count_add_result t c =
     let s = c.before.before.before.before.before.before in
     let r = c.before.before.before.before.without_newest in
-    omega (arith, c.before.before.before.count.ensures, most_counted s.args.k (ranks_in r.result), length_ranks r.result, r.ensures.1, s.requires.1)
+    omega (arith, c.before.before.before.count-rest.ensures, most_counted s.args.k (ranks_in r.result), length_ranks r.result, r.ensures.1, s.requires.1)
 
-count_returns_2 : (t : ℕ) → count_lts.Need-returns-2 (
+count_returns_2 : (t : ℕ) → count_lts.Need-returns-then-number (
   without_newest_reads.Asked,
   without_newest_reads.Learnt,
   count_below t,
@@ -102,11 +102,11 @@ count_returns_2 : (t : ℕ) → count_lts.Need-returns-2 (
 count_returns_2 t c =
     let s = c.before.before.before.before.before.before in
     let r = c.before.before.before.before.without_newest in
-    counted_same s.args.k s.args.l (omega (arith, c.before.before.before.before.before.if1.false)) s.requires.1 _
-    (c.before.before.before.count.ensures ∙ ap (legal.count s.args.k) r.ensures.0)
-    (sym c.before.before.number.ensures ∙ c.if2.true ∙ c.before.number2.ensures)
+    counted_same s.args.k s.args.l (omega (arith, c.before.before.before.before.before.if-len-eq0.false)) s.requires.1 _
+    (c.before.before.before.count-rest.ensures ∙ ap (legal.count s.args.k) r.ensures.0)
+    (sym c.before.before.number.ensures ∙ c.if-number.true ∙ c.before.number-2.ensures)
 
-count_returns_3 : (t : ℕ) → count_lts.Need-returns-3 (
+count_returns_3 : (t : ℕ) → count_lts.Need-returns (
   without_newest_reads.Asked,
   without_newest_reads.Learnt,
   count_below t,
@@ -117,9 +117,9 @@ count_returns_3 : (t : ℕ) → count_lts.Need-returns-3 (
 count_returns_3 t c =
     let s = c.before.before.before.before.before.before in
     let r = c.before.before.before.before.without_newest in
-    counted_other s.args.k s.args.l (omega (arith, c.before.before.before.before.before.if1.false)) s.requires.1 _
-    (c.before.before.before.count.ensures ∙ ap (legal.count s.args.k) r.ensures.0)
-    (λ q. c.if2.false (c.before.before.number.ensures ∙ q ∙ sym c.before.number2.ensures))
+    counted_other s.args.k s.args.l (omega (arith, c.before.before.before.before.before.if-len-eq0.false)) s.requires.1 _
+    (c.before.before.before.count-rest.ensures ∙ ap (legal.count s.args.k) r.ensures.0)
+    (λ q. c.if-number.false (c.before.before.number.ensures ∙ q ∙ sym c.before.number-2.ensures))
 
 pub +count_spec : {M : Type 1} → statement M
 +count_spec = close μ_count λ t. count_lts.spec (

@@ -10,23 +10,23 @@ use Rattle.history_steps.proofs.ListLaws.{last_rank}
 use Rattle.history_steps.proofs.rank_at.Statement.{statement}
 use Rattle.history_steps.proofs.rank_at.Tie as tie
 
-returns : tie.Need-returns
-returns c = sym (ap (λ (i : ℕ). get_or ranks i Flush) c.match.keys1)
+returns : tie.Need-returns-in-0
+returns c = sym (ap (λ (i : ℕ). get_or ranks i Flush) c.in-0.is)
 
-returns-2 : tie.Need-returns-2
+returns-2 : tie.Need-returns-in-1
 returns-2 c = search rules
 
-returns-3 : tie.Need-returns-3
+returns-3 : tie.Need-returns-in-2
 returns-3 c = search rules
 
-returns-4 : tie.Need-returns-4
+returns-4 : tie.Need-returns-in-3
 returns-4 c = search rules
 
-returns-5 : tie.Need-returns-5
+returns-5 : tie.Need-returns-in-4
 returns-5 c = search rules
 
-returns-6 : tie.Need-returns-6
-returns-6 c = last_rank c.before.args.i (omega (arith, c.match.rest))
+returns-6 : tie.Need-returns-in_default
+returns-6 c = last_rank c.before.args.i (omega (arith, c.in_default.in_default-own.rest))
 
 pub rank_at_spec : {M : Type 1} → statement M
 rank_at_spec = tie.close (tie.spec returns returns-2 returns-3 returns-4 returns-5 returns-6)

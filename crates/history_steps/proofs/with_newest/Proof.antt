@@ -5,7 +5,7 @@ use Rattle.history_steps.proofs.ListLaws.{one_more}
 use Rattle.history_steps.proofs.with_newest.Statement.{statement}
 use Rattle.history_steps.proofs.with_newest.Tie as tie
 
-add_t8 : tie.Need-overflow-add-t8
+add_t8 : tie.Need-overflow_add-result
 add_t8 c = search rules
 
 returns : tie.Need-returns

@@ -8,13 +8,13 @@ use Rattle.history_steps.proofs.ListLaws.{one_less}
 use Rattle.history_steps.proofs.without_newest.Statement.{statement}
 use Rattle.history_steps.proofs.without_newest.Tie as tie
 
-returns : tie.Need-returns
+returns : tie.Need-returns-then-len-eq0
 returns c = search rules
 
-sub_t8 : tie.Need-overflow-sub-t8
+sub_t8 : tie.Need-overflow_sub-result
 sub_t8 c = search rules
 
-returns-2 : tie.Need-returns-2
+returns-2 : tie.Need-returns
 returns-2 c =
     let s = c.before in
     let l = s.args.l in

@@ -8,17 +8,17 @@ use Rattle.line_parts.specs.Parts.{spaced}
 use Rattle.parent_lines.proofs.put_parent.Statement.{statement}
 use Rattle.parent_lines.proofs.put_parent.Tie as tie
 
-slice_write_out : tie.Need-slice-write-out
+slice_write_out : tie.Need-bounds-out-at
 slice_write_out c = search rules
 
-add_put_spaced : tie.Need-overflow-add-put-spaced
+add_put_spaced : tie.Need-overflow_add-at
 add_put_spaced c = search rules
 
-put_spaced_requires : tie.Need-put-spaced-requires
+put_spaced_requires : tie.Need-put_spaced-requires
 put_spaced_requires c κs = rw length-set (omega arith)
 
-same_length : tie.Need-same-length
-same_length c = c.before.before.put_spaced.auto.1.0 ∙ simp length-set
+same_length : tie.Need-shape_of-out
+same_length c = c.before.before.put_spaced.auto.out ∙ simp length-set
 
 returns : tie.Need-returns
 returns c =

@@ -3,7 +3,7 @@ use borrow.Author.Rules.{rules}
 use Rattle.run_checks.proofs.lists_ok.Statement.{statement}
 use Rattle.run_checks.proofs.lists_ok.Tie as tie
 
-lists_ok_requires : tie.Need-lists-ok-requires
+lists_ok_requires : tie.Need-lists_ok-requires
 lists_ok_requires c κs = search rules
 
 returns : tie.Need-returns

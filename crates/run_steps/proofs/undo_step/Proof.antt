@@ -11,161 +11,159 @@ use Rattle.run_steps.proofs.StepLaws.{flip_returns, pop_returns, flush_returns}
 use Rattle.run_steps.proofs.undo_step.Statement.{statement}
 use Rattle.run_steps.proofs.undo_step.Tie as tie
 
-enum_told : tie.Need-enum-told
+enum_told : tie.Need-enum_told-1
 enum_told c = search rules
 
-no_call_requires : tie.Need-no-call-requires
+no_call_requires : tie.Need-no_call-requires
 no_call_requires c κs = search rules
 
-enum_known_call : tie.Need-enum-known-call
+enum_known_call : tie.Need-enum_known-call
 enum_known_call c = search rules
 
-flip_step_requires : tie.Need-flip-step-requires
+flip_step_requires : tie.Need-flip_step-requires
 flip_step_requires c κs =
-    let s = c.before.before.before.before.before.before.before.before.before.before.before.before.before.before.before.before in
+    let s = c.before.before.before.before.before.before.before.before.before in
     let a = s.args in
-    subst (λ (x : Call). StepReady x (state a.ids.now a.numbers.now a.lengths.now a.spills.now (lists_with a.counts a.staged.now a.table.now a.deleted.now))) c.before.before.before.before.before.before.before.before.call.given.1 s.requires.0
+    subst (λ (x : Call). StepReady x (state a.ids.now a.numbers.now a.lengths.now a.spills.now (lists_with a.counts a.staged.now a.table.now a.deleted.now))) c.before.before.in-Flip.is s.requires.0
 
-enum_known_call_2 : tie.Need-enum-known-call-2
+enum_known_call_2 : tie.Need-enum_known-call-in-Pop-1
 enum_known_call_2 c = search rules
 
-pop_step_requires : tie.Need-pop-step-requires
+pop_step_requires : tie.Need-pop_step-requires
 pop_step_requires c κs =
-    let s = c.before.before.before.before.before.before.before.before.before.before.before.before.before.before.before.before in
-    let a = s.args in
-    subst (λ (x : Call). StepReady x (state a.ids.now a.numbers.now a.lengths.now a.spills.now (lists_with a.counts a.staged.now a.table.now a.deleted.now))) c.before.before.before.before.before.before.before.before.call2.given.1 s.requires.0
-
-enum_told_2 : tie.Need-enum-told-2
-enum_told_2 c = search rules
-
-flush_step_requires : tie.Need-flush-step-requires
-flush_step_requires c κs =
     let s = c.before.before.before.before.before.before.before.before.before.before.before.before in
     let a = s.args in
-    subst (λ (x : Call). StepReady x (state a.ids.now a.numbers.now a.lengths.now a.spills.now (lists_with a.counts a.staged.now a.table.now a.deleted.now))) c.before.before.before.before.enum_told2.given.1 s.requires.0
+    subst (λ (x : Call). StepReady x (state a.ids.now a.numbers.now a.lengths.now a.spills.now (lists_with a.counts a.staged.now a.table.now a.deleted.now))) c.before.before.before.before.before.in-Pop.is s.requires.0
 
-enum_told_3 : tie.Need-enum-told-3
+enum_told_2 : tie.Need-enum_told-in-Flush
+enum_told_2 c = search rules
+
+flush_step_requires : tie.Need-flush_step-requires
+flush_step_requires c κs =
+    let s = c.before.before.before.before.before.before.before.before.before.before.before in
+    let a = s.args in
+    subst (λ (x : Call). StepReady x (state a.ids.now a.numbers.now a.lengths.now a.spills.now (lists_with a.counts a.staged.now a.table.now a.deleted.now))) c.before.before.before.before.in-Flush.is s.requires.0
+
+enum_told_3 : tie.Need-enum_told-in-Change
 enum_told_3 c = search rules
 
-no_call_requires_2 : tie.Need-no-call-requires-2
+no_call_requires_2 : tie.Need-no_call-requires-in-Change
 no_call_requires_2 c κs = search rules
 
-enum_told_4 : tie.Need-enum-told-4
+enum_told_4 : tie.Need-enum_told-in-Bad
 enum_told_4 c = search rules
 
-no_call_requires_3 : tie.Need-no-call-requires-3
+no_call_requires_3 : tie.Need-no_call-requires-in-Bad
 no_call_requires_3 c κs = search rules
 
-enum_told_5 : tie.Need-enum-told-5
+enum_told_5 : tie.Need-enum_told-in-Cut
 enum_told_5 c = search rules
 
-no_call_requires_4 : tie.Need-no-call-requires-4
+no_call_requires_4 : tie.Need-no_call-requires-in-Cut
 no_call_requires_4 c κs = search rules
 
-enum_told_6 : tie.Need-enum-told-6
+enum_told_6 : tie.Need-enum_told-in-End
 enum_told_6 c = search rules
 
-no_call_requires_5 : tie.Need-no-call-requires-5
+no_call_requires_5 : tie.Need-no_call-requires-in-End
 no_call_requires_5 c κs = search rules
 
-returns : tie.Need-returns
+returns : tie.Need-returns-in-Append
 returns c =
-    let s = c.before.before.before.before.before.before.before.before.before in
-    absurd (subst Undoes c.before.enum_told.given.1 s.requires.1)
+    let s = c.before.before.before.before.before.before.before.before in
+    absurd (subst Undoes c.before.in-Append.is s.requires.1)
 
-same_length : tie.Need-same-length
+same_length : tie.Need-shape_of-ids-in-Flip
 same_length c = search rules
 
-same_length_2 : tie.Need-same-length-2
+same_length_2 : tie.Need-shape_of-numbers-in-Flip
 same_length_2 c = search rules
 
-same_length_3 : tie.Need-same-length-3
+same_length_3 : tie.Need-shape_of-lengths-in-Flip
 same_length_3 c = search rules
 
-same_length_4 : tie.Need-same-length-4
+same_length_4 : tie.Need-shape_of-spills-in-Flip
 same_length_4 c = search rules
 
-same_length_5 : tie.Need-same-length-5
+same_length_5 : tie.Need-shape_of-staged-in-Flip
 same_length_5 c = search rules
 
-same_length_6 : tie.Need-same-length-6
+same_length_6 : tie.Need-shape_of-table-in-Flip
 same_length_6 c = search rules
 
-same_length_7 : tie.Need-same-length-7
+same_length_7 : tie.Need-shape_of-hints-in-Flip
 same_length_7 c = search rules
 
-returns-2 : tie.Need-returns-2
+returns-2 : tie.Need-returns-in-Flip
 returns-2 c =
-    let s = c.before.before.before.before.before.before.before.before.before.before.before.before.before.before.before.before.before.before.before.before in
+    let s = c.before.before.before.before.before.before.before.before.before.before.before.before.before in
     let a = s.args in
-    let g = c.before.before.before.before.before.before.before.before.before.before.before.before.call.given in
-    flip_returns a.call a.ids.now a.numbers.now a.lengths.now a.spills.now a.staged.now a.table.now a.deleted.now a.counts g.0.0 g.0.1.0 g.0.1.1.0 _ _ _ _ g.1 (back w64 g.0.1.1.0 (search (rules, c.before.before.before.before.before.before.before.before.before.before.before.known_told.given))) c.before.before.before.flip_step.ensures
+    flip_returns a.call a.ids.now a.numbers.now a.lengths.now a.spills.now a.staged.now a.table.now a.deleted.now a.counts c.before.before.before.before.before.before.in-Flip.direction c.before.before.before.before.before.before.in-Flip.p c.before.before.before.before.before.before.in-Flip.n _ _ _ _ c.before.before.before.before.before.before.in-Flip.is (back w64 c.before.before.before.before.before.before.in-Flip.n (search (rules, c.before.before.before.before.before.before.in-Flip.known_told-1-own.given))) c.before.before.before.flip_step.ensures
 
-same_length_8 : tie.Need-same-length-8
+same_length_8 : tie.Need-shape_of-ids-in-Pop
 same_length_8 c = search rules
 
-same_length_9 : tie.Need-same-length-9
+same_length_9 : tie.Need-shape_of-numbers-in-Pop
 same_length_9 c = search rules
 
-same_length_10 : tie.Need-same-length-10
+same_length_10 : tie.Need-shape_of-lengths-in-Pop
 same_length_10 c = search rules
 
-same_length_11 : tie.Need-same-length-11
+same_length_11 : tie.Need-shape_of-spills-in-Pop
 same_length_11 c = search rules
 
-same_length_12 : tie.Need-same-length-12
+same_length_12 : tie.Need-shape_of-staged-in-Pop
 same_length_12 c = search rules
 
-same_length_13 : tie.Need-same-length-13
+same_length_13 : tie.Need-shape_of-table-in-Pop
 same_length_13 c = search rules
 
-same_length_14 : tie.Need-same-length-14
+same_length_14 : tie.Need-shape_of-deleted-in-Pop
 same_length_14 c = search rules
 
-returns-3 : tie.Need-returns-3
+returns-3 : tie.Need-returns-in-Pop
 returns-3 c =
-    let s = c.before.before.before.before.before.before.before.before.before.before.before.before.before.before.before.before.before.before.before.before.before.before.before.before.before in
-    let a = s.args in
-    let g = c.before.before.before.before.before.before.before.before.before.before.before.before.before.before.before.before.before.call2.given in
-    pop_returns a.call a.ids.now a.numbers.now a.lengths.now a.spills.now a.staged.now a.table.now a.deleted.now a.counts g.0.0 g.0.1.0 _ _ _ _ _ _ g.1 c.before.before.before.before.before.before.before.before.pop_step.ensures
-
-same_length_15 : tie.Need-same-length-15
-same_length_15 c = search rules
-
-same_length_16 : tie.Need-same-length-16
-same_length_16 c = search rules
-
-same_length_17 : tie.Need-same-length-17
-same_length_17 c = search rules
-
-same_length_18 : tie.Need-same-length-18
-same_length_18 c = search rules
-
-returns-4 : tie.Need-returns-4
-returns-4 c =
     let s = c.before.before.before.before.before.before.before.before.before.before.before.before.before.before.before.before.before.before.before.before.before in
     let a = s.args in
-    flush_returns a.call a.ids.now a.numbers.now a.lengths.now a.spills.now a.staged.now a.table.now a.deleted.now a.counts _ _ _ _ c.before.before.before.before.before.before.before.before.before.before.before.before.before.enum_told2.given.1 c.before.before.before.before.before.before.before.before.flush_step.ensures
+    pop_returns a.call a.ids.now a.numbers.now a.lengths.now a.spills.now a.staged.now a.table.now a.deleted.now a.counts c.before.before.before.before.before.before.before.before.before.before.before.before.before.before.in-Pop.kind c.before.before.before.before.before.before.before.before.before.before.before.before.before.before.in-Pop.p _ _ _ _ _ _ c.before.before.before.before.before.before.before.before.before.before.before.before.before.before.in-Pop.is c.before.before.before.before.before.before.before.before.pop_step.ensures
 
-returns-5 : tie.Need-returns-5
+same_length_15 : tie.Need-shape_of-staged-in-Flush
+same_length_15 c = search rules
+
+same_length_16 : tie.Need-shape_of-table-in-Flush
+same_length_16 c = search rules
+
+same_length_17 : tie.Need-shape_of-deleted-in-Flush
+same_length_17 c = search rules
+
+same_length_18 : tie.Need-shape_of-hints-in-Flush
+same_length_18 c = search rules
+
+returns-4 : tie.Need-returns-in-Flush
+returns-4 c =
+    let s = c.before.before.before.before.before.before.before.before.before.before.before.before.before.before.before.before.before.before.before.before in
+    let a = s.args in
+    flush_returns a.call a.ids.now a.numbers.now a.lengths.now a.spills.now a.staged.now a.table.now a.deleted.now a.counts _ _ _ _ c.before.before.before.before.before.before.before.before.before.before.before.before.before.in-Flush.is c.before.before.before.before.before.before.before.before.flush_step.ensures
+
+returns-5 : tie.Need-returns-in-Change
 returns-5 c =
-    let s = c.before.before.before.before.before.before.before.before.before in
-    absurd (subst Undoes c.before.enum_told3.given.1 s.requires.1)
+    let s = c.before.before.before.before.before.before.before.before in
+    absurd (subst Undoes c.before.in-Change.is s.requires.1)
 
-returns-6 : tie.Need-returns-6
+returns-6 : tie.Need-returns-in-Bad
 returns-6 c =
-    let s = c.before.before.before.before.before.before.before.before.before in
-    absurd (subst Undoes c.before.enum_told4.given.1 s.requires.1)
+    let s = c.before.before.before.before.before.before.before.before in
+    absurd (subst Undoes c.before.in-Bad.is s.requires.1)
 
-returns-7 : tie.Need-returns-7
+returns-7 : tie.Need-returns-in-Cut
 returns-7 c =
-    let s = c.before.before.before.before.before.before.before.before.before in
-    absurd (subst Undoes c.before.enum_told5.given.1 s.requires.1)
+    let s = c.before.before.before.before.before.before.before.before in
+    absurd (subst Undoes c.before.in-Cut.is s.requires.1)
 
-returns-8 : tie.Need-returns-8
+returns-8 : tie.Need-returns-in-End
 returns-8 c =
-    let s = c.before.before.before.before.before.before.before.before.before in
-    absurd (subst Undoes c.before.enum_told6.given.1 s.requires.1)
+    let s = c.before.before.before.before.before.before.before.before in
+    absurd (subst Undoes c.before.in-End.is s.requires.1)
 
 pub undo_step_spec : {M : Type 1} → statement M
 undo_step_spec =

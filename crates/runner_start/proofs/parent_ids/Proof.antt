@@ -21,33 +21,33 @@ filled_turn d ids i l f h k =
     (subst (λ (j : ℕ). Writing d 4128 (replicate 32 1) (set ids j 1) (i - 4128 + 1)) e
     (clear_turn d ids 4128 (i - 4128) 1 32 f (omega (arith, l)) (omega (arith, k))))
 
-abbrev invariant_loop : tie.invariant_loop
+abbrev invariant_loop : tie.invariant-loop-i
 invariant_loop ids₀ i₀ ids i = (4128 ≤ i) × (i ≤ 4160) × (8256 ≡ length ids₀) × Filled ids₀ ids i
 
-abbrev decreases_loop : tie.decreases_loop
+abbrev decreases_loop : tie.decreases-loop-i
 decreases_loop ids₀ i₀ ids i = 4160 - i
 
-loop-holds : tie.Need-loop-init invariant_loop decreases_loop
+loop-holds : tie.Need-loop-i-init invariant_loop decreases_loop
 loop-holds c = (omega arith, omega arith, refl, writing_start _ 4128 (replicate 32 1))
 
-array_write_ids : tie.Need-array-write-ids invariant_loop decreases_loop
+array_write_ids : tie.Need-bounds-ids-i invariant_loop decreases_loop
 array_write_ids c = omega arith
 
-add_i : tie.Need-overflow-add-i invariant_loop decreases_loop
+add_i : tie.Need-overflow_step-i invariant_loop decreases_loop
 add_i c = omega arith
 
-loop-less : tie.Need-loop-smaller invariant_loop decreases_loop
+loop-less : tie.Need-loop-i-smaller invariant_loop decreases_loop
 loop-less c = omega arith
 
-loop-again : tie.Need-loop-preserved invariant_loop decreases_loop
+loop-again : tie.Need-loop-i-preserved invariant_loop decreases_loop
 loop-again c =
-    let v = c.before.loop.invariant in
+    let v = c.before.loop-i.invariant in
     (omega arith, omega arith, v.2, filled_turn _ _ _ v.2 v.3 (omega arith) (omega arith))
 
 returns : tie.Need-returns invariant_loop decreases_loop
 unfolding two_ids
 returns c =
-    let v = c.before.loop.invariant in
+    let v = c.before.loop-i.invariant in
     (v.2 ∙ sym v.3.0, clear_end _ _ 4128 _ 1 32 v.3 (omega arith) (omega arith))
 
 pub parent_ids_spec : {M : Type 1} → statement M

@@ -12,32 +12,32 @@ use Rattle.side_order.proofs.SideLaws.{side_11, side_on}
 use Rattle.side_order.proofs.check_side.Statement.{statement}
 use Rattle.side_order.proofs.check_side.Tie as tie
 
-is_negative_i32_requires : tie.Need-is-negative-i32-requires
+is_negative_i32_requires : tie.Need-is_negative_i32-requires
 is_negative_i32_requires c κs = search rules
 
-returns : tie.Need-returns
+returns : tie.Need-returns-then-is_negative_i32
 returns c =
     λ zs.
     let a = c.before.before.before.before.before.args in
-    side_11 (edition_of a.edition) a.kind (sources a.parent.now a.staged.now a.staged_count a.table.now a.table_count) a.spills zs (ap is_negative (sym (back w32 a.spills (search rules))) ∙ sym c.before.is_negative_i32.ensures ∙ c.if1.true)
+    side_11 (edition_of a.edition) a.kind (sources a.parent.now a.staged.now a.staged_count a.table.now a.table_count) a.spills zs (ap is_negative (sym (back w32 a.spills (search rules))) ∙ sym c.before.is_negative_i32.ensures ∙ c.if-is_negative_i32.true)
 
-usize_from_i32_requires : tie.Need-usize-from-i32-requires
-usize_from_i32_requires c κs = sym c.before.is_negative_i32.ensures ∙ c.if1.false
+usize_from_i32_requires : tie.Need-usize_from_i32-requires
+usize_from_i32_requires c κs = sym c.before.is_negative_i32.ensures ∙ c.if-is_negative_i32.false
 
-check_rows_requires : tie.Need-check-rows-requires
+check_rows_requires : tie.Need-check_rows-requires
 check_rows_requires c κs =
     let s = c.before.before.before.before.before.before in
     let a = s.args in
     let e = back w32 a.spills (search rules) in
-    let n = ap is_negative (sym e) ∙ sym c.before.before.is_negative_i32.ensures ∙ c.before.if1.false in
+    let n = ap is_negative (sym e) ∙ sym c.before.before.is_negative_i32.ensures ∙ c.before.if-is_negative_i32.false in
     record { in_staged = s.requires.in_staged; in_table = s.requires.in_table; apart = s.requires.apart; few_rows = spills_below a.spills n (search rules) _ (c.usize_from_i32.ensures ∙ ap nat_abs e) }
 
-returns-2 : tie.Need-returns-2
+returns-2 : tie.Need-returns
 returns-2 c =
     λ zs.
     let a = c.before.before.before.before.before.before.before.args in
     let e = back w32 a.spills (search rules) in
-    side_on (edition_of a.edition) a.kind (sources a.parent.now a.staged.now a.staged_count a.table.now a.table_count) a.spills zs (ap is_negative (sym e) ∙ sym c.before.before.before.is_negative_i32.ensures ∙ c.before.before.if1.false) _ (c.before.usize_from_i32.ensures ∙ ap nat_abs e) _ c.check_rows.ensures
+    side_on (edition_of a.edition) a.kind (sources a.parent.now a.staged.now a.staged_count a.table.now a.table_count) a.spills zs (ap is_negative (sym e) ∙ sym c.before.before.before.is_negative_i32.ensures ∙ c.before.before.if-is_negative_i32.false) _ (c.before.usize_from_i32.ensures ∙ ap nat_abs e) _ c.check_rows.ensures
 
 pub check_side_spec : {M : Type 1} → statement M
 check_side_spec =

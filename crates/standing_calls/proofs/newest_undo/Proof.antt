@@ -10,34 +10,34 @@ use borrow.Author.Rules.{rules}
 use Rattle.standing_calls.proofs.newest_undo.Statement.{statement}
 use Rattle.standing_calls.proofs.newest_undo.Tie as tie
 
-sub_i : tie.Need-overflow-sub-i
+sub_i : tie.Need-overflow_sub-i
 sub_i c = search rules
 
-mul_a : tie.Need-overflow-mul-a
+mul_a : tie.Need-overflow_mul-a
 mul_a c = search rules
 
-mul_b : tie.Need-overflow-mul-b
+mul_b : tie.Need-overflow_mul-b
 mul_b c = search rules
 
-add_b : tie.Need-overflow-add-b
+add_b : tie.Need-overflow_add-b
 add_b c = search rules
 
-mul_magnitude : tie.Need-overflow-mul-magnitude
+mul_magnitude : tie.Need-offset_bounds-standing-a
 mul_magnitude c = search rules
 
-shared_slice_copy_out_magnitude : tie.Need-shared-slice-copy-out-magnitude
+shared_slice_copy_out_magnitude : tie.Need-bounds-standing-a
 shared_slice_copy_out_magnitude c = search rules
 
-magnitude_requires : tie.Need-magnitude-requires
+magnitude_requires : tie.Need-magnitude-kind-requires
 magnitude_requires c κs = search rules
 
-mul_number : tie.Need-overflow-mul-number
+mul_number : tie.Need-offset_bounds-standing-b
 mul_number c = search rules
 
-shared_slice_copy_out_number : tie.Need-shared-slice-copy-out-number
+shared_slice_copy_out_number : tie.Need-bounds-standing-b
 shared_slice_copy_out_number c = search rules
 
-undo_call_requires : tie.Need-undo-call-requires
+undo_call_requires : tie.Need-undo_call-requires
 undo_call_requires c κs = search rules
 
 returns : tie.Need-returns
@@ -45,8 +45,8 @@ returns c =
     let a = c.before.before.before.before.args in
     let k = get_or a.standing.now ((a.stood - 1) * 3) (pos 0) in
     let z = get_or a.standing.now ((a.stood - 1) * 3 + 1) (pos 0) in
-    let p = c.before.before.magnitude.ensures ∙ ap nat_abs (back64 k c.before.before.before.magnitude_arg.given) in
-    let q = back64 z c.before.number.given in
+    let p = c.before.before.magnitude-kind.ensures ∙ ap nat_abs (back64 k c.before.before.before.magnitude-arg-1.given) in
+    let q = back64 z c.before.number-1.given in
     λ room. c.undo_call.ensures room ∙ (λ i. undo_of edition_1 room (stood_call (p i) (q i)))
 
 pub newest_undo_spec : {M : Type 1} → statement M

@@ -6,29 +6,29 @@ use borrow.Author.Rules.{rules}
 use Rattle.standing_calls.proofs.stand.Statement.{statement}
 use Rattle.standing_calls.proofs.stand.Tie as tie
 
-put_stood_requires : tie.Need-put-stood-requires
+put_stood_requires : tie.Need-put_stood-requires
 put_stood_requires c κs = search rules
 
-add_t12 : tie.Need-overflow-add-t12
+add_t12 : tie.Need-overflow_add-result
 add_t12 c = search rules
 
-same_length : tie.Need-same-length
+same_length : tie.Need-shape_of-standing-then-stood-room
 same_length c = search rules
 
-returns : tie.Need-returns
-returns c = let a = c.before.before.before.before.before.args in stands_put a.room a.block a.call a.stood a.code a.standing.now c.before.before.before.before.before.requires c.before.before.before.before.if1.true c.before.before.before.if2.true _ c.before.put_stood.ensures
+returns : tie.Need-returns-then-stood-room
+returns c = let a = c.before.before.before.before.before.args in stands_put a.room a.block a.call a.stood a.code a.standing.now c.before.before.before.before.before.requires c.before.before.before.before.if-code-eq0.true c.before.before.before.if-stood-room.true _ c.before.put_stood.ensures
 
-returns-2 : tie.Need-returns-2
-returns-2 c = let a = c.before.before.args in stands_full a.room a.block a.call a.stood a.code a.standing.now c.before.if1.true (omega (arith, c.if2.false))
+returns-2 : tie.Need-returns-then-code-eq0
+returns-2 c = let a = c.before.before.args in stands_full a.room a.block a.call a.stood a.code a.standing.now c.before.if-code-eq0.true (omega (arith, c.if-stood-room.false))
 
-ends_run_requires : tie.Need-ends-run-requires
+ends_run_requires : tie.Need-ends_run-requires
 ends_run_requires c κs = search rules
 
-returns-3 : tie.Need-returns-3
-returns-3 c = let a = c.before.before.before.args in stands_ended a.room a.block a.call a.stood a.code a.standing.now c.before.before.if1.false (sym c.if3.true ∙ c.before.ends_run.ensures a.room)
+returns-3 : tie.Need-returns-then-ends_run
+returns-3 c = let a = c.before.before.before.args in stands_ended a.room a.block a.call a.stood a.code a.standing.now c.before.before.if-code-eq0.false (sym c.if-ends_run.true ∙ c.before.ends_run.ensures a.room)
 
-returns-4 : tie.Need-returns-4
-returns-4 c = let a = c.before.before.before.args in stands_on a.room a.block a.call a.stood a.code a.standing.now c.before.before.if1.false (sym c.if3.false ∙ c.before.ends_run.ensures a.room)
+returns-4 : tie.Need-returns
+returns-4 c = let a = c.before.before.before.args in stands_on a.room a.block a.call a.stood a.code a.standing.now c.before.before.if-code-eq0.false (sym c.if-ends_run.false ∙ c.before.ends_run.ensures a.room)
 
 pub stand_spec : {M : Type 1} → statement M
 stand_spec =

@@ -6,53 +6,53 @@ use borrow.Author.Rules.{rules}
 use Rattle.standing_calls.proofs.stood_number.Statement.{statement}
 use Rattle.standing_calls.proofs.stood_number.Tie as tie
 
-enum_known_call : tie.Need-enum-known-call
+enum_known_call : tie.Need-enum_known-call
 enum_known_call c = search rules
 
-enum_known_call_2 : tie.Need-enum-known-call-2
+enum_known_call_2 : tie.Need-enum_known-call-in-Flip-1
 enum_known_call_2 c = search rules
 
-enum_told : tie.Need-enum-told
+enum_told : tie.Need-enum_told-1
 enum_told c = search rules
 
-enum_told_2 : tie.Need-enum-told-2
+enum_told_2 : tie.Need-enum_told-in-Flush
 enum_told_2 c = search rules
 
-enum_told_3 : tie.Need-enum-told-3
+enum_told_3 : tie.Need-enum_told-in-Change
 enum_told_3 c = search rules
 
-enum_told_4 : tie.Need-enum-told-4
+enum_told_4 : tie.Need-enum_told-in-Bad
 enum_told_4 c = search rules
 
-enum_told_5 : tie.Need-enum-told-5
+enum_told_5 : tie.Need-enum_told-in-Cut
 enum_told_5 c = search rules
 
-enum_told_6 : tie.Need-enum-told-6
+enum_told_6 : tie.Need-enum_told-in-End
 enum_told_6 c = search rules
 
-returns : tie.Need-returns
-returns c = back w64 c.before.call.given.0.1.1.0 (search (rules, c.known_told.given)) ∙ sym (ap stood_number c.before.call.given.1)
+returns : tie.Need-returns-in-Append
+returns c = back w64 c.in-Append.number (search (rules, c.in-Append.known_told-1-own.given)) ∙ sym (ap stood_number c.in-Append.is)
 
-returns-2 : tie.Need-returns-2
-returns-2 c = back w64 c.before.call2.given.0.1.1.0 (search (rules, c.known_told2.given)) ∙ sym (ap stood_number c.before.call2.given.1)
+returns-2 : tie.Need-returns-in-Flip
+returns-2 c = back w64 c.in-Flip.number (search (rules, c.in-Flip.known_told-in-Flip-1-own.given)) ∙ sym (ap stood_number c.in-Flip.is)
 
-returns-3 : tie.Need-returns-3
-returns-3 c = sym (ap stood_number c.enum_told.given.1)
+returns-3 : tie.Need-returns-in-Pop
+returns-3 c = sym (ap stood_number c.in-Pop.is)
 
-returns-4 : tie.Need-returns-4
-returns-4 c = sym (ap stood_number c.enum_told2.given.1)
+returns-4 : tie.Need-returns-in-Flush
+returns-4 c = sym (ap stood_number c.in-Flush.is)
 
-returns-5 : tie.Need-returns-5
-returns-5 c = sym (ap stood_number c.enum_told3.given.1)
+returns-5 : tie.Need-returns-in-Change
+returns-5 c = sym (ap stood_number c.in-Change.is)
 
-returns-6 : tie.Need-returns-6
-returns-6 c = sym (ap stood_number c.enum_told4.given.1)
+returns-6 : tie.Need-returns-in-Bad
+returns-6 c = sym (ap stood_number c.in-Bad.is)
 
-returns-7 : tie.Need-returns-7
-returns-7 c = sym (ap stood_number c.enum_told5.given.1)
+returns-7 : tie.Need-returns-in-Cut
+returns-7 c = sym (ap stood_number c.in-Cut.is)
 
-returns-8 : tie.Need-returns-8
-returns-8 c = sym (ap stood_number c.enum_told6.given.1)
+returns-8 : tie.Need-returns-in-End
+returns-8 c = sym (ap stood_number c.in-End.is)
 
 pub stood_number_spec : {M : Type 1} → statement M
 stood_number_spec =

@@ -7,52 +7,52 @@ use borrow.Author.Rules.{rules}
 use Rattle.summary_pop.proofs.pop.Statement.{statement}
 use Rattle.summary_pop.proofs.pop.Tie as tie
 
-too_few_lines_requires : tie.Need-too-few-lines-requires
+too_few_lines_requires : tie.Need-too_few_lines-requires
 too_few_lines_requires c κs = search rules
 
-returns : tie.Need-returns
+returns : tie.Need-returns-then-too_few_lines
 returns c =
     let a = c.before.before.before.before.before.before.args in
-    pop_36 (edition_of a.edition) a.parent.now a.counts (lists a.staged_counts a.staged.now a.table_counts a.table.now a.deleted_counts a.deleted.now) a.head.now a.lines a.summary.now (sym c.before.too_few_lines.ensures ∙ c.if1.true)
+    pop_36 (edition_of a.edition) a.parent.now a.counts (lists a.staged_counts a.staged.now a.table_counts a.table.now a.deleted_counts a.deleted.now) a.head.now a.lines a.summary.now (sym c.before.too_few_lines.ensures ∙ c.if-too_few_lines.true)
 
 pop_requires : tie.Need-pop-requires
 pop_requires c κs = search rules
 
-same_length : tie.Need-same-length
+same_length : tie.Need-shape_of-head-then-len-gt0
 same_length c = search rules
 
-same_length_2 : tie.Need-same-length-2
+same_length_2 : tie.Need-shape_of-staged-then-len-gt0
 same_length_2 c = search rules
 
-same_length_3 : tie.Need-same-length-3
+same_length_3 : tie.Need-shape_of-deleted-then-len-gt0
 same_length_3 c = search rules
 
-returns-2 : tie.Need-returns-2
+returns-2 : tie.Need-returns-then-len-gt0
 returns-2 c =
     let a = c.before.before.before.before.before.before.before.before.before.before.before.before.before.before.before.before.args in
-    pop_last (edition_of a.edition) a.parent.now a.counts (lists a.staged_counts a.staged.now a.table_counts a.table.now a.deleted_counts a.deleted.now) a.head.now a.lines a.summary.now (sym c.before.before.before.before.before.before.before.before.before.before.before.too_few_lines.ensures ∙ c.before.before.before.before.before.before.before.before.before.before.if1.false) c.before.before.before.before.before.before.before.before.before.if2.true _ c.before.before.before.before.before.pop.ensures
+    pop_last (edition_of a.edition) a.parent.now a.counts (lists a.staged_counts a.staged.now a.table_counts a.table.now a.deleted_counts a.deleted.now) a.head.now a.lines a.summary.now (sym c.before.before.before.before.before.before.before.before.before.before.before.too_few_lines.ensures ∙ c.before.before.before.before.before.before.before.before.before.before.if-too_few_lines.false) c.before.before.before.before.before.before.before.before.before.if-len-gt0.true _ c.before.before.before.before.before.pop.ensures
 
-pop_from_empty_requires : tie.Need-pop-from-empty-requires
+pop_from_empty_requires : tie.Need-pop_from_empty-requires
 pop_from_empty_requires c κs =
     let s = c.before.before.before.before.before.before.before.before.before.before.before in
-    (c.before.before.before.before.if2.false, s.requires.1, sym c.before.before.before.before.before.before.too_few_lines.ensures ∙ c.before.before.before.before.before.if1.false, s.requires.2)
+    (c.before.before.before.before.if-len-gt0.false, s.requires.1, sym c.before.before.before.before.before.before.too_few_lines.ensures ∙ c.before.before.before.before.before.if-too_few_lines.false, s.requires.2)
 
-same_length_4 : tie.Need-same-length-4
+same_length_4 : tie.Need-shape_of-head
 same_length_4 c = search rules
 
-same_length_5 : tie.Need-same-length-5
+same_length_5 : tie.Need-shape_of-staged
 same_length_5 c = search rules
 
-same_length_6 : tie.Need-same-length-6
+same_length_6 : tie.Need-shape_of-deleted
 same_length_6 c = search rules
 
-same_length_7 : tie.Need-same-length-7
+same_length_7 : tie.Need-shape_of-summary
 same_length_7 c = search rules
 
-returns-3 : tie.Need-returns-3
+returns-3 : tie.Need-returns
 returns-3 c =
     let a = c.before.before.before.before.before.before.before.before.before.before.before.before.before.before.before.before.before.before.before.args in
-    pop_row (edition_of a.edition) a.parent.now a.counts (lists a.staged_counts a.staged.now a.table_counts a.table.now a.deleted_counts a.deleted.now) a.head.now a.lines a.summary.now (sym c.before.before.before.before.before.before.before.before.before.before.before.before.before.before.too_few_lines.ensures ∙ c.before.before.before.before.before.before.before.before.before.before.before.before.before.if1.false) _ c.before.before.before.before.before.before.before.pop_from_empty.ensures
+    pop_row (edition_of a.edition) a.parent.now a.counts (lists a.staged_counts a.staged.now a.table_counts a.table.now a.deleted_counts a.deleted.now) a.head.now a.lines a.summary.now (sym c.before.before.before.before.before.before.before.before.before.before.before.before.before.before.too_few_lines.ensures ∙ c.before.before.before.before.before.before.before.before.before.before.before.before.before.if-too_few_lines.false) _ c.before.before.before.before.before.before.before.pop_from_empty.ensures
 
 pub pop_spec : {M : Type 1} → statement M
 pop_spec =

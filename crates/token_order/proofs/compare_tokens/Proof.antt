@@ -72,7 +72,7 @@ returns-4 c =
     let l = x.before.before.loop-i in
     let a = x.before.before.before.before.before.args in
     let p = x.before.before.before.before.before.requires in
-    sym (l.invariant.2 ∙ both_go_on a.ids.now a.amounts.now a.count a.other_ids.now a.other_amounts.now a.other_count l.started l.i _ l.j _ x.before.next_place-i.ensures x.next_place-j.ensures p.0.apart p.1.apart c.before.before.before.if-count-i.false c.before.before.if-other_count-j-2.false _ (sym c.in-Less.is ∙ c.before.Compare_token.ensures))
+    sym (l.invariant.2 ∙ both_go_on a.ids.now a.amounts.now a.count a.other_ids.now a.other_amounts.now a.other_count l.started l.i _ l.j _ x.before.next_place-i.ensures x.next_place-j.ensures p.0.apart p.1.apart c.before.before.before.if-count-i.false c.before.before.if-other_count-j-2.false _ (sym c.in-Less.is ∙ c.before.compare_token-order.ensures))
 
 enum_told_2 : tie.Need-enum_told-in-Greater invariant_loop decreases_loop
 enum_told_2 c = search rules
@@ -83,7 +83,7 @@ returns-5 c =
     let l = x.before.before.loop-i in
     let a = x.before.before.before.before.before.args in
     let p = x.before.before.before.before.before.requires in
-    sym (l.invariant.2 ∙ both_go_on a.ids.now a.amounts.now a.count a.other_ids.now a.other_amounts.now a.other_count l.started l.i _ l.j _ x.before.next_place-i.ensures x.next_place-j.ensures p.0.apart p.1.apart c.before.before.before.if-count-i.false c.before.before.if-other_count-j-2.false _ (sym c.in-Greater.is ∙ c.before.Compare_token.ensures))
+    sym (l.invariant.2 ∙ both_go_on a.ids.now a.amounts.now a.count a.other_ids.now a.other_amounts.now a.other_count l.started l.i _ l.j _ x.before.next_place-i.ensures x.next_place-j.ensures p.0.apart p.1.apart c.before.before.before.if-count-i.false c.before.before.if-other_count-j-2.false _ (sym c.in-Greater.is ∙ c.before.compare_token-order.ensures))
 
 enum_told_3 : tie.Need-enum_told-in-Equal invariant_loop decreases_loop
 enum_told_3 c = search rules
@@ -102,7 +102,7 @@ loop-again c =
     let l = x.before.before.loop-i in
     let a = x.before.before.before.before.before.args in
     let p = x.before.before.before.before.before.requires in
-    (omega (arith, p.0.few), omega (arith, p.1.few), l.invariant.2 ∙ both_go_on a.ids.now a.amounts.now a.count a.other_ids.now a.other_amounts.now a.other_count l.started l.i _ l.j _ x.before.next_place-i.ensures x.next_place-j.ensures p.0.apart p.1.apart c.before.before.before.if-count-i.false c.before.before.if-other_count-j-2.false _ (sym c.in-Equal.is ∙ c.before.Compare_token.ensures))
+    (omega (arith, p.0.few), omega (arith, p.1.few), l.invariant.2 ∙ both_go_on a.ids.now a.amounts.now a.count a.other_ids.now a.other_amounts.now a.other_count l.started l.i _ l.j _ x.before.next_place-i.ensures x.next_place-j.ensures p.0.apart p.1.apart c.before.before.before.if-count-i.false c.before.before.if-other_count-j-2.false _ (sym c.in-Equal.is ∙ c.before.compare_token-order.ensures))
 
 pub compare_tokens_spec : {M : Type 1} → statement M
 compare_tokens_spec =

@@ -8,38 +8,38 @@ use Rattle.undo_entries.proofs.decode.Tie as tie
 refused_requires : tie.Need-refused-requires
 refused_requires c κs = search rules
 
-returns : tie.Need-returns
-returns c = c.refused.ensures ∙ decode_empty _ c.before.if1.true
+returns : tie.Need-returns-then-bytes-eq0
+returns c = c.refused.ensures ∙ decode_empty _ c.before.if-bytes-eq0.true
 
-shared_slice_read_tag : tie.Need-shared-slice-read-tag
+shared_slice_read_tag : tie.Need-bounds-bytes-0
 shared_slice_read_tag c = search rules
 
-numbers_at_requires : tie.Need-numbers-at-requires
+numbers_at_requires : tie.Need-numbers_at-requires
 numbers_at_requires c κs = search rules
 
-returns-2 : tie.Need-returns-2
-returns-2 c = c.numbers_at.ensures ∙ decode_first _ c.before.before.before.if1.false c.before.if2.true
+returns-2 : tie.Need-returns-then-tag-eq0
+returns-2 c = c.numbers_at.ensures ∙ decode_first _ c.before.before.before.if-bytes-eq0.false c.before.if-tag-eq0.true
 
-refused_requires_2 : tie.Need-refused-requires-2
+refused_requires_2 : tie.Need-refused-requires-then-bytes-lt33
 refused_requires_2 c κs = search rules
 
-returns-3 : tie.Need-returns-3
-returns-3 c = c.refused2.ensures ∙ decode_cut _ c.before.before.before.before.before.if1.false c.before.before.before.if2.false c.before.before.if3.true c.before.if4.true
+returns-3 : tie.Need-returns-then-bytes-lt33
+returns-3 c = c.refused-then-bytes-lt33.ensures ∙ decode_cut _ c.before.before.before.before.before.if-bytes-eq0.false c.before.before.before.if-tag-eq0.false c.before.before.if-tag-eq1.true c.before.if-bytes-lt33.true
 
-header_of_requires : tie.Need-header-of-requires
+header_of_requires : tie.Need-header_of-requires
 header_of_requires c κs = search rules
 
-numbers_at_requires_2 : tie.Need-numbers-at-requires-2
+numbers_at_requires_2 : tie.Need-numbers_at-requires-then-tag-eq1
 numbers_at_requires_2 c κs = search rules
 
-returns-4 : tie.Need-returns-4
-returns-4 c = c.numbers_at2.ensures ∙ decode_known _ c.before.before.before.before.before.before.if1.false c.before.before.before.before.if2.false c.before.before.before.if3.true c.before.before.if4.false _ c.before.header_of.ensures
+returns-4 : tie.Need-returns-then-tag-eq1
+returns-4 c = c.numbers_at-then-tag-eq1.ensures ∙ decode_known _ c.before.before.before.before.before.before.if-bytes-eq0.false c.before.before.before.before.if-tag-eq0.false c.before.before.before.if-tag-eq1.true c.before.before.if-bytes-lt33.false _ c.before.header_of.ensures
 
-refused_requires_3 : tie.Need-refused-requires-3
+refused_requires_3 : tie.Need-refused-requires-2
 refused_requires_3 c κs = search rules
 
-returns-5 : tie.Need-returns-5
-returns-5 c = c.refused3.ensures ∙ decode_tag _ c.before.before.before.before.if1.false c.before.before.if2.false c.before.if3.false
+returns-5 : tie.Need-returns
+returns-5 c = c.refused-2.ensures ∙ decode_tag _ c.before.before.before.before.if-bytes-eq0.false c.before.before.if-tag-eq0.false c.before.if-tag-eq1.false
 
 pub decode_spec : {M : Type 1} → statement M
 decode_spec =

@@ -6,29 +6,29 @@ use borrow.Author.Rules.{rules}
 use Rattle.undo_entries.proofs.encode.Statement.{statement}
 use Rattle.undo_entries.proofs.encode.Tie as tie
 
-returns : tie.Need-returns
-returns c = let e = c.before.before.before.args.entry in encode_short e _ (omega (arith, length_known e c.before.if1.true (search rules)))
+returns : tie.Need-returns-then-out-lt49
+returns c = let e = c.before.before.before.args.entry in encode_short e _ (omega (arith, length_known e c.before.if-entry.true (search rules)))
 
-put_known_requires : tie.Need-put-known-requires
+put_known_requires : tie.Need-put_known-requires
 put_known_requires c κs = search rules
 
-same_length : tie.Need-same-length
+same_length : tie.Need-shape_of-out-then-entry
 same_length c = search rules
 
-returns-2 : tie.Need-returns-2
-returns-2 c = let e = c.before.before.before.before.before.before.before.before.before.args.entry in encode_done e _ _ (sym (encoding_known e c.before.before.before.before.before.before.before.if1.true)) (omega (arith, length_known e c.before.before.before.before.before.before.before.if1.true (search rules))) _ _ c.before.before.put_known.ensures
+returns-2 : tie.Need-returns-then-entry
+returns-2 c = let e = c.before.before.before.before.before.before.before.before.before.args.entry in encode_done e _ _ (sym (encoding_known e c.before.before.before.before.before.before.before.if-entry.true)) (omega (arith, length_known e c.before.before.before.before.before.before.before.if-entry.true (search rules))) _ _ c.before.before.put_known.ensures
 
-returns-3 : tie.Need-returns-3
-returns-3 c = let e = c.before.before.before.args.entry in encode_short e _ (omega (arith, length_first e c.before.if1.false))
+returns-3 : tie.Need-returns-then-out-lt17
+returns-3 c = let e = c.before.before.before.args.entry in encode_short e _ (omega (arith, length_first e c.before.if-entry.false))
 
-put_first_requires : tie.Need-put-first-requires
+put_first_requires : tie.Need-put_first-requires
 put_first_requires c κs = search rules
 
-same_length_2 : tie.Need-same-length-2
+same_length_2 : tie.Need-shape_of-out
 same_length_2 c = search rules
 
-returns-4 : tie.Need-returns-4
-returns-4 c = let e = c.before.before.before.before.before.before.before.args.entry in encode_done e _ _ (sym (encoding_first e c.before.before.before.before.before.if1.false)) (omega (arith, length_first e c.before.before.before.before.before.if1.false)) _ _ c.before.before.put_first.ensures
+returns-4 : tie.Need-returns
+returns-4 c = let e = c.before.before.before.before.before.before.before.args.entry in encode_done e _ _ (sym (encoding_first e c.before.before.before.before.before.if-entry.false)) (omega (arith, length_first e c.before.before.before.before.before.if-entry.false)) _ _ c.before.before.put_first.ensures
 
 pub encode_spec : {M : Type 1} → statement M
 encode_spec =

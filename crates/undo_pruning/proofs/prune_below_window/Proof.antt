@@ -12,32 +12,32 @@ use Rattle.undo_pruning.proofs.compact.Reads as compact_reads
 use Rattle.undo_pruning.proofs.lowest_kept.Reads as lowest_kept_reads
 use Rattle.undo_pruning.proofs.window_length.Reads as window_length_reads
 
-returns : tie.Need-returns
-returns c = prune_count _ _ _ _ _ c.if1.true
+returns : tie.Need-returns-then-capacity-count
+returns c = prune_count _ _ _ _ _ c.if-capacity-count.true
 
-returns-2 : tie.Need-returns-2
-returns-2 c = prune_short _ _ _ _ _ c.before.if1.false c.if2.true
+returns-2 : tie.Need-returns-then-heights-capacity
+returns-2 c = prune_short _ _ _ _ _ c.before.if-capacity-count.false c.if-heights-capacity.true
 
-window_length_requires : tie.Need-window-length-requires
+window_length_requires : tie.Need-window_length-requires
 window_length_requires c κs = search rules
 
-lowest_kept_requires : tie.Need-lowest-kept-requires
+lowest_kept_requires : tie.Need-lowest_kept-lowest-requires
 lowest_kept_requires c κs = search rules
 
-compact_requires : tie.Need-compact-requires
+compact_requires : tie.Need-compact-n-requires
 compact_requires c κs = search rules
 
 clear_requires : tie.Need-clear-requires
 clear_requires c κs = search rules
 
-same_length : tie.Need-same-length
+same_length : tie.Need-shape_of-heights
 same_length c = search rules
 
-returns-3 : tie.Need-returns-3
+returns-3 : tie.Need-returns
 returns-3 c =
     let s = c.before.before.before.before.before.before.before.before.before.before.before.before.before in
-    let low = c.before.before.before.before.before.before.before.before.lowest_kept.ensures ∙ ap (λ (w : ℕ). s.args.current - w) c.before.before.before.before.before.before.before.before.before.window_length.ensures in
-    prune_done _ _ _ _ _ c.before.before.before.before.before.before.before.before.before.before.before.if1.false c.before.before.before.before.before.before.before.before.before.before.if2.false _ _ _ _ low c.before.before.before.before.before.before.compact.ensures c.before.before.clear.ensures
+    let low = c.before.before.before.before.before.before.before.before.lowest_kept-lowest.ensures ∙ ap (λ (w : ℕ). s.args.current - w) c.before.before.before.before.before.before.before.before.before.window_length.ensures in
+    prune_done _ _ _ _ _ c.before.before.before.before.before.before.before.before.before.before.before.if-capacity-count.false c.before.before.before.before.before.before.before.before.before.before.if-heights-capacity.false _ _ _ _ low c.before.before.before.before.before.before.compact-n.ensures c.before.before.clear.ensures
 
 pub prune_below_window_spec : {M : Type 1} → statement M
 prune_below_window_spec =
