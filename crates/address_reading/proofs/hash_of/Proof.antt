@@ -5,19 +5,19 @@ use borrow.Author.Rules.{rules}
 use Rattle.address_reading.proofs.hash_of.Statement.{statement}
 use Rattle.address_reading.proofs.hash_of.Tie as tie
 
-slice_aggregate_copy_bytes : tie.Need-slice-aggregate-copy-bytes
+slice_aggregate_copy_bytes : tie.Need-slice_bounds-copy_bytes-end
 slice_aggregate_copy_bytes c = search rules
 
-sub_copy_bytes : tie.Need-overflow-sub-copy-bytes
+sub_copy_bytes : tie.Need-slice_bounds-copy_bytes-count
 sub_copy_bytes c = search rules
 
-part_copy_bytes_start : tie.Need-slice-bounds-copy-bytes-start
+part_copy_bytes_start : tie.Need-slice_bounds-copy_bytes-start
 part_copy_bytes_start c = search rules
 
-part_copy_bytes_end : tie.Need-slice-bounds-copy-bytes-end
+part_copy_bytes_end : tie.Need-slice_bounds-copy_bytes-end-2
 part_copy_bytes_end c = search rules
 
-copy_bytes_requires : tie.Need-copy-bytes-requires
+copy_bytes_requires : tie.Need-copy_bytes-requires
 copy_bytes_requires c κs = search rules
 
 returns : tie.Need-returns

@@ -12,71 +12,69 @@ use Rattle.address_reading.proofs.read_address.Tie as tie
 refused_requires : tie.Need-refused-requires
 refused_requires c κs = search rules
 
-returns : tie.Need-returns
-returns c = let a = c.before.before.before.args in ap (λ (r : AddressRead). loading r a.txs.now a.boxes.now) c.refused.ensures ∙ address_cut a.row.now a.txs.now a.boxes.now c.before.if1.true
+returns : tie.Need-returns-then-row-lt32
+returns c = let a = c.before.before.before.args in ap (λ (r : AddressRead). loading r a.txs.now a.boxes.now) c.refused.ensures ∙ address_cut a.row.now a.txs.now a.boxes.now c.before.if-row-lt32.true
 
-hash_of_requires : tie.Need-hash-of-requires
+hash_of_requires : tie.Need-hash_of-hash-requires
 hash_of_requires c κs = search rules
 
-slice_aggregate_read_flagged : tie.Need-slice-aggregate-read-flagged
+slice_aggregate_read_flagged : tie.Need-slice_bounds-read_flagged-end
 slice_aggregate_read_flagged c = search rules
 
-slice_aggregate_read_flagged_2 : tie.Need-slice-aggregate-read-flagged-2
+slice_aggregate_read_flagged_2 : tie.Need-slice_bounds-read_flagged-end-2
 slice_aggregate_read_flagged_2 c = search rules
 
-read_flagged_requires : tie.Need-read-flagged-requires
+read_flagged_requires : tie.Need-read_flagged-requires
 read_flagged_requires c κs = search rules
 
-enum_known_code : tie.Need-enum-known-code
+enum_known_code : tie.Need-enum_known-code
 enum_known_code c = search rules
 
-refused_requires_2 : tie.Need-refused-requires-2
+refused_requires_2 : tie.Need-refused-requires-in-Refused
 refused_requires_2 c κs = search rules
 
-enum_known_has_balance : tie.Need-enum-known-has-balance
+enum_known_has_balance : tie.Need-enum_known-has_balance
 enum_known_has_balance c = search rules
 
-read_last_segment_requires : tie.Need-read-last-segment-requires
+read_last_segment_requires : tie.Need-read_last_segment-requires
 read_last_segment_requires c κs = search rules
 
-enum_known_code_2 : tie.Need-enum-known-code-2
+enum_known_code_2 : tie.Need-enum_known-code-in-Refused-read_last_segment
 enum_known_code_2 c = search rules
 
-refused_requires_3 : tie.Need-refused-requires-3
+refused_requires_3 : tie.Need-refused-requires-in-Refused-read_last_segment
 refused_requires_3 c κs = search rules
 
-enum_known_n : tie.Need-enum-known-n
+enum_known_n : tie.Need-enum_known-n
 enum_known_n c = search rules
 
-returns-2 : tie.Need-returns-2
-returns-2 c = let a = c.before.before.before.before.before.before.before.before.before.before.before.before.args in
-    ap (λ (r : AddressRead). loading r a.txs.now a.boxes.now) c.refused2.ensures
-    ∙ address_no_balance a.row.now a.txs.now a.boxes.now c.before.before.before.before.before.before.before.before.before.before.if1.false _ (not_found a.row.now 32 _ _ _ c.before.before.before.before.before.before.read_flagged.ensures _ c.before.before.code.given.1)
+returns-2 : tie.Need-returns-in-Refused
+returns-2 c = let a = c.before.before.before.before.before.before.before.before.before.before.args in
+    ap (λ (r : AddressRead). loading r a.txs.now a.boxes.now) c.refused-in-Refused.ensures
+    ∙ address_no_balance a.row.now a.txs.now a.boxes.now c.before.before.before.before.before.before.before.before.if-row-lt32.false _ (not_found a.row.now 32 _ _ _ c.before.before.before.before.read_flagged.ensures _ c.before.in-Refused.is)
 
-same_length : tie.Need-same-length
+same_length : tie.Need-shape_of-txs-in-Refused-read_last_segment
 same_length c = search rules
 
-same_length_2 : tie.Need-same-length-2
+same_length_2 : tie.Need-shape_of-boxes-in-Refused-read_last_segment
 same_length_2 c = search rules
 
-returns-3 : tie.Need-returns-3
-returns-3 c = let a = c.before.before.before.before.before.before.before.before.before.before.before.before.before.before.before.before.before.before.before.before.args in
-    let f = found a.row.now 32 _ _ _ c.before.before.before.before.before.before.before.before.before.before.before.before.before.before.read_flagged.ensures _ _ _ _ c.before.before.before.before.before.before.before.before.before.before.has_balance.given.1 in
-    rw c.refused3.ensures (address_no_segment a.row.now a.txs.now a.boxes.now c.before.before.before.before.before.before.before.before.before.before.before.before.before.before.before.before.before.before.if1.false _ _ _ _ _ _ f _ _ _ c.before.before.before.before.before.before.read_last_segment.ensures _ c.before.before.code2.given.1)
+returns-3 : tie.Need-returns-in-Refused-read_last_segment
+returns-3 c = let a = c.before.before.before.before.before.before.before.before.before.before.before.before.before.before.before.before.args in
+    let f = found a.row.now 32 _ _ _ c.before.before.before.before.before.before.before.before.before.before.read_flagged.ensures _ _ _ _ c.before.before.before.before.before.before.before.in-Held.is in
+    rw c.refused-in-Refused-read_last_segment.ensures (address_no_segment a.row.now a.txs.now a.boxes.now c.before.before.before.before.before.before.before.before.before.before.before.before.before.before.if-row-lt32.false _ _ _ _ _ _ f _ _ _ c.before.before.before.before.read_last_segment.ensures _ c.before.in-Refused-read_last_segment.is)
 
-same_length_3 : tie.Need-same-length-3
+same_length_3 : tie.Need-shape_of-txs-in-Read
 same_length_3 c = search rules
 
-same_length_4 : tie.Need-same-length-4
+same_length_4 : tie.Need-shape_of-boxes-in-Read
 same_length_4 c = search rules
 
-returns-4 : tie.Need-returns-4
-returns-4 c = let a = c.before.before.before.before.before.before.before.before.before.before.before.before.before.before.before.before.before.before.before.args in
-    let f = found a.row.now 32 _ _ _ c.before.before.before.before.before.before.before.before.before.before.before.before.before.read_flagged.ensures _ _ _ _ c.before.before.before.before.before.before.before.before.before.has_balance.given.1 in
-    let u = c.before.before.before.before.before.before.before.before.known_told2.given in
-    let v = c.known_told4.given in
-    address_read a.row.now a.txs.now a.boxes.now c.before.before.before.before.before.before.before.before.before.before.before.before.before.before.before.before.before.if1.false _ _ _ _ _ _ f _ _ _ c.before.before.before.before.before.read_last_segment.ensures _ _ _ _ _ c.before.n.given.1 _ _ _
-    (to_z-of_z {w = w64} (record { sfits = u.1.0.1 })) (to_z-of_z {w = w32} (record { sfits = v.1.1.0.1 })) (to_z-of_z {w = w32} (record { sfits = v.1.1.1.0.1 })) _ c.before.before.before.before.before.before.before.before.before.before.before.before.before.before.before.before.hash_of.ensures
+returns-4 : tie.Need-returns-in-Read
+returns-4 c = let a = c.before.before.before.before.before.before.before.before.before.before.before.before.before.before.before.args in
+    let f = found a.row.now 32 _ _ _ c.before.before.before.before.before.before.before.before.before.read_flagged.ensures _ _ _ _ c.before.before.before.before.before.before.in-Held.is in
+    address_read a.row.now a.txs.now a.boxes.now c.before.before.before.before.before.before.before.before.before.before.before.before.before.if-row-lt32.false _ _ _ _ _ _ f _ _ _ c.before.before.before.read_last_segment.ensures _ _ _ _ _ c.in-Read.is _ _ _
+    (to_z-of_z {w = w64} (record { sfits = c.before.before.before.before.before.before.in-Held.known_told-in-Held-1-own.given.1.0.1 })) (to_z-of_z {w = w32} (record { sfits = c.in-Read.known_told-in-Read-1-own.given.1.1.0.1 })) (to_z-of_z {w = w32} (record { sfits = c.in-Read.known_told-in-Read-1-own.given.1.1.1.0.1 })) _ c.before.before.before.before.before.before.before.before.before.before.before.before.hash_of-hash.ensures
 
 pub read_address_spec : {M : Type 1} → statement M
 read_address_spec =

@@ -34,24 +34,24 @@ same_flagged s = let a = s.args in ap (λ (z : ℤ). flagged_bytes a.has z a.ids
 same_row : (s : tie.Start) → let a = s.args in row s (to_z w32 (of_z w32 a.box_count)) (to_z w32 (of_z w32 a.tx_count)) ≡ row s a.box_count a.tx_count
 same_row s = ap₂ (row s) (to_z-of_z {w = w32} s.ranges.box_count) (to_z-of_z {w = w32} s.ranges.tx_count)
 
-put_bytes_requires : tie.Need-put-bytes-requires
+put_bytes_requires : tie.Need-put_bytes-o-requires
 put_bytes_requires c κs = let s = c.before.before.before.before in omega (arith, sized s, s.requires.3)
 
-emit_flagged_requires : tie.Need-emit-flagged-requires
+emit_flagged_requires : tie.Need-emit_flagged-p-requires
 emit_flagged_requires c κs = let s = c.before.before.before.before.before.before.before.before in
-    (s.requires.0, omega (arith, sized s, ap length (same_flagged s), c.before.before.before.put_bytes.ensures.0, s.requires.3))
+    (s.requires.0, omega (arith, sized s, ap length (same_flagged s), c.before.before.before.put_bytes-o.ensures.0, s.requires.3))
 
-emit_segment_requires : tie.Need-emit-segment-requires
+emit_segment_requires : tie.Need-emit_segment-requires
 emit_segment_requires c κs = let s = c.before.before.before.before.before.before.before.before.before.before.before.before in
-    (s.requires.1, s.requires.2, inl (omega (arith, sized s, ap length (same_flagged s), ap length (same_row s), c.before.before.before.before.before.before.before.put_bytes.ensures.0, c.before.before.before.emit_flagged.ensures.0, s.requires.3)))
+    (s.requires.1, s.requires.2, inl (omega (arith, sized s, ap length (same_flagged s), ap length (same_row s), c.before.before.before.before.before.before.before.put_bytes-o.ensures.0, c.before.before.before.emit_flagged-p.ensures.0, s.requires.3)))
 
-same_length : tie.Need-same-length
+same_length : tie.Need-shape_of-out
 same_length c = search rules
 
 returns : tie.Need-returns
 returns c = let s = c.before.before.before.before.before.before.before.before.before.before.before.before.before.before.before in
     let a = s.args in
-    address_put a.hash.now a.has a.nanos a.ids.now (tokens s) (row s a.box_count a.tx_count) (same_flagged s) (same_row s) _ _ _ _ _ _ _ _ c.before.before.before.before.before.before.before.before.before.before.put_bytes.ensures c.before.before.before.before.before.before.emit_flagged.ensures c.before.before.emit_segment.ensures.0
+    address_put a.hash.now a.has a.nanos a.ids.now (tokens s) (row s a.box_count a.tx_count) (same_flagged s) (same_row s) _ _ _ _ _ _ _ _ c.before.before.before.before.before.before.before.before.before.before.put_bytes-o.ensures c.before.before.before.before.before.before.emit_flagged-p.ensures c.before.before.emit_segment.ensures.0
 
 pub emit_address_spec : {M : Type 1} → statement M
 emit_address_spec =

@@ -13,33 +13,33 @@ use native.Mathlib.Omega.{arith}
 use Rattle.address_writing.proofs.flagged_len.Statement.{statement}
 use Rattle.address_writing.proofs.flagged_len.Tie as tie
 
-returns : tie.Need-returns
+returns : tie.Need-returns-then-not-has
 returns c = let a = c.before.args in
-    (λ ids h. sym (clear_length a.has a.nanos ids (take a.n a.amounts.now) (not-true _ c.if1.true)), omega arith)
+    (λ ids h. sym (clear_length a.has a.nanos ids (take a.n a.amounts.now) (c.if-not-has.true)), omega arith)
 
-number_len_requires : tie.Need-number-len-requires
+number_len_requires : tie.Need-number_len-requires
 number_len_requires c κs = search rules
 
-add_result : tie.Need-overflow-add-result
+add_result : tie.Need-overflow_add-result
 add_result c = search rules
 
-list_len_requires : tie.Need-list-len-requires
+list_len_requires : tie.Need-list_len-requires
 list_len_requires c κs = search rules
 
-add_result_2 : tie.Need-overflow-add-result-2
+add_result_2 : tie.Need-overflow_add-result-2
 add_result_2 c = search rules
 
-mul_result : tie.Need-overflow-mul-result
+mul_result : tie.Need-overflow_mul-result
 mul_result c = search rules
 
-add_result_3 : tie.Need-overflow-add-result-3
+add_result_3 : tie.Need-overflow_add-result-3
 add_result_3 c = search rules
 
-returns-2 : tie.Need-returns-2
+returns-2 : tie.Need-returns
 returns-2 c = let s = c.before.before.before in
     let a = s.args in
     let q = ap (λ (z : ℤ). length (enc (zig z))) (to_z-of_z {w = w64} s.ranges.nanos) in
-    (λ ids h. omega (arith, set_size a.has (not-false _ c.before.before.if1.false) a.nanos ids a.amounts.now a.n s.requires.1 h, q, c.before.number_len.ensures.0, c.list_len.ensures.0), omega arith)
+    (λ ids h. omega (arith, set_size a.has (c.before.before.if-not-has.false) a.nanos ids a.amounts.now a.n s.requires.1 h, q, c.before.number_len.ensures.0, c.list_len.ensures.0), omega arith)
 
 pub flagged_len_spec : {M : Type 1} → statement M
 flagged_len_spec =

@@ -19,14 +19,14 @@ use Rattle.address_writing.proofs.write_address.Statement.{statement}
 use Rattle.address_writing.proofs.write_address.Tie as tie
 
 -- the tests of 25 have passed
-ok : (e : tie.Else1) → let a = e.before.before.before.before.before.args in buffers_ok a.n_txs (length a.txs.now) a.n_boxes (length a.boxes.now) a.count ≡ true
-ok e = sym e.before.buffers_ok.ensures ∙ not-false _ e.if1.false
+ok : (e : tie.Else-not-buffers_ok) → let a = e.before.before.before.before.before.args in buffers_ok a.n_txs (length a.txs.now) a.n_boxes (length a.boxes.now) a.count ≡ true
+ok e = sym e.before.buffers_ok.ensures ∙ e.if-not-buffers_ok.false
 
-held_by : (e : tie.Else1) → let a = e.before.before.before.before.before.args in Passed a.n_txs (length a.txs.now) a.n_boxes (length a.boxes.now) a.count
+held_by : (e : tie.Else-not-buffers_ok) → let a = e.before.before.before.before.before.args in Passed a.n_txs (length a.txs.now) a.n_boxes (length a.boxes.now) a.count
 held_by e = let a = e.before.before.before.before.before.args in passed a.n_txs (length a.txs.now) a.n_boxes (length a.boxes.now) a.count (ok e)
 
 -- the record as its writers say it is the record
-same_record : (k : tie.After_segment_len) → let s = k.before.before.before.before.before.before.before in let a = s.args in
+same_record : (k : tie.After-segment_len-row) → let s = k.before.before.before.before.before.before.before in let a = s.args in
     address_bytes a.hash.now a.has (to_z w64 (of_z w64 a.nanos)) a.ids.now (take a.count a.amounts.now)
     (row_bytes (take a.n_txs a.txs.now) (take a.n_boxes a.boxes.now) (to_z w32 (of_z w32 a.box_count)) (to_z w32 (of_z w32 a.tx_count)))
     ≡ address_bytes a.hash.now a.has a.nanos a.ids.now (take a.count a.amounts.now)
@@ -38,8 +38,8 @@ same_record k =
     (ap₂ (row_bytes (take a.n_txs a.txs.now) (take a.n_boxes a.boxes.now)) (to_z-of_z {w = w32} s.ranges.box_count) (to_z-of_z {w = w32} s.ranges.tx_count))
 
 -- its size
-sized : (k : tie.After_segment_len) → let s = k.before.before.before.before.before.before.before in let a = s.args in
-    32 + k.before.flagged_len.result + k.segment_len.result
+sized : (k : tie.After-segment_len-row) → let s = k.before.before.before.before.before.before.before in let a = s.args in
+    32 + k.before.flagged_len-part.result + k.segment_len-row.result
     ≡ length (address_bytes a.hash.now a.has (to_z w64 (of_z w64 a.nanos)) a.ids.now (take a.count a.amounts.now)
     (row_bytes (take a.n_txs a.txs.now) (take a.n_boxes a.boxes.now) (to_z w32 (of_z w32 a.box_count)) (to_z w32 (of_z w32 a.tx_count))))
 sized k =
@@ -51,56 +51,56 @@ sized k =
       arith,
       address_length a.hash.now a.has (to_z w64 (of_z w64 a.nanos)) a.ids.now (take a.count a.amounts.now)
           (row_bytes (take a.n_txs a.txs.now) (take a.n_boxes a.boxes.now) (to_z w32 (of_z w32 a.box_count)) (to_z w32 (of_z w32 a.tx_count))),
-      k.before.flagged_len.ensures.0 a.ids.now room,
-      k.segment_len.ensures.0,
+      k.before.flagged_len-part.ensures.0 a.ids.now room,
+      k.segment_len-row.ensures.0,
       s.requires.0,
     )
 
-buffers_ok_requires : tie.Need-buffers-ok-requires
+buffers_ok_requires : tie.Need-buffers_ok-requires
 buffers_ok_requires c κs = search rules
 
-returns : tie.Need-returns
+returns : tie.Need-returns-then-not-buffers_ok
 returns c = let a = c.before.before.before.before.before.args in
-    write_25 a.hash.now a.has a.nanos a.ids.now a.amounts.now a.count a.txs.now a.n_txs a.boxes.now a.n_boxes a.box_count a.tx_count a.out.now a.at (sym c.before.buffers_ok.ensures ∙ not-true _ c.if1.true)
+    write_25 a.hash.now a.has a.nanos a.ids.now a.amounts.now a.count a.txs.now a.n_txs a.boxes.now a.n_boxes a.box_count a.tx_count a.out.now a.at (sym c.before.buffers_ok.ensures ∙ c.if-not-buffers_ok.true)
 
-flagged_len_requires : tie.Need-flagged-len-requires
+flagged_len_requires : tie.Need-flagged_len-part-requires
 flagged_len_requires c κs = let s = c.before.before.before.before.before in
     let few = (held_by c).few in
     (few, omega (arith, few, s.requires.2))
 
-segment_len_requires : tie.Need-segment-len-requires
+segment_len_requires : tie.Need-segment_len-row-requires
 segment_len_requires c κs = let h = held_by c.before in (h.txs, h.boxes)
 
-add_has_room : tie.Need-overflow-add-has-room
+add_has_room : tie.Need-overflow_add-part
 add_has_room c = search rules
 
-add_has_room_2 : tie.Need-overflow-add-has-room-2
+add_has_room_2 : tie.Need-overflow_add-part-2
 add_has_room_2 c = search rules
 
-has_room_requires : tie.Need-has-room-requires
+has_room_requires : tie.Need-has_room-requires
 has_room_requires c κs = search rules
 
-returns-2 : tie.Need-returns-2
+returns-2 : tie.Need-returns-then-not-has_room
 returns-2 c = let k = c.before.before in
     let a = k.before.before.before.before.before.before.before.args in
-    put_short (same_record k) a.out.now a.at _ (sized k) c.before.has_room.result c.before.has_room.ensures (not-true _ c.if2.true)
+    put_short (same_record k) a.out.now a.at _ (sized k) c.before.has_room.result c.before.has_room.ensures (c.if-not-has_room.true)
     ∙ write_on a.hash.now a.has a.nanos a.ids.now a.amounts.now a.count a.txs.now a.n_txs a.boxes.now a.n_boxes a.box_count a.tx_count a.out.now a.at (ok k.before.before)
 
-emit_address_requires : tie.Need-emit-address-requires
+emit_address_requires : tie.Need-emit_address-requires
 emit_address_requires c κs = let k = c.before.before.before in
     let s = k.before.before.before.before.before.before.before in
     let a = s.args in
     let h = held_by k.before.before in
     let few = h.few in
-    ((few, omega (arith, few, s.requires.2), omega (arith, few, s.requires.1)), h.txs, h.boxes, put_room (same_record k) a.out.now a.at _ (sized k) c.before.before.has_room.result c.before.before.has_room.ensures (not-false _ c.before.if2.false))
+    ((few, omega (arith, few, s.requires.2), omega (arith, few, s.requires.1)), h.txs, h.boxes, put_room (same_record k) a.out.now a.at _ (sized k) c.before.before.has_room.result c.before.before.has_room.ensures (c.before.if-not-has_room.false))
 
-same_length : tie.Need-same-length
+same_length : tie.Need-shape_of-out
 same_length c = search rules
 
-returns-3 : tie.Need-returns-3
+returns-3 : tie.Need-returns
 returns-3 c = let k = c.before.before.before.before.before.before in
     let a = k.before.before.before.before.before.before.before.args in
-    put_done (same_record k) a.out.now a.at _ (sized k) c.before.before.before.before.before.has_room.result c.before.before.before.before.before.has_room.ensures (not-false _ c.before.before.before.before.if2.false) _ _ c.before.before.emit_address.ensures
+    put_done (same_record k) a.out.now a.at _ (sized k) c.before.before.before.before.before.has_room.result c.before.before.before.before.before.has_room.ensures (c.before.before.before.before.if-not-has_room.false) _ _ c.before.before.emit_address.ensures
     ∙ write_on a.hash.now a.has a.nanos a.ids.now a.amounts.now a.count a.txs.now a.n_txs a.boxes.now a.n_boxes a.box_count a.tx_count a.out.now a.at (ok k.before.before)
 
 pub write_address_spec : {M : Type 1} → statement M

@@ -8,67 +8,63 @@ use Rattle.driver_steps.proofs.MoveLaws.{append_made, spend_made, unspend_made, 
 use Rattle.driver_steps.proofs.made_by.Statement.{statement}
 use Rattle.driver_steps.proofs.made_by.Tie as tie
 
-enum_known_read : tie.Need-enum-known-read
+enum_known_read : tie.Need-enum_known-read
 enum_known_read c = search rules
 
-enum_known_read_2 : tie.Need-enum-known-read-2
+enum_known_read_2 : tie.Need-enum_known-read-in-Spend-1
 enum_known_read_2 c = search rules
 
-enum_known_read_3 : tie.Need-enum-known-read-3
+enum_known_read_3 : tie.Need-enum_known-read-in-Unspend-1
 enum_known_read_3 c = search rules
 
-enum_known_read_4 : tie.Need-enum-known-read-4
+enum_known_read_4 : tie.Need-enum_known-read-in-Pop-1
 enum_known_read_4 c = search rules
 
-enum_told : tie.Need-enum-told
+enum_told : tie.Need-enum_told-1
 enum_told c = search rules
 
-enum_known_read_5 : tie.Need-enum-known-read-5
+enum_known_read_5 : tie.Need-enum_known-read-in-Change-1
 enum_known_read_5 c = search rules
 
-enum_told_2 : tie.Need-enum-told-2
+enum_told_2 : tie.Need-enum_told-in-Bad
 enum_told_2 c = search rules
 
-enum_told_3 : tie.Need-enum-told-3
+enum_told_3 : tie.Need-enum_told-in-Cut
 enum_told_3 c = search rules
 
-enum_told_4 : tie.Need-enum-told-4
+enum_told_4 : tie.Need-enum_told-in-End
 enum_told_4 c = search rules
 
-returns : tie.Need-returns
+returns : tie.Need-returns-in-Append
 returns c =
-    let g = c.before.read.given in
-    append_made _ _ g.0.1.1.0 (back w64 g.0.1.1.0 (search (rules, c.known_told.given))) g.0.0 g.0.1.0 g.1
+    append_made _ _ c.in-Append.n (back w64 c.in-Append.n (search (rules, c.in-Append.known_told-1-own.given))) c.in-Append.kind c.in-Append.p c.in-Append.is
 
-returns-2 : tie.Need-returns-2
+returns-2 : tie.Need-returns-in-Spend
 returns-2 c =
-    let g = c.before.read2.given in
-    spend_made _ _ g.0.1.0 (back w64 g.0.1.0 (search (rules, c.known_told2.given))) g.0.0 g.1
+    spend_made _ _ c.in-Spend.n (back w64 c.in-Spend.n (search (rules, c.in-Spend.known_told-in-Spend-1-own.given))) c.in-Spend.p c.in-Spend.is
 
-returns-3 : tie.Need-returns-3
+returns-3 : tie.Need-returns-in-Unspend
 returns-3 c =
-    let g = c.before.read3.given in
-    unspend_made _ _ g.0.1.0 (back w64 g.0.1.0 (search (rules, c.known_told3.given))) g.0.0 g.1
+    unspend_made _ _ c.in-Unspend.n (back w64 c.in-Unspend.n (search (rules, c.in-Unspend.known_told-in-Unspend-1-own.given))) c.in-Unspend.p c.in-Unspend.is
 
-returns-4 : tie.Need-returns-4
-returns-4 c = ap made_by (sym c.before.read4.given.1)
+returns-4 : tie.Need-returns-in-Pop
+returns-4 c = ap made_by (sym c.in-Pop.is)
 
-returns-5 : tie.Need-returns-5
-returns-5 c = ap made_by (sym c.enum_told.given.1)
+returns-5 : tie.Need-returns-in-Flush
+returns-5 c = ap made_by (sym c.in-Flush.is)
 
-returns-6 : tie.Need-returns-6
+returns-6 : tie.Need-returns-in-Change
 returns-6 c =
-    let g = c.before.read5.given in
-    change_made _ _ g.0.1.1.0 (back w64 g.0.1.1.0 (search (rules, c.known_told5.given))) g.0.0 g.0.1.0 g.0.1.1.1.0 g.0.1.1.1.1.0 g.1
+    change_made _ _ c.in-Change.n (back w64 c.in-Change.n (search (rules, c.in-Change.known_told-in-Change-1-own.given))) c.in-Change.adding c.in-Change.p c.in-Change.t c.in-Change.k c.in-Change.is
 
-returns-7 : tie.Need-returns-7
-returns-7 c = ap made_by (sym c.enum_told2.given.1)
+returns-7 : tie.Need-returns-in-Bad
+returns-7 c = ap made_by (sym c.in-Bad.is)
 
-returns-8 : tie.Need-returns-8
-returns-8 c = ap made_by (sym c.enum_told3.given.1)
+returns-8 : tie.Need-returns-in-Cut
+returns-8 c = ap made_by (sym c.in-Cut.is)
 
-returns-9 : tie.Need-returns-9
-returns-9 c = ap made_by (sym c.enum_told4.given.1)
+returns-9 : tie.Need-returns-in-End
+returns-9 c = ap made_by (sym c.in-End.is)
 
 pub made_by_spec : {M : Type 1} → statement M
 made_by_spec =

@@ -51,7 +51,7 @@ returns-3 c =
     let l = s.args.list.now in
     let z = s.args.number.0 in
     let v = back w64 z (search rules) in
-    append_37 n l z (sym c.before.before.before.flat_ok.ensures ∙ c.before.before.if-not-flat_ok.false) (ap is_negative (sym v) ∙ sym c.before.before.before.before.is_negative-negative.ensures ∙ c.before.if-negative.false) (leb-true 4096 n c.if-full.true)
+    append_37 n l z (sym c.before.before.before.flat_ok.ensures ∙ c.before.before.if-not-flat_ok.false) (ap is_negative (sym v) ∙ sym c.before.before.before.before.is_negative-negative.ensures ∙ c.before.if-negative.false) c.if-full.true
 
 mul_n : tie.Need-offset_bounds-list-count
 mul_n c = search rules
@@ -59,12 +59,12 @@ mul_n c = search rules
 slice_set_from_n : tie.Need-bounds-list-count
 slice_set_from_n c =
     let a = c.before.before.before.before.before.before.args in
-    omega (arith, (bounds a.count a.list.now (sym c.before.before.before.flat_ok.ensures ∙ c.before.before.if-not-flat_ok.false)).1, leb-false 4096 a.count c.if-full.false)
+    omega (arith, (bounds a.count a.list.now (sym c.before.before.before.flat_ok.ensures ∙ c.before.before.if-not-flat_ok.false)).1, c.if-full.false)
 
 add_t11 : tie.Need-overflow_add-result
 add_t11 c =
     let a = c.before.before.before.before.before.before.args in
-    omega (arith, leb-false 4096 a.count c.if-full.false)
+    omega (arith, c.if-full.false)
 
 same_length_4 : tie.Need-shape_of-list
 same_length_4 c = search rules
@@ -76,7 +76,7 @@ returns-4 c =
     let l = s.args.list.now in
     let z = s.args.number.0 in
     let v = back w64 z (search rules) in
-    append_end n l z (sym c.before.before.before.flat_ok.ensures ∙ c.before.before.if-not-flat_ok.false) (ap is_negative (sym v) ∙ sym c.before.before.before.before.is_negative-negative.ensures ∙ c.before.if-negative.false) (leb-false 4096 n c.if-full.false) _ (ap (set l n) v)
+    append_end n l z (sym c.before.before.before.flat_ok.ensures ∙ c.before.before.if-not-flat_ok.false) (ap is_negative (sym v) ∙ sym c.before.before.before.before.is_negative-negative.ensures ∙ c.before.if-negative.false) c.if-full.false _ (ap (set l n) v)
 
 pub append_box_spec : {M : Type 1} → statement M
 append_box_spec =

@@ -1,12 +1,12 @@
 -- `undo_pruning::compact` meets its contract. The invariant: of the i heights passed, the n that are kept stand in front, and what is behind i is as it was.
 use Prim.Native.Nat.{ℕ, ◌+◌, ◌-◌, ◌≤◌}
 use mathlib.Core.Path.{◌≡◌, refl, sym, subst}
-use mathlib.Core.Logic.{⊎_elim}
 use native.Mathlib.Omega.{arith}
 use borrow.Author.Rules.{rules}
 use Rattle.undo_pruning.proofs.PruneLaws.{Passed, passed_none, passed_kept, passed_dropped, passed_all}
 use Rattle.undo_pruning.proofs.compact.Statement.{statement}
 use Rattle.undo_pruning.proofs.compact.Tie as tie
+use Rattle.undo_pruning.proofs.compact.Lts.{then-lowest-h, else-lowest-h}
 use Rattle.undo_pruning.proofs.compact.Reads as reads
 use Rattle.undo_pruning.proofs.compact.Lts as lts
 
@@ -45,10 +45,10 @@ loop-again c =
     let l = c.before.before.before.loop-i in
     let a = c.before.before.before.before.args in (
       omega arith,
-      ⊎_elim
-          (λ w. passed_kept a.lowest l.i l.n a.heights.now l.heights (omega arith) l.invariant.1 _ c.if-lowest-h.n refl w.0.taken w.1)
-          (λ w. passed_dropped a.lowest l.i l.n a.heights.now l.heights (omega arith) l.invariant.1 _ c.if-lowest-h.n refl w.0.left w.1)
-          c.if-lowest-h.branch,
+      elim c.if-lowest-h.branch [
+        then-lowest-h w ↦ passed_kept a.lowest l.i l.n a.heights.now l.heights (omega arith) l.invariant.1 _ c.if-lowest-h.n refl w.if-lowest-h.true w.n-is
+        | else-lowest-h w ↦ passed_dropped a.lowest l.i l.n a.heights.now l.heights (omega arith) l.invariant.1 _ c.if-lowest-h.n refl w.if-lowest-h.false w.n-is
+      ],
     )
 
 same_length : tie.Need-shape_of-heights invariant_loop decreases_loop

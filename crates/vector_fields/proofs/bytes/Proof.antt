@@ -6,40 +6,34 @@ use lib.ListN.{length}
 use Rattle.vector_fields.proofs.bytes.Statement.{statement}
 use Rattle.vector_fields.proofs.bytes.Tie as tie
 
-abbrev invariant_loop : tie.invariant_loop
+abbrev invariant_loop : tie.invariant-loop-i
 invariant_loop list unit n i₀ i_end i = (i ≤ length list) × (i_end ≡ length list)
 
-abbrev decreases_loop : tie.decreases_loop
+abbrev decreases_loop : tie.decreases-loop-i
 decreases_loop list unit n i₀ i_end i = length list - i
 
-slice_aggregate_write_all : tie.Need-slice-aggregate-write-all invariant_loop decreases_loop
-slice_aggregate_write_all c = search rules
-
-write_all_requires : tie.Need-write-all-requires invariant_loop decreases_loop
+write_all_requires : tie.Need-write_all-requires invariant_loop decreases_loop
 write_all_requires c κs = search rules
 
-loop-holds : tie.Need-loop-init invariant_loop decreases_loop
+loop-holds : tie.Need-loop-i-init invariant_loop decreases_loop
 loop-holds c = search rules
 
-div_if1 : tie.Need-nonzero-div-if1 invariant_loop decreases_loop
-div_if1 c = search rules
-
-shared_slice_read_wide : tie.Need-shared-slice-read-wide invariant_loop decreases_loop
+shared_slice_read_wide : tie.Need-bounds-list-i invariant_loop decreases_loop
 shared_slice_read_wide c = search rules
 
 wide_requires : tie.Need-wide-requires invariant_loop decreases_loop
 wide_requires c κs = search rules
 
-print_hex_requires : tie.Need-print-hex-requires invariant_loop decreases_loop
+print_hex_requires : tie.Need-print_hex-requires invariant_loop decreases_loop
 print_hex_requires c κs = search rules
 
-add_i : tie.Need-overflow-add-i invariant_loop decreases_loop
+add_i : tie.Need-overflow_step-i invariant_loop decreases_loop
 add_i c = search rules
 
-loop-less : tie.Need-loop-smaller invariant_loop decreases_loop
+loop-less : tie.Need-loop-i-smaller invariant_loop decreases_loop
 loop-less c = search rules
 
-loop-again : tie.Need-loop-preserved invariant_loop decreases_loop
+loop-again : tie.Need-loop-i-preserved invariant_loop decreases_loop
 loop-again c = search rules
 
 returns : tie.Need-returns invariant_loop decreases_loop
@@ -51,10 +45,8 @@ bytes_spec =
     (tie.spec
     invariant_loop
     decreases_loop
-    slice_aggregate_write_all
     write_all_requires
     loop-holds
-    div_if1
     shared_slice_read_wide
     wide_requires
     print_hex_requires

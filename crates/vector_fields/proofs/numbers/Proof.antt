@@ -6,34 +6,34 @@ use lib.ListN.{length}
 use Rattle.vector_fields.proofs.numbers.Statement.{statement}
 use Rattle.vector_fields.proofs.numbers.Tie as tie
 
-abbrev invariant_loop : tie.invariant_loop
+abbrev invariant_loop : tie.invariant-loop-i
 invariant_loop list n i₀ i_end i = (i ≤ length list) × (i_end ≡ length list)
 
-abbrev decreases_loop : tie.decreases_loop
+abbrev decreases_loop : tie.decreases-loop-i
 decreases_loop list n i₀ i_end i = length list - i
 
 number_requires : tie.Need-number-requires invariant_loop decreases_loop
 number_requires c κs = search rules
 
-loop-holds : tie.Need-loop-init invariant_loop decreases_loop
+loop-holds : tie.Need-loop-i-init invariant_loop decreases_loop
 loop-holds c = search rules
 
-mul_signed_number : tie.Need-overflow-mul-signed-number invariant_loop decreases_loop
+mul_signed_number : tie.Need-offset_bounds-list-i invariant_loop decreases_loop
 mul_signed_number c = search rules
 
-shared_slice_copy_out_signed_number : tie.Need-shared-slice-copy-out-signed-number invariant_loop decreases_loop
+shared_slice_copy_out_signed_number : tie.Need-bounds-list-i invariant_loop decreases_loop
 shared_slice_copy_out_signed_number c = search rules
 
-signed_number_requires : tie.Need-signed-number-requires invariant_loop decreases_loop
+signed_number_requires : tie.Need-signed_number-requires invariant_loop decreases_loop
 signed_number_requires c κs = search rules
 
-add_i : tie.Need-overflow-add-i invariant_loop decreases_loop
+add_i : tie.Need-overflow_step-i invariant_loop decreases_loop
 add_i c = search rules
 
-loop-less : tie.Need-loop-smaller invariant_loop decreases_loop
+loop-less : tie.Need-loop-i-smaller invariant_loop decreases_loop
 loop-less c = search rules
 
-loop-again : tie.Need-loop-preserved invariant_loop decreases_loop
+loop-again : tie.Need-loop-i-preserved invariant_loop decreases_loop
 loop-again c = search rules
 
 returns : tie.Need-returns invariant_loop decreases_loop
