@@ -43,7 +43,7 @@ same_length_2 : tie.Need-shape_of-amounts-in-Listed
 same_length_2 c = search rules
 
 returns : tie.Need-returns-in-Listed
-returns c = 
+returns c =
     let e = sym c.before.before.before.before.before.before.before.before.before.before.get_i64.ensures ∙ c.before.before.before.before.before.before.before.before.before.in-Number.is in
     tokens_listed _ _ _ _ _ _ _ _ e _ c.before.before.before.before.before.before.before.before.read_count.ensures _ _ c.before.before.before.before.before.before.before.in-Value.is _ c.before.before.before.before.read_tokens.ensures _ (to_z-of_z {w = w64} (record { sfits = c.before.before.before.before.before.before.before.before.before.in-Number.known_told-1-own.given.0.1 })) _ _ c.in-Listed.is
 
@@ -54,12 +54,12 @@ same_length_4 : tie.Need-shape_of-amounts-in-Refused-read_tokens
 same_length_4 c = search rules
 
 returns-2 : tie.Need-returns-in-Refused-read_tokens
-returns-2 c = 
+returns-2 c =
     let e = sym c.before.before.before.before.before.before.before.before.before.before.get_i64.ensures ∙ c.before.before.before.before.before.before.before.before.before.in-Number.is in
     tokens_refused _ _ _ _ _ _ _ _ e _ c.before.before.before.before.before.before.before.before.read_count.ensures _ _ c.before.before.before.before.before.before.before.in-Value.is _ c.before.before.before.before.read_tokens.ensures _ c.in-Refused-read_tokens.is
 
 returns-3 : tie.Need-returns-in-Refused-read_count
-returns-3 c = 
+returns-3 c =
     let e = sym c.before.before.before.get_i64.ensures ∙ c.before.before.in-Number.is in
     let a = c.before.before.before.before.before.before.args in
     number_bad a.row.now a.at a.ids.now a.amounts.now _ _ _ _ e _ c.before.read_count.ensures _ c.in-Refused-read_count.is

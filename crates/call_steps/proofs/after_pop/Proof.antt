@@ -35,7 +35,7 @@ same_length_2 c = search rules
 
 -- src/lib.rt:238:1
 returns : tie.Need-returns-in-Number
-returns c = let a = c.before.before.before.before.before.before.before.before.before.args in  pop_done a.kind a.p a.counts a.lengths.now a.spills.now c.before.before.before.before.before.before.before.in-Number.number _ c.before.before.before.before.before.before.before.in-Number.after c.before.before.before.before.before.before.before.in-Number.staged c.before.before.before.before.before.before.before.in-Number.deleted _ _ c.before.before.before.before.before.before.before.in-Number.is (back w64 c.before.before.before.before.before.before.before.in-Number.number (search rules)) c.before.before.before.write_counts.ensures.0 c.before.before.before.write_counts.ensures.1
+returns c = let a = c.before.before.before.before.before.before.before.before.before.args in pop_done a.kind a.p a.counts a.lengths.now a.spills.now c.before.before.before.before.before.before.before.in-Number.number _ c.before.before.before.before.before.before.before.in-Number.after c.before.before.before.before.before.before.before.in-Number.staged c.before.before.before.before.before.before.before.in-Number.deleted _ _ c.before.before.before.before.before.before.before.in-Number.is (back w64 c.before.before.before.before.before.before.before.in-Number.number (search rules)) c.before.before.before.write_counts.ensures.0 c.before.before.before.write_counts.ensures.1
 
 -- src/lib.rt:238:1
 returns-2 : tie.Need-returns-in-Refused

@@ -31,7 +31,7 @@ room c =
     let h = c.if-room-n.false in
     let f = c.before.before.requires.1 in
     elim c.before.if-adding.branch [
-      then-adding w ↦ let u = w.room-is in (omega arith, λ e. omega arith)
+      | then-adding w ↦ let u = w.room-is in (omega arith, λ e. omega arith)
       | else-adding w ↦ let u = w.room-is in let t = w.if-adding.false in (omega arith, λ e. let z : ◌≡◌ {A = ℕ} 0 1 = cc in absurd (omega arith))
     ]
 

@@ -14,6 +14,7 @@ returns c =
     let a = c.args in
     let e = c.locate_alike-located.ensures in
     let size = record_size a.edition in
-    let limit = row_limit_of a.edition in
-    (c.located_code-code.ensures ∙ code_located size limit a.staged_counts a.staged.now a.table_counts a.table.now a.key.now _ e,
-      c.located_part-row.ensures ∙ inspect_located size limit a.staged_counts a.staged.now a.table_counts a.table.now a.key.now _ _ e refl)
+    let limit = row_limit_of a.edition in (
+      c.located_code-code.ensures ∙ code_located size limit a.staged_counts a.staged.now a.table_counts a.table.now a.key.now _ e,
+      c.located_part-row.ensures ∙ inspect_located size limit a.staged_counts a.staged.now a.table_counts a.table.now a.key.now _ _ e refl,
+    )

@@ -7,22 +7,22 @@ use borrow.Author.Rules.{rules}
 use Rattle.summary_rows.proofs.put_lines.Statement.{statement}
 use Rattle.summary_rows.proofs.put_lines.Tie as tie
 
-put_rows_requires : tie.Need-put-rows-requires
+put_rows_requires : tie.Need-put_rows-requires
 put_rows_requires c κs = search rules
 
-sub_free : tie.Need-overflow-sub-free
+sub_free : tie.Need-overflow_sub-free
 sub_free c = search rules
 
-mul_clear_places : tie.Need-overflow-mul-clear-places
+mul_clear_places : tie.Need-overflow_mul-spills
 mul_clear_places c = search rules
 
-mul_clear_places_2 : tie.Need-overflow-mul-clear-places-2
+mul_clear_places_2 : tie.Need-overflow_mul-free
 mul_clear_places_2 c = search rules
 
-clear_places_requires : tie.Need-clear-places-requires
+clear_places_requires : tie.Need-clear_places-requires
 clear_places_requires c κs = search rules
 
-same_length : tie.Need-same-length
+same_length : tie.Need-shape_of-summary
 same_length c = search rules
 
 returns : tie.Need-returns

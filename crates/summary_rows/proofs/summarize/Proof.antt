@@ -14,51 +14,51 @@ use borrow.Author.Rules.{rules}
 use Rattle.summary_rows.proofs.summarize.Statement.{statement}
 use Rattle.summary_rows.proofs.summarize.Tie as tie
 
-order_ok_requires : tie.Need-order-ok-requires
+order_ok_requires : tie.Need-order_ok-requires
 order_ok_requires c κs = search rules
 
-returns : tie.Need-returns
+returns : tie.Need-returns-then-not-order_ok
 returns c =
     let a = c.before.before.before.before.before.before.args in
-    made_10 (edition_of a.edition) (sources a.parent.now a.staged.now a.staged_counts.count a.table.now a.table_counts.count) a.counts.spills (take a.counts.len a.head.now) a.lines a.summary.now (sym c.before.order_ok.ensures ∙ not-true _ c.if1.true)
+    made_10 (edition_of a.edition) (sources a.parent.now a.staged.now a.staged_counts.count a.table.now a.table_counts.count) a.counts.spills (take a.counts.len a.head.now) a.lines a.summary.now (sym c.before.order_ok.ensures ∙ c.if-not-order_ok.true)
 
-is_negative_i32_requires : tie.Need-is-negative-i32-requires
+is_negative_i32_requires : tie.Need-is_negative_i32-requires
 is_negative_i32_requires c κs = search rules
 
-returns-2 : tie.Need-returns-2
+returns-2 : tie.Need-returns-then-is_negative_i32
 returns-2 c =
     let a = c.before.before.before.before.before.before.before.before.args in
     let e = back w32 a.counts.spills (search rules) in
-    made_11 (edition_of a.edition) (sources a.parent.now a.staged.now a.staged_counts.count a.table.now a.table_counts.count) a.counts.spills (take a.counts.len a.head.now) a.lines a.summary.now (sym c.before.before.before.order_ok.ensures ∙ not-false _ c.before.before.if1.false) (ap is_negative (sym e) ∙ sym c.before.is_negative_i32.ensures ∙ c.if2.true)
+    made_11 (edition_of a.edition) (sources a.parent.now a.staged.now a.staged_counts.count a.table.now a.table_counts.count) a.counts.spills (take a.counts.len a.head.now) a.lines a.summary.now (sym c.before.before.before.order_ok.ensures ∙ c.before.before.if-not-order_ok.false) (ap is_negative (sym e) ∙ sym c.before.is_negative_i32.ensures ∙ c.if-is_negative_i32.true)
 
-usize_from_i32_requires : tie.Need-usize-from-i32-requires
-usize_from_i32_requires c κs = sym c.before.is_negative_i32.ensures ∙ c.if2.false
+usize_from_i32_requires : tie.Need-usize_from_i32-rows-requires
+usize_from_i32_requires c κs = sym c.before.is_negative_i32.ensures ∙ c.if-is_negative_i32.false
 
-returns-3 : tie.Need-returns-3
+returns-3 : tie.Need-returns-then-lines-rows
 returns-3 c =
     let a = c.before.before.before.before.before.before.before.before.before.before.args in
     let e = back w32 a.counts.spills (search rules) in
-    made_36 (edition_of a.edition) (sources a.parent.now a.staged.now a.staged_counts.count a.table.now a.table_counts.count) a.counts.spills (take a.counts.len a.head.now) a.lines a.summary.now (sym c.before.before.before.before.before.order_ok.ensures ∙ not-false _ c.before.before.before.before.if1.false) (ap is_negative (sym e) ∙ sym c.before.before.before.is_negative_i32.ensures ∙ c.before.before.if2.false)
-    _ (c.before.usize_from_i32.ensures ∙ ap nat_abs e) c.if3.true
+    made_36 (edition_of a.edition) (sources a.parent.now a.staged.now a.staged_counts.count a.table.now a.table_counts.count) a.counts.spills (take a.counts.len a.head.now) a.lines a.summary.now (sym c.before.before.before.before.before.order_ok.ensures ∙ c.before.before.before.before.if-not-order_ok.false) (ap is_negative (sym e) ∙ sym c.before.before.before.is_negative_i32.ensures ∙ c.before.before.if-is_negative_i32.false)
+    _ (c.before.usize_from_i32-rows.ensures ∙ ap nat_abs e) c.if-lines-rows.true
 
-summarize_spills_requires : tie.Need-summarize-spills-requires
+summarize_spills_requires : tie.Need-summarize_spills-requires
 summarize_spills_requires c κs =
     let s = c.before.before.before.before.before.before.before.before.before.before.before in
     let a = s.args in
     let e = back w32 a.counts.spills (search rules) in
-    let n = ap is_negative (sym e) ∙ sym c.before.before.before.before.is_negative_i32.ensures ∙ c.before.before.before.if2.false in
+    let n = ap is_negative (sym e) ∙ sym c.before.before.before.before.is_negative_i32.ensures ∙ c.before.before.before.if-is_negative_i32.false in
     let p = s.requires.0 in
-    (p.bounds.within, p.table_bounds.within, spills_below a.counts.spills n (search rules) _ (c.before.before.usize_from_i32.ensures ∙ ap nat_abs e), p.apart, c.before.if3.false, s.requires.1)
+    (p.bounds.within, p.table_bounds.within, spills_below a.counts.spills n (search rules) _ (c.before.before.usize_from_i32-rows.ensures ∙ ap nat_abs e), p.apart, c.before.if-lines-rows.false, s.requires.1)
 
-same_length : tie.Need-same-length
+same_length : tie.Need-shape_of-summary
 same_length c = search rules
 
-returns-4 : tie.Need-returns-4
+returns-4 : tie.Need-returns
 returns-4 c =
     let a = c.before.before.before.before.before.before.before.before.before.before.before.before.before.before.args in
     let e = back w32 a.counts.spills (search rules) in
-    made_on (edition_of a.edition) (sources a.parent.now a.staged.now a.staged_counts.count a.table.now a.table_counts.count) a.counts.spills (take a.counts.len a.head.now) a.lines a.summary.now (sym c.before.before.before.before.before.before.before.before.before.order_ok.ensures ∙ not-false _ c.before.before.before.before.before.before.before.before.if1.false) (ap is_negative (sym e) ∙ sym c.before.before.before.before.before.before.before.is_negative_i32.ensures ∙ c.before.before.before.before.before.before.if2.false)
-    _ (c.before.before.before.before.before.usize_from_i32.ensures ∙ ap nat_abs e) c.before.before.before.before.if3.false _ c.before.before.summarize_spills.ensures
+    made_on (edition_of a.edition) (sources a.parent.now a.staged.now a.staged_counts.count a.table.now a.table_counts.count) a.counts.spills (take a.counts.len a.head.now) a.lines a.summary.now (sym c.before.before.before.before.before.before.before.before.before.order_ok.ensures ∙ c.before.before.before.before.before.before.before.before.if-not-order_ok.false) (ap is_negative (sym e) ∙ sym c.before.before.before.before.before.before.before.is_negative_i32.ensures ∙ c.before.before.before.before.before.before.if-is_negative_i32.false)
+    _ (c.before.before.before.before.before.usize_from_i32-rows.ensures ∙ ap nat_abs e) c.before.before.before.before.if-lines-rows.false _ c.before.before.summarize_spills.ensures
 
 pub summarize_spec : {M : Type 1} → statement M
 summarize_spec =

@@ -46,7 +46,7 @@ loop-again c =
     let a = c.before.before.before.before.args in (
       omega arith,
       elim c.if-lowest-h.branch [
-        then-lowest-h w ↦ passed_kept a.lowest l.i l.n a.heights.now l.heights (omega arith) l.invariant.1 _ c.if-lowest-h.n refl w.if-lowest-h.true w.n-is
+        | then-lowest-h w ↦ passed_kept a.lowest l.i l.n a.heights.now l.heights (omega arith) l.invariant.1 _ c.if-lowest-h.n refl w.if-lowest-h.true w.n-is
         | else-lowest-h w ↦ passed_dropped a.lowest l.i l.n a.heights.now l.heights (omega arith) l.invariant.1 _ c.if-lowest-h.n refl w.if-lowest-h.false w.n-is
       ],
     )
