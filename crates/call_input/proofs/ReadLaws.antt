@@ -7,7 +7,7 @@ use lib.IntN.{ℤ, pos, negsuc}
 use lib.ListN.{length, take, drop}
 use lib.Seq.{take_at, take-add}
 use borrow.Rule.Slice.PartMut.{put_mid, post_of}
-use Rattle.io.specs.Counts.{clamp_len}
+use Rattle.call_input.specs.Counts.{clamp_len}
 use Rattle.stores.specs.Stores.{write}
 use Rattle.stores.proofs.StoreLaws.{length_part}
 use Rattle.call_input.specs.declared.Place.{Place}

@@ -1,3 +1,4 @@
 -- The definitions that the contracts of `call_input` cite.
+pub mod Counts
 pub mod Place
 pub mod Waiting

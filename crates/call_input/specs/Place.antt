@@ -1,6 +1,6 @@
 -- Where a session of the call runner stands in its input, and what it does next (document 01, "Call runner"; table, "Runner").
-use Rattle.std.specs.Prelude.{ℕ, zero, suc, ◌+◌, ◌-◌, Bool, true, false, cond, eqb, ℤ, pos, negsuc}
-use Rattle.io.specs.Counts.{clamp_len}
+use Rattle.std.specs.Prelude.{ℕ, zero, suc, ◌+◌, Bool, true, false, cond, eqb, ℤ, pos, negsuc}
+use Rattle.call_input.specs.Counts.{clamp_len}
 use Rattle.call_input.specs.declared.Next.{Next}
 use Rattle.call_input.specs.declared.Next.TheVariants.{Run, Read, End, ReadFailed, WriteFailed}
 use Rattle.call_input.specs.declared.Place.{Place}

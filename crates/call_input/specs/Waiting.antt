@@ -1,6 +1,6 @@
 -- The bytes that wait in the input's buffer.
-use Rattle.std.specs.Prelude.{ℕ, ◌+◌, ◌-◌, ◌≡◌, List, ◌++◌, ℤ, length, take, drop}
-use Rattle.io.specs.Counts.{clamp_len}
+use Rattle.std.specs.Prelude.{ℕ, ◌-◌, ◌≡◌, List, ◌++◌, ℤ, length, take, drop}
+use Rattle.call_input.specs.Counts.{clamp_len}
 use Rattle.call_input.specs.declared.Place.{Place}
 use Rattle.call_input.specs.Place.{taken}
 

@@ -3,10 +3,11 @@
 #![tactic(auto)]
 
 ghost use Rattle.std.specs.Prelude.{◌≡◌, ◌+◌, ◌-◌, ◌≤◌, ◌<◌, length};
+ghost use Rattle.call_input.specs.Counts.{clamp_len};
 ghost use Rattle.call_input.specs.Place.{at_start, goes_on, after_read, taken, after_calls, called};
 ghost use Rattle.call_input.specs.Waiting.{Fed};
 
-use libc::STDIN_FILENO;
+use std::io::Read;
 
 // What is done next. `Read` and `End` hold the refusal, or 0, that stands behind the calls made where the input has no more bytes.
 #[derive(Clone, Copy)]
@@ -67,12 +68,31 @@ fn after_read(got: isize, code: u8) -> Next
     Next::Run
 }
 
+// How many bytes more wait after a read that answered so and had this room.
+fn count(got: isize, room: usize) -> usize
+    ensures { result ≡ clamp_len got room }
+{
+    if got < 0 {
+        return 0;
+    }
+    let n = got as usize;
+    if n < room { n } else { room }
+}
+
+// Reads once: how many bytes were put, or -1 where the read failed.
+fn read_once<R: Read>(source: &mut R, part: &mut [u8]) -> isize {
+    match source.read(part) {
+        Ok(n) => n as isize,
+        Err(_) => -1,
+    }
+}
+
 // Where a session stands whose read behind `left` bytes answered `got`: as many bytes more wait.
 fn took(got: isize, input: &[u8], left: usize, made: u64, code: u8) -> Place
     requires { left ≤ length input.now }
     ensures { result ≡ taken got (length input.now - left) left made code }
 {
-    let n = io::count(got, &input[left..]);
+    let n = count(got, input.len() - left);
     let have = left + n;
     let next = after_read(got, code);
     Place {
@@ -84,7 +104,7 @@ fn took(got: isize, input: &[u8], left: usize, made: u64, code: u8) -> Place
 }
 
 // Moves what waits to the front of the buffer and reads once behind it. A call has at most 19 bytes, so that there is room.
-pub fn read(input: &mut [u8], p: Place, code: u8) -> Place
+pub fn read<R: Read>(source: &mut R, input: &mut [u8], p: Place, code: u8) -> Place
     requires { (p.at ≤ p.have) × (p.have ≤ length input.old) }
     ensures { Fed p.at p.have p.made code input.old result input.new }
 {
@@ -93,7 +113,7 @@ pub fn read(input: &mut [u8], p: Place, code: u8) -> Place
     let made = p.made;
     let left = have - at;
     stores::move_bytes(input, at, 0, left);
-    let got = libc::read(STDIN_FILENO, &mut input[left..]);
+    let got = read_once(source, &mut input[left..]);
     took(got, input, left, made, code)
 }
 

@@ -6,6 +6,6 @@
 // compare/runner_model.py.
 #![tactic(auto)]
 
-fn main() {
-    call_session::make_calls_of_input();
+fn main(rt: HostRuntime) {
+    call_session::make_calls_of_input(&mut rt.stdin(), &mut rt.stdout(), &rt);
 }

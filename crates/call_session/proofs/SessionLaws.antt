@@ -6,7 +6,7 @@ use mathlib.Core.List.{List, [], ◌∷◌, ◌++◌, append-nil}
 use native.Mathlib.Omega.{arith}
 use lib.IntN.{ℤ, pos, negsuc}
 use lib.ListN.{length, drop, replicate}
-use Rattle.io.specs.Counts.{clamp_len}
+use Rattle.call_input.specs.Counts.{clamp_len}
 use Rattle.calls.specs.Calls.{call_at}
 use Rattle.index_types.specs.declared.SpillCounts.{SpillCounts}
 use Rattle.call_steps.specs.State.{State, state}

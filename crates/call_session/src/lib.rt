@@ -1,7 +1,7 @@
-// Makes the calls that standard input holds (document 01, "Call runner") and prints a line for each, then a line for each parent.
+// Makes the calls that an input holds (document 01, "Call runner") and prints a line for each, then a line for each parent.
 // The input passes through one buffer, the answers of at most 1,024 calls and their lines through others, so that memory stays constant whatever
 // the input's length. A read or a write that fails ends the program with a message to standard error, and then no parent's line is printed: an output
-// is whole where it ends with the parents' lines. (A program of Rattle has no exit status of its own.)
+// is whole where it ends with the parents' lines. (The exit status is 0 then too.)
 #![tactic(auto)]
 
 ghost use Rattle.std.specs.Prelude.{◌≡◌, ◌+◌, ◌≤◌, ◌<◌, length};
@@ -19,11 +19,11 @@ ghost use Rattle.call_session.specs.Session.{Makes, Keeps, Ends};
 
 use call_input::{Next, Place};
 use index_types::SpillCounts;
-use libc::STDERR_FILENO;
 use runner::Progress;
 use runner_start::{
     ALL_IDS, ALL_LENGTHS, ALL_NUMBERS, ALL_SPILLS, DELETED_BYTES, STAGED_BYTES, TABLE_BYTES,
 };
+use std::io::{Read, Write};
 
 // The counts of the lists, and where the session stands in its input.
 #[derive(Clone, Copy)]
@@ -80,7 +80,8 @@ fn make_calls(
 }
 
 // Makes calls of the input's buffer and prints their lines.
-fn run(
+fn run<W: Write>(
+    to: &mut W,
     input: &[u8],
     ids: &mut [u8],
     numbers: &mut [i64],
@@ -111,7 +112,7 @@ fn run(
     let bytes = p.at;
     let n = p.made;
     let end = p.end;
-    let place_after = call_output::tell_calls(place, bytes, n, end, answers, popped, out);
+    let place_after = call_output::tell_calls(to, place, bytes, n, end, answers, popped, out);
     Session {
         counts: counts_after,
         place: place_after,
@@ -120,12 +121,13 @@ fn run(
 
 // ---- the end
 
-fn say(message: &[u8]) {
-    io::write_all(STDERR_FILENO, message);
+fn say<E: Eprint>(errors: &E, message: &str) {
+    let _ = errors.eprintln(message);
 }
 
 // Prints what stands behind the calls' lines: the state must be what all calls of the input leave.
-fn print_end(
+fn print_end<W: Write>(
+    to: &mut W,
     made: u64,
     code: u8,
     numbers: &[i64],
@@ -138,15 +140,20 @@ fn print_end(
     ensures { out.new ≡ sets out.old 0 (end_lines (made + 1) code numbers.now lengths.now spills.now) }
 {
     let ordinal = made + 1;
-    call_output::print_end(ordinal, code, numbers, lengths, spills, out)
+    call_output::print_end(to, ordinal, code, numbers, lengths, spills, out)
 }
 
-fn say_write_failed() {
-    say(b"call_runner: standard output cannot be written: the lines end early\n");
+fn say_write_failed<E: Eprint>(errors: &E) {
+    say(
+        errors,
+        "call_runner: standard output cannot be written: the lines end early",
+    );
 }
 
 // Prints the lines of the end where the session has come to it, and else says why there are none.
-fn finish(
+fn finish<W: Write, E: Eprint>(
+    to: &mut W,
+    errors: &E,
     numbers: &[i64; ALL_NUMBERS],
     lengths: &[usize; ALL_LENGTHS],
     spills: &[i32; ALL_SPILLS],
@@ -159,34 +166,37 @@ fn finish(
     let next = p.next;
     match next {
         Next::End(code) => {
-            if !print_end(made, code, numbers, lengths, spills, out) {
-                say_write_failed();
+            if !print_end(to, made, code, numbers, lengths, spills, out) {
+                say_write_failed(errors);
             }
         }
         Next::WriteFailed => {
-            say_write_failed();
+            say_write_failed(errors);
         }
         Next::ReadFailed => {
-            say(b"call_runner: standard input cannot be read: the lines end early\n");
+            say(
+                errors,
+                "call_runner: standard input cannot be read: the lines end early",
+            );
         }
         Next::Run => {
-            say(b"call_runner: the input is too long\n");
+            say(errors, "call_runner: the input is too long");
         }
         Next::Read(_) => {
-            say(b"call_runner: the input is too long\n");
+            say(errors, "call_runner: the input is too long");
         }
     }
 }
 
 // ---- the session
 
-fn read(input: &mut [u8], s: Session, code: u8) -> Session
+fn read<R: Read>(source: &mut R, input: &mut [u8], s: Session, code: u8) -> Session
     requires { (s.place.at ≤ s.place.have) × (s.place.have ≤ length input.old) }
     ensures { (result.counts ≡ s.counts) × Fed s.place.at s.place.have s.place.made code input.old result.place input.new }
 {
     let counts = s.counts;
     let place = s.place;
-    let place_after = call_input::read(input, place, code);
+    let place_after = call_input::read(source, input, place, code);
     Session {
         counts,
         place: place_after,
@@ -194,7 +204,9 @@ fn read(input: &mut [u8], s: Session, code: u8) -> Session
 }
 
 // Makes calls or reads, as the session asks.
-fn turn(
+fn turn<R: Read, W: Write>(
+    source: &mut R,
+    to: &mut W,
     input: &mut [u8; 65536],
     ids: &mut [u8; ALL_IDS],
     numbers: &mut [i64; ALL_NUMBERS],
@@ -217,19 +229,20 @@ fn turn(
     let next = place.next;
     match next {
         Next::Run => run(
-            input, ids, numbers, lengths, spills, staged, table, deleted, answers, popped, out, s,
+            to, input, ids, numbers, lengths, spills, staged, table, deleted, answers, popped, out,
+            s,
         ),
-        Next::Read(code) => read(input, s, code),
+        Next::Read(code) => read(source, input, s, code),
         Next::End(_) => s,
         Next::ReadFailed => s,
         Next::WriteFailed => s,
     }
 }
 
-// Makes the calls of standard input. A turn makes at most 1,024 calls: 2^53 turns keep the ordinals below 2^63.
-pub fn make_calls_of_input() {
-    let mut input = io::large_buffer();
-    let mut out = io::large_buffer();
+// Makes the calls of the input. A turn makes at most 1,024 calls: 2^53 turns keep the ordinals below 2^63.
+pub fn make_calls_of_input<R: Read, W: Write, E: Eprint>(source: &mut R, to: &mut W, errors: &E) {
+    let mut input = [0u8; 65536];
+    let mut out = [0u8; 65536];
     let mut ids = runner_start::parent_ids();
     let mut numbers = [0i64; ALL_NUMBERS];
     let mut lengths = [0usize; ALL_LENGTHS];
@@ -243,6 +256,8 @@ pub fn make_calls_of_input() {
     let mut turns: u64 = 9007199254740992;
     while 0 < turns {
         s = turn(
+            source,
+            to,
             &mut input,
             &mut ids,
             &mut numbers,
@@ -265,5 +280,5 @@ pub fn make_calls_of_input() {
         }
     }
     let place = s.place;
-    finish(&numbers, &lengths, &spills, &mut out, place);
+    finish(to, errors, &numbers, &lengths, &spills, &mut out, place);
 }

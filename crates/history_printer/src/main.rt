@@ -6,12 +6,9 @@ ghost use Rattle.std.specs.Prelude.{◌≡◌, ◌≤◌, length, take};
 ghost use Rattle.history_growth.specs.Listing.{histories, bytes_of};
 
 use index_types::Wrote;
-use libc::{STDERR_FILENO, STDOUT_FILENO};
 use short_histories::HISTORIES_LENGTH;
-
-fn print(text: &[u8]) {
-    io::write_all(STDOUT_FILENO, text);
-}
+use std::io;
+use std::io::{BufWriter, Write};
 
 fn wide(x: u8) -> usize
     ensures { result ≤ 255 }
@@ -20,37 +17,37 @@ fn wide(x: u8) -> usize
 }
 
 // A call by its number.
-fn print_call(number: u8) {
+fn print_call<W: Write>(to: &mut W, number: u8) -> io::Result<()> {
     match number {
-        1 => print(b"append 1"),
-        2 => print(b"append 2"),
-        3 => print(b"spend 1"),
-        4 => print(b"spend 2"),
-        5 => print(b"undo"),
-        _ => print(b"flush"),
+        1 => to.write_all(b"append 1"),
+        2 => to.write_all(b"append 2"),
+        3 => to.write_all(b"spend 1"),
+        4 => to.write_all(b"spend 2"),
+        5 => to.write_all(b"undo"),
+        _ => to.write_all(b"flush"),
     }
 }
 
 // A line of the calls from `at` up to `end`.
-fn print_history(list: &[u8], at: usize, end: usize)
+fn print_history<W: Write>(to: &mut W, list: &[u8], at: usize, end: usize) -> io::Result<()>
     requires { (at ≤ end) × (end ≤ length list.now) }
 {
     if at == end {
-        print(b"no call");
+        to.write_all(b"no call")?;
     }
     let mut i = at;
     while i < end {
         if at < i {
-            print(b", ");
+            to.write_all(b", ")?;
         }
-        print_call(list[i]);
+        print_call(to, list[i])?;
         i += 1;
     }
-    print(b"\n");
+    to.write_all(b"\n")
 }
 
 // Prints the histories, which are the first `end` bytes.
-fn print_histories(list: &[u8], end: usize)
+fn print_histories<W: Write>(to: &mut W, list: &[u8], end: usize) -> io::Result<()>
     requires { (end ≤ length list.now) × (take end list.now ≡ bytes_of histories) }
 {
     let mut at = 0;
@@ -58,22 +55,22 @@ fn print_histories(list: &[u8], end: usize)
         let n = wide(list[at]);
         let from = at + 1;
         if end - from < n {
-            return;
+            return Ok(());
         }
-        print_history(list, from, from + n);
+        print_history(to, list, from, from + n)?;
         at = from + n;
     }
+    Ok(())
 }
 
-fn main() {
+fn main(rt: HostRuntime) -> io::Result<()> {
     let mut out = [0u8; HISTORIES_LENGTH];
     match short_histories::list_histories(&mut out) {
-        Wrote::Next(end) => print_histories(&out, end),
-        Wrote::Refused(_) => {
-            io::write_all(
-                STDERR_FILENO,
-                b"history_printer: the output is too short (32)\n",
-            );
+        Wrote::Next(end) => {
+            let mut to = BufWriter::new(rt.alloc(), rt.stdout())?;
+            print_histories(&mut to, &out, end)?;
+            to.flush()
         }
+        Wrote::Refused(_) => rt.eprintln("history_printer: the output is too short (32)"),
     }
 }

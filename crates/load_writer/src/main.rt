@@ -6,14 +6,15 @@
 ghost use Rattle.std.specs.Prelude.{◌≡◌, ◌≤◌, ◌<◌, length, take};
 ghost use Rattle.load.specs.Bytes.{load_bytes};
 
-use libc::{STDERR_FILENO, STDOUT_FILENO};
 use load::{Generated, Source};
+use std::env::Env;
+use std::io::Write;
 
 // The most calls of a piece: 10 bytes each fit in the buffer.
 const PIECE: u64 = 6553;
 
-fn say(message: &[u8]) {
-    io::write_all(STDERR_FILENO, message);
+fn say<E: Eprint>(errors: &E, message: &str) {
+    let _ = errors.eprintln(message);
 }
 
 // ---- the arguments
@@ -58,19 +59,21 @@ fn number_of(text: &[u8]) -> Argument {
     Argument::Is(n)
 }
 
-fn number_at(i: usize) -> Argument {
+fn number_at<E: Env>(env: &E, i: usize) -> Argument {
     let mut text = [0u8; 32];
-    let n = os::arg(i, &mut text);
-    number_of(&text[..n])
+    match env.arg(i, &mut text) {
+        Ok(n) => number_of(&text[..n]),
+        Err(_) => Argument::NoNumber,
+    }
 }
 
 // ---- the load
 
 // Hands the next calls over, the first `end` bytes: whether all of them were taken.
-fn hand_calls(g: Source, count: u64, out: &[u8], end: usize) -> bool
+fn hand_calls<W: Write>(to: &mut W, g: Source, count: u64, out: &[u8], end: usize) -> bool
     requires { (end ≤ length out.now) × (take end out.now ≡ load_bytes count g) }
 {
-    io::write_all(STDOUT_FILENO, &out[..end])
+    to.write_all(&out[..end]).is_ok()
 }
 
 // What follows a piece: the generator after it, or that no calls follow.
@@ -81,17 +84,26 @@ enum Next {
 }
 
 // Writes the next calls, at most a piece of them.
-fn write_piece(g: Source, count: u64, out: &mut [u8; 65536]) -> Next {
+fn write_piece<W: Write, E: Eprint>(
+    to: &mut W,
+    errors: &E,
+    g: Source,
+    count: u64,
+    out: &mut [u8; 65536],
+) -> Next {
     match load::go_on(g, count, out) {
         Generated::Written(n, after) => {
-            if hand_calls(g, count, out, n) {
+            if hand_calls(to, g, count, out, n) {
                 return Next::From(after);
             }
-            say(b"load_writer: standard output cannot be written: the calls end early\n");
+            say(
+                errors,
+                "load_writer: standard output cannot be written: the calls end early",
+            );
             Next::Nothing
         }
         Generated::Refused(_) => {
-            say(b"load_writer: the state is 0 (38)\n");
+            say(errors, "load_writer: the state is 0 (38)");
             Next::Nothing
         }
     }
@@ -105,8 +117,8 @@ fn piece_of(left: u64) -> u64
     if left < PIECE { left } else { PIECE }
 }
 
-fn write_load(state: u64, count: u64) {
-    let mut out = io::large_buffer();
+fn write_load<W: Write, E: Eprint>(to: &mut W, errors: &E, state: u64, count: u64) {
+    let mut out = [0u8; 65536];
     let mut g = Source {
         state,
         boxes: 0,
@@ -115,7 +127,7 @@ fn write_load(state: u64, count: u64) {
     let mut left = count;
     while 0 < left {
         let n = piece_of(left);
-        match write_piece(g, n, &mut out) {
+        match write_piece(to, errors, g, n, &mut out) {
             Next::From(after) => {
                 g = after;
                 left -= n;
@@ -127,16 +139,19 @@ fn write_load(state: u64, count: u64) {
     }
 }
 
-fn usage() {
-    say(b"load_writer STATE CALLS: two numbers in decimal digits\n");
+fn usage<E: Eprint>(errors: &E) {
+    say(
+        errors,
+        "load_writer STATE CALLS: two numbers in decimal digits",
+    );
 }
 
-fn main() {
-    match number_at(1) {
-        Argument::Is(state) => match number_at(2) {
-            Argument::Is(count) => write_load(state, count),
-            Argument::NoNumber => usage(),
+fn main(rt: HostRuntime) {
+    match number_at(&rt, 1) {
+        Argument::Is(state) => match number_at(&rt, 2) {
+            Argument::Is(count) => write_load(&mut rt.stdout(), &rt, state, count),
+            Argument::NoNumber => usage(&rt),
         },
-        Argument::NoNumber => usage(),
+        Argument::NoNumber => usage(&rt),
     }
 }

@@ -6,6 +6,8 @@ ghost use Rattle.balance.specs.Boxes.{add_box, subtract_box};
 
 use balance::{Balance, Outcome};
 use index_types::{TOKEN_ID_BYTES, TOKEN_LIMIT};
+use std::io;
+use std::io::Write;
 
 // How a balance is changed.
 #[derive(Clone, Copy)]
@@ -66,18 +68,18 @@ fn subtract_in_place(old: Balance, nanos: i64, ids: &[u8], amounts: &[i64], coun
     }
 }
 
-fn show(name: &[u8], outcome: Outcome) {
+fn show<W: Write>(to: &mut W, name: &[u8], outcome: Outcome) -> io::Result<()> {
     let answer = outcome.answer;
     let after = outcome.balance;
     let ids = after.ids;
     let amounts = after.amounts;
     let count = after.count;
-    vector_line::start(name);
-    vector_line::code(vector_line::code_of(answer));
-    vector_line::signed_number(after.nanos);
-    vector_fields::bytes(&ids, 32, count);
-    vector_fields::numbers(&amounts, count);
-    vector_line::end();
+    vector_line::start(to, name)?;
+    vector_line::code(to, vector_line::code_of(answer))?;
+    vector_line::signed_number(to, after.nanos)?;
+    vector_fields::bytes(to, &ids, 32, count)?;
+    vector_fields::numbers(to, &amounts, count)?;
+    vector_line::end(to)
 }
 
 fn changed(
@@ -97,7 +99,7 @@ fn changed(
 }
 
 // A balance, and a box: its nanoErgs, ids, amounts and how many tokens.
-pub fn replay(name: &[u8], change: Change, s: &[u8]) {
+pub fn replay<W: Write>(to: &mut W, name: &[u8], change: Change, s: &[u8]) -> io::Result<()> {
     let held = balance_at(s, 0);
     let old = held.balance;
     let mut ids = [0u8; 4128];
@@ -116,5 +118,5 @@ pub fn replay(name: &[u8], change: Change, s: &[u8]) {
         &amounts[0..a_len],
         count.n,
     );
-    show(name, outcome);
+    show(to, name, outcome)
 }

@@ -1,9 +1,12 @@
 // The calls that change neither head nor lists of spills.
 use super::{Call, Given, show};
 use segment_id::Kind;
+use std::io;
+use std::io::Write;
 
 // A page: the offset is the call's number; its length and the list that is borrowed for it stand behind the other lists.
-fn page<'a>(
+fn page<'a, W: Write>(
+    to: &mut W,
     name: &[u8],
     parent: &[u8; 32],
     given: Given,
@@ -12,12 +15,13 @@ fn page<'a>(
     table: &'a [u8],
     s: &[u8],
     at: usize,
-) {
+) -> io::Result<()> {
     let mut places = [0i64; 128];
     let length = vector_fields::size_at(s, at);
     let part = vector_fields::numbers_at(s, length.next, &mut places);
     let len = part.len;
     paged(
+        to,
         name,
         parent,
         given,
@@ -26,10 +30,11 @@ fn page<'a>(
         table,
         length.n,
         &mut places[0..len],
-    );
+    )
 }
 
-fn paged<'a>(
+fn paged<'a, W: Write>(
+    to: &mut W,
     name: &[u8],
     parent: &[u8; 32],
     given: Given,
@@ -38,7 +43,7 @@ fn paged<'a>(
     table: &'a [u8],
     length: usize,
     places: &mut [i64],
-) {
+) -> io::Result<()> {
     let edition = given.edition;
     let counts = given.counts;
     let staged_counts = given.staged;
@@ -57,11 +62,12 @@ fn paged<'a>(
         table,
         places,
     );
-    show::paged(name, answer, places);
+    show::paged(to, name, answer, places)
 }
 
 // Replays a call that changes nothing: a tally, a page, the test of the lists, or where a row stands.
-pub fn ask<'a>(
+pub fn ask<'a, W: Write>(
+    to: &mut W,
     name: &[u8],
     call: Call,
     parent: &[u8; 32],
@@ -72,14 +78,14 @@ pub fn ask<'a>(
     deleted: &[u8],
     s: &[u8],
     at: usize,
-) {
+) -> io::Result<()> {
     let edition = given.edition;
     let counts = given.counts;
     let staged_counts = given.staged;
     let table_counts = given.table;
     let deleted_counts = given.deleted;
     match call {
-        Call::Page => page(name, parent, given, head, staged, table, s, at),
+        Call::Page => page(to, name, parent, given, head, staged, table, s, at),
         Call::Tally => {
             let answer = segment_buffer::tally(
                 edition,
@@ -91,7 +97,7 @@ pub fn ask<'a>(
                 table_counts,
                 table,
             );
-            show::tallied(name, answer);
+            show::tallied(to, name, answer)
         }
         Call::Lists => {
             let fit = segment_buffer::lists_ok(
@@ -103,7 +109,7 @@ pub fn ask<'a>(
                 deleted_counts,
                 deleted,
             );
-            show::fit(name, fit);
+            show::fit(to, name, fit)
         }
         _ => {
             let key = segment_id::row_key(parent, Kind::Box, counts.spills);
@@ -115,7 +121,7 @@ pub fn ask<'a>(
                 table_counts,
                 table,
             );
-            show::located(name, located);
+            show::located(to, name, located)
         }
     }
 }

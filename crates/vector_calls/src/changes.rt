@@ -1,15 +1,18 @@
 // The calls that change a head or lists of spills.
 use super::{Given, show};
 use index_types::{BoxNumber, TxNumber};
+use std::io;
+use std::io::Write;
 
 // Replays an append of a box.
-pub fn append_box(
+pub fn append_box<W: Write>(
+    to: &mut W,
     name: &[u8],
     parent: &[u8; 32],
     given: Given,
     head: &mut [i64],
     staged: &mut [u8],
-) {
+) -> io::Result<()> {
     let edition = given.edition;
     let counts = given.counts;
     let number = BoxNumber(given.number);
@@ -23,17 +26,18 @@ pub fn append_box(
         staged_counts,
         staged,
     );
-    show::appended(name, answer, head, staged);
+    show::appended(to, name, answer, head, staged)
 }
 
 // Replays an append of a transaction.
-pub fn append_tx(
+pub fn append_tx<W: Write>(
+    to: &mut W,
     name: &[u8],
     parent: &[u8; 32],
     given: Given,
     head: &mut [i64],
     staged: &mut [u8],
-) {
+) -> io::Result<()> {
     let edition = given.edition;
     let counts = given.counts;
     let number = TxNumber(given.number);
@@ -47,11 +51,12 @@ pub fn append_tx(
         staged_counts,
         staged,
     );
-    show::appended(name, answer, head, staged);
+    show::appended(to, name, answer, head, staged)
 }
 
 // Replays a pop of a box.
-pub fn pop_box(
+pub fn pop_box<W: Write>(
+    to: &mut W,
     name: &[u8],
     parent: &[u8; 32],
     given: Given,
@@ -59,7 +64,7 @@ pub fn pop_box(
     staged: &mut [u8],
     table: &[u8],
     deleted: &mut [u8],
-) {
+) -> io::Result<()> {
     let edition = given.edition;
     let counts = given.counts;
     let staged_counts = given.staged;
@@ -77,11 +82,12 @@ pub fn pop_box(
         deleted_counts,
         deleted,
     );
-    show::popped_box(name, answer, head, staged, deleted);
+    show::popped_box(to, name, answer, head, staged, deleted)
 }
 
 // Replays a pop of a transaction.
-pub fn pop_tx(
+pub fn pop_tx<W: Write>(
+    to: &mut W,
     name: &[u8],
     parent: &[u8; 32],
     given: Given,
@@ -89,7 +95,7 @@ pub fn pop_tx(
     staged: &mut [u8],
     table: &[u8],
     deleted: &mut [u8],
-) {
+) -> io::Result<()> {
     let edition = given.edition;
     let counts = given.counts;
     let staged_counts = given.staged;
@@ -107,18 +113,19 @@ pub fn pop_tx(
         deleted_counts,
         deleted,
     );
-    show::popped_tx(name, answer, head, staged, deleted);
+    show::popped_tx(to, name, answer, head, staged, deleted)
 }
 
 // Replays a spend.
-pub fn spend(
+pub fn spend<W: Write>(
+    to: &mut W,
     name: &[u8],
     parent: &[u8; 32],
     given: Given,
     head: &mut [i64],
     staged: &mut [u8],
     table: &[u8],
-) {
+) -> io::Result<()> {
     let edition = given.edition;
     let counts = given.counts;
     let target = BoxNumber(given.number);
@@ -135,18 +142,19 @@ pub fn spend(
         table_counts,
         table,
     );
-    show::flipped(name, answer, head, counts.len, staged);
+    show::flipped(to, name, answer, head, counts.len, staged)
 }
 
 // Replays an unspend.
-pub fn unspend(
+pub fn unspend<W: Write>(
+    to: &mut W,
     name: &[u8],
     parent: &[u8; 32],
     given: Given,
     head: &mut [i64],
     staged: &mut [u8],
     table: &[u8],
-) {
+) -> io::Result<()> {
     let edition = given.edition;
     let counts = given.counts;
     let target = BoxNumber(given.number);
@@ -163,11 +171,18 @@ pub fn unspend(
         table_counts,
         table,
     );
-    show::flipped(name, answer, head, counts.len, staged);
+    show::flipped(to, name, answer, head, counts.len, staged)
 }
 
 // Replays a flush.
-pub fn flush(name: &[u8], given: Given, staged: &mut [u8], table: &mut [u8], deleted: &mut [u8]) {
+pub fn flush<W: Write>(
+    to: &mut W,
+    name: &[u8],
+    given: Given,
+    staged: &mut [u8],
+    table: &mut [u8],
+    deleted: &mut [u8],
+) -> io::Result<()> {
     let edition = given.edition;
     let staged_counts = given.staged;
     let table_counts = given.table;
@@ -181,5 +196,5 @@ pub fn flush(name: &[u8], given: Given, staged: &mut [u8], table: &mut [u8], del
         deleted_counts,
         deleted,
     );
-    show::flushed(name, answer, staged, table, deleted);
+    show::flushed(to, name, answer, staged, table, deleted)
 }

@@ -10,6 +10,8 @@ mod summaries;
 ghost use Rattle.std.specs.Prelude.{◌≡◌, ◌≤◌, length};
 
 use index_types::{HeadCounts, ListCounts, RowEdition, SEGMENT_THRESHOLD};
+use std::io;
+use std::io::Write;
 
 #[derive(Clone, Copy)]
 pub enum Call {
@@ -68,7 +70,8 @@ fn list_at(s: &[u8], at: usize, out: &mut [u8]) -> List
     }
 }
 
-fn make(
+fn make<W: Write>(
+    to: &mut W,
     name: &[u8],
     call: Call,
     parent: &[u8; 32],
@@ -79,36 +82,37 @@ fn make(
     deleted: &mut [u8],
     s: &[u8],
     at: usize,
-) {
+) -> io::Result<()> {
     match call {
-        Call::AppendBox => changes::append_box(name, parent, given, head, staged),
-        Call::AppendTx => changes::append_tx(name, parent, given, head, staged),
-        Call::PopBox => changes::pop_box(name, parent, given, head, staged, table, deleted),
-        Call::PopTx => changes::pop_tx(name, parent, given, head, staged, table, deleted),
-        Call::Spend => changes::spend(name, parent, given, head, staged, table),
-        Call::Unspend => changes::unspend(name, parent, given, head, staged, table),
-        Call::Flush => changes::flush(name, given, staged, table, deleted),
+        Call::AppendBox => changes::append_box(to, name, parent, given, head, staged),
+        Call::AppendTx => changes::append_tx(to, name, parent, given, head, staged),
+        Call::PopBox => changes::pop_box(to, name, parent, given, head, staged, table, deleted),
+        Call::PopTx => changes::pop_tx(to, name, parent, given, head, staged, table, deleted),
+        Call::Spend => changes::spend(to, name, parent, given, head, staged, table),
+        Call::Unspend => changes::unspend(to, name, parent, given, head, staged, table),
+        Call::Flush => changes::flush(to, name, given, staged, table, deleted),
         Call::Tally => asks::ask(
-            name, call, parent, given, head, staged, table, deleted, s, at,
+            to, name, call, parent, given, head, staged, table, deleted, s, at,
         ),
         Call::Lists => asks::ask(
-            name, call, parent, given, head, staged, table, deleted, s, at,
+            to, name, call, parent, given, head, staged, table, deleted, s, at,
         ),
         Call::Locate => asks::ask(
-            name, call, parent, given, head, staged, table, deleted, s, at,
+            to, name, call, parent, given, head, staged, table, deleted, s, at,
         ),
         Call::Page => asks::ask(
-            name, call, parent, given, head, staged, table, deleted, s, at,
+            to, name, call, parent, given, head, staged, table, deleted, s, at,
         ),
         _ => summaries::make(
-            name, call, parent, given, head, staged, table, deleted, s, at,
+            to, name, call, parent, given, head, staged, table, deleted, s, at,
         ),
     }
 }
 
 // How many numbers of the head count and its spill count, the number, the staged spills, the table, the deleted spills and, for a page and the calls with a
 // summary, what these read.
-fn with_head(
+fn with_head<W: Write>(
+    to: &mut W,
     name: &[u8],
     call: Call,
     edition: RowEdition,
@@ -116,7 +120,7 @@ fn with_head(
     s: &[u8],
     at: usize,
     head: &mut [i64],
-) {
+) -> io::Result<()> {
     let mut staged = [0u8; 20652];
     let mut table = [0u8; 20652];
     let mut deleted = [0u8; 64];
@@ -144,6 +148,7 @@ fn with_head(
     let table_len = table_list.len;
     let deleted_len = deleted_list.len;
     make(
+        to,
         name,
         call,
         parent,
@@ -154,7 +159,7 @@ fn with_head(
         &mut deleted[0..deleted_len],
         s,
         deleted_list.next,
-    );
+    )
 }
 
 fn edition_of(byte: u8) -> RowEdition {
@@ -165,10 +170,9 @@ fn edition_of(byte: u8) -> RowEdition {
 }
 
 // A call: the edition's number, the parent's byte, which its id has 32 times, the numbers of the head, and what `with_head` reads.
-pub fn replay(name: &[u8], call: Call, s: &[u8]) {
+pub fn replay<W: Write>(to: &mut W, name: &[u8], call: Call, s: &[u8]) -> io::Result<()> {
     if s.len() < 2 {
-        vector_fields::cut();
-        return;
+        return vector_fields::cut(to);
     }
     let edition = edition_of(s[0]);
     let byte = s[1];
@@ -177,6 +181,7 @@ pub fn replay(name: &[u8], call: Call, s: &[u8]) {
     let part = vector_fields::numbers_at(s, 2, &mut head);
     let len = part.len;
     with_head(
+        to,
         name,
         call,
         edition,
@@ -184,5 +189,5 @@ pub fn replay(name: &[u8], call: Call, s: &[u8]) {
         s,
         part.next,
         &mut head[0..len],
-    );
+    )
 }

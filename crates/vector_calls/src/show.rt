@@ -4,36 +4,45 @@ use index_types::{
     Tallied,
 };
 use spills::Located;
+use std::io;
+use std::io::Write;
 
 // The length of the head and its spill count.
-fn head_counts(counts: HeadCounts) {
-    vector_line::number(counts.len as u64);
-    vector_line::signed_number(signed::i64_from_i32(counts.spills));
+fn head_counts<W: Write>(to: &mut W, counts: HeadCounts) -> io::Result<()> {
+    vector_line::number(to, counts.len as u64)?;
+    vector_line::signed_number(to, signed::i64_from_i32(counts.spills))
 }
 
 // The digest of a list's bytes.
-fn digest(list: &[u8]) {
+fn digest<W: Write>(to: &mut W, list: &[u8]) -> io::Result<()> {
     let d = blake2b::blake2b256(list);
-    vector_fields::bytes(&d, 32, 1);
+    vector_fields::bytes(to, &d, 32, 1)
 }
 
 // The head's counts and how many rows are staged.
-pub fn appended(name: &[u8], answer: Appended, head: &[i64], staged: &[u8]) {
+pub fn appended<W: Write>(
+    to: &mut W,
+    name: &[u8],
+    answer: Appended,
+    head: &[i64],
+    staged: &[u8],
+) -> io::Result<()> {
     match answer {
         Appended::Done(counts, rows) => {
-            vector_line::accepted(name);
-            head_counts(counts);
-            vector_line::number(rows.count as u64);
-            vector_fields::numbers(head, counts.len);
-            digest(staged);
-            vector_line::end();
+            vector_line::accepted(to, name)?;
+            head_counts(to, counts)?;
+            vector_line::number(to, rows.count as u64)?;
+            vector_fields::numbers(to, head, counts.len)?;
+            digest(to, staged)?;
+            vector_line::end(to)
         }
-        Appended::Refused(code) => vector_line::code_line(name, code),
+        Appended::Refused(code) => vector_line::code_line(to, name, code),
     }
 }
 
 // The number, the head's counts, and how many rows are staged and deleted.
-fn popped(
+fn popped<W: Write>(
+    to: &mut W,
     name: &[u8],
     number: i64,
     counts: HeadCounts,
@@ -42,138 +51,170 @@ fn popped(
     head: &[i64],
     staged: &[u8],
     deleted: &[u8],
-) {
-    vector_line::accepted(name);
-    vector_line::signed_number(number);
-    head_counts(counts);
-    vector_line::number(rows.count as u64);
-    vector_line::number(keys.count as u64);
-    vector_fields::numbers(head, counts.len);
-    digest(staged);
-    digest(deleted);
-    vector_line::end();
+) -> io::Result<()> {
+    vector_line::accepted(to, name)?;
+    vector_line::signed_number(to, number)?;
+    head_counts(to, counts)?;
+    vector_line::number(to, rows.count as u64)?;
+    vector_line::number(to, keys.count as u64)?;
+    vector_fields::numbers(to, head, counts.len)?;
+    digest(to, staged)?;
+    digest(to, deleted)?;
+    vector_line::end(to)
 }
 
 // The answer of a pop of a box.
-pub fn popped_box(name: &[u8], answer: PoppedBox, head: &[i64], staged: &[u8], deleted: &[u8]) {
+pub fn popped_box<W: Write>(
+    to: &mut W,
+    name: &[u8],
+    answer: PoppedBox,
+    head: &[i64],
+    staged: &[u8],
+    deleted: &[u8],
+) -> io::Result<()> {
     match answer {
         PoppedBox::Number(number, counts, rows, keys) => {
-            popped(name, number.0, counts, rows, keys, head, staged, deleted);
+            popped(
+                to, name, number.0, counts, rows, keys, head, staged, deleted,
+            )
         }
-        PoppedBox::Refused(code) => vector_line::code_line(name, code),
+        PoppedBox::Refused(code) => vector_line::code_line(to, name, code),
     }
 }
 
 // The answer of a pop of a transaction.
-pub fn popped_tx(name: &[u8], answer: PoppedTx, head: &[i64], staged: &[u8], deleted: &[u8]) {
+pub fn popped_tx<W: Write>(
+    to: &mut W,
+    name: &[u8],
+    answer: PoppedTx,
+    head: &[i64],
+    staged: &[u8],
+    deleted: &[u8],
+) -> io::Result<()> {
     match answer {
         PoppedTx::Number(number, counts, rows, keys) => {
-            popped(name, number.0, counts, rows, keys, head, staged, deleted);
+            popped(
+                to, name, number.0, counts, rows, keys, head, staged, deleted,
+            )
         }
-        PoppedTx::Refused(code) => vector_line::code_line(name, code),
+        PoppedTx::Refused(code) => vector_line::code_line(to, name, code),
     }
 }
 
 // How many rows are staged.
-pub fn flipped(name: &[u8], answer: Flipped, head: &[i64], len: usize, staged: &[u8]) {
+pub fn flipped<W: Write>(
+    to: &mut W,
+    name: &[u8],
+    answer: Flipped,
+    head: &[i64],
+    len: usize,
+    staged: &[u8],
+) -> io::Result<()> {
     match answer {
         Flipped::Done(rows) => {
-            vector_line::accepted(name);
-            vector_line::number(rows.count as u64);
-            vector_fields::numbers(head, len);
-            digest(staged);
-            vector_line::end();
+            vector_line::accepted(to, name)?;
+            vector_line::number(to, rows.count as u64)?;
+            vector_fields::numbers(to, head, len)?;
+            digest(to, staged)?;
+            vector_line::end(to)
         }
-        Flipped::Refused(code) => vector_line::code_line(name, code),
+        Flipped::Refused(code) => vector_line::code_line(to, name, code),
     }
 }
 
 // How many rows are in the table, staged and deleted.
-pub fn flushed(name: &[u8], answer: Flushed, staged: &[u8], table: &[u8], deleted: &[u8]) {
+pub fn flushed<W: Write>(
+    to: &mut W,
+    name: &[u8],
+    answer: Flushed,
+    staged: &[u8],
+    table: &[u8],
+    deleted: &[u8],
+) -> io::Result<()> {
     match answer {
         Flushed::Done(shelf, rows, keys) => {
-            vector_line::accepted(name);
-            vector_line::number(shelf.count as u64);
-            vector_line::number(rows.count as u64);
-            vector_line::number(keys.count as u64);
-            digest(staged);
-            digest(table);
-            digest(deleted);
-            vector_line::end();
+            vector_line::accepted(to, name)?;
+            vector_line::number(to, shelf.count as u64)?;
+            vector_line::number(to, rows.count as u64)?;
+            vector_line::number(to, keys.count as u64)?;
+            digest(to, staged)?;
+            digest(to, table)?;
+            digest(to, deleted)?;
+            vector_line::end(to)
         }
-        Flushed::Refused(code) => vector_line::code_line(name, code),
+        Flushed::Refused(code) => vector_line::code_line(to, name, code),
     }
 }
 
 // How many entries are unspent, spent and unknown.
-pub fn tallied(name: &[u8], answer: Tallied) {
+pub fn tallied<W: Write>(to: &mut W, name: &[u8], answer: Tallied) -> io::Result<()> {
     match answer {
         Tallied::Counts(tally) => {
-            vector_line::accepted(name);
-            vector_line::number(tally.unspent as u64);
-            vector_line::number(tally.spent as u64);
-            vector_line::number(tally.unknown as u64);
-            vector_line::end();
+            vector_line::accepted(to, name)?;
+            vector_line::number(to, tally.unspent as u64)?;
+            vector_line::number(to, tally.spent as u64)?;
+            vector_line::number(to, tally.unknown as u64)?;
+            vector_line::end(to)
         }
-        Tallied::Refused(code) => vector_line::code_line(name, code),
+        Tallied::Refused(code) => vector_line::code_line(to, name, code),
     }
 }
 
 // How many numbers stand in a page, and all that was borrowed for it.
-pub fn paged(name: &[u8], answer: Paged, page: &[i64]) {
+pub fn paged<W: Write>(to: &mut W, name: &[u8], answer: Paged, page: &[i64]) -> io::Result<()> {
     match answer {
         Paged::Numbers(count) => {
-            vector_line::accepted(name);
-            vector_line::number(count as u64);
-            vector_fields::numbers(page, page.len());
-            vector_line::end();
+            vector_line::accepted(to, name)?;
+            vector_line::number(to, count as u64)?;
+            vector_fields::numbers(to, page, page.len())?;
+            vector_line::end(to)
         }
-        Paged::Refused(code) => vector_line::code_line(name, code),
+        Paged::Refused(code) => vector_line::code_line(to, name, code),
     }
 }
 
 // Whether the lists pass refusal 25.
-pub fn fit(name: &[u8], fits: bool) {
+pub fn fit<W: Write>(to: &mut W, name: &[u8], fits: bool) -> io::Result<()> {
     if fits {
-        vector_line::code_line(name, 0);
+        vector_line::code_line(to, name, 0)
     } else {
-        vector_line::code_line(name, refusal::BUFFERS);
+        vector_line::code_line(to, name, refusal::BUFFERS)
     }
 }
 
 // Where a row stands: in staging (1) or in the table (2), and its place.
-pub fn located(name: &[u8], place: Located) {
+pub fn located<W: Write>(to: &mut W, name: &[u8], place: Located) -> io::Result<()> {
     match place {
         Located::Staged(i) => {
-            vector_line::accepted(name);
-            vector_line::number(1);
-            vector_line::number(i as u64);
-            vector_line::end();
+            vector_line::accepted(to, name)?;
+            vector_line::number(to, 1)?;
+            vector_line::number(to, i as u64)?;
+            vector_line::end(to)
         }
         Located::Table(i) => {
-            vector_line::accepted(name);
-            vector_line::number(2);
-            vector_line::number(i as u64);
-            vector_line::end();
+            vector_line::accepted(to, name)?;
+            vector_line::number(to, 2)?;
+            vector_line::number(to, i as u64)?;
+            vector_line::end(to)
         }
-        Located::Missing => vector_line::code_line(name, refusal::ROW_MISSING),
-        Located::Refused(code) => vector_line::code_line(name, code),
+        Located::Missing => vector_line::code_line(to, name, refusal::ROW_MISSING),
+        Located::Refused(code) => vector_line::code_line(to, name, code),
     }
 }
 
 // The answer of a summary made afresh.
-pub fn summarized(name: &[u8], answer: Summarized) {
+pub fn summarized<W: Write>(to: &mut W, name: &[u8], answer: Summarized) -> io::Result<()> {
     match answer {
-        Summarized::Done => vector_line::code_line(name, 0),
-        Summarized::Refused(code) => vector_line::code_line(name, code),
+        Summarized::Done => vector_line::code_line(to, name, 0),
+        Summarized::Refused(code) => vector_line::code_line(to, name, code),
     }
 }
 
 // All numbers of a summary.
-pub fn summary(name: &[u8], numbers: &[u64]) {
-    vector_line::accepted(name);
+pub fn summary<W: Write>(to: &mut W, name: &[u8], numbers: &[u64]) -> io::Result<()> {
+    vector_line::accepted(to, name)?;
     for i in 0..numbers.len() {
-        vector_line::number(numbers[i]);
+        vector_line::number(to, numbers[i])?;
     }
-    vector_line::end();
+    vector_line::end(to)
 }

@@ -1,6 +1,8 @@
 // The calls with a summary: how many lines it has and the list of its numbers stand behind the other lists. A second line shows all numbers of the list.
 use super::{Call, Given, show};
 use index_types::BoxNumber;
+use std::io;
+use std::io::Write;
 
 // The numbers that a record may borrow for a summary.
 const NUMBERS: usize = 64;
@@ -16,7 +18,8 @@ fn unsigned(x: i64) -> u64 {
     m
 }
 
-fn summarize<'a>(
+fn summarize<'a, W: Write>(
+    to: &mut W,
     name: &[u8],
     parent: &[u8; 32],
     given: Given,
@@ -25,7 +28,7 @@ fn summarize<'a>(
     table: &'a [u8],
     lines: usize,
     numbers: &mut [u64],
-) {
+) -> io::Result<()> {
     let edition = given.edition;
     let counts = given.counts;
     let staged_counts = given.staged;
@@ -42,11 +45,12 @@ fn summarize<'a>(
         lines,
         numbers,
     );
-    show::summarized(name, answer);
-    show::summary(name, numbers);
+    show::summarized(to, name, answer)?;
+    show::summary(to, name, numbers)
 }
 
-fn append(
+fn append<W: Write>(
+    to: &mut W,
     name: &[u8],
     parent: &[u8; 32],
     given: Given,
@@ -54,7 +58,7 @@ fn append(
     staged: &mut [u8],
     lines: usize,
     numbers: &mut [u64],
-) {
+) -> io::Result<()> {
     let edition = given.edition;
     let counts = given.counts;
     let number = BoxNumber(given.number);
@@ -70,11 +74,12 @@ fn append(
         lines,
         numbers,
     );
-    show::appended(name, answer, head, staged);
-    show::summary(name, numbers);
+    show::appended(to, name, answer, head, staged)?;
+    show::summary(to, name, numbers)
 }
 
-fn pop(
+fn pop<W: Write>(
+    to: &mut W,
     name: &[u8],
     parent: &[u8; 32],
     given: Given,
@@ -84,7 +89,7 @@ fn pop(
     deleted: &mut [u8],
     lines: usize,
     numbers: &mut [u64],
-) {
+) -> io::Result<()> {
     let edition = given.edition;
     let counts = given.counts;
     let staged_counts = given.staged;
@@ -104,11 +109,12 @@ fn pop(
         lines,
         numbers,
     );
-    show::popped_box(name, answer, head, staged, deleted);
-    show::summary(name, numbers);
+    show::popped_box(to, name, answer, head, staged, deleted)?;
+    show::summary(to, name, numbers)
 }
 
-fn spend(
+fn spend<W: Write>(
+    to: &mut W,
     name: &[u8],
     parent: &[u8; 32],
     given: Given,
@@ -117,7 +123,7 @@ fn spend(
     table: &[u8],
     lines: usize,
     numbers: &mut [u64],
-) {
+) -> io::Result<()> {
     let edition = given.edition;
     let counts = given.counts;
     let target = BoxNumber(given.number);
@@ -136,11 +142,12 @@ fn spend(
         lines,
         numbers,
     );
-    show::flipped(name, answer, head, counts.len, staged);
-    show::summary(name, numbers);
+    show::flipped(to, name, answer, head, counts.len, staged)?;
+    show::summary(to, name, numbers)
 }
 
-fn unspend(
+fn unspend<W: Write>(
+    to: &mut W,
     name: &[u8],
     parent: &[u8; 32],
     given: Given,
@@ -149,7 +156,7 @@ fn unspend(
     table: &[u8],
     lines: usize,
     numbers: &mut [u64],
-) {
+) -> io::Result<()> {
     let edition = given.edition;
     let counts = given.counts;
     let target = BoxNumber(given.number);
@@ -168,17 +175,25 @@ fn unspend(
         lines,
         numbers,
     );
-    show::flipped(name, answer, head, counts.len, staged);
-    show::summary(name, numbers);
+    show::flipped(to, name, answer, head, counts.len, staged)?;
+    show::summary(to, name, numbers)
 }
 
-fn tally(name: &[u8], given: Given, head: &[i64], lines: usize, numbers: &[u64]) {
+fn tally<W: Write>(
+    to: &mut W,
+    name: &[u8],
+    given: Given,
+    head: &[i64],
+    lines: usize,
+    numbers: &[u64],
+) -> io::Result<()> {
     let answer = summary::tally_with_summary(given.counts, head, lines, numbers);
-    show::tallied(name, answer);
-    show::summary(name, numbers);
+    show::tallied(to, name, answer)?;
+    show::summary(to, name, numbers)
 }
 
-fn called(
+fn called<W: Write>(
+    to: &mut W,
     name: &[u8],
     call: Call,
     parent: &[u8; 32],
@@ -189,16 +204,18 @@ fn called(
     deleted: &mut [u8],
     lines: usize,
     numbers: &mut [u64],
-) {
+) -> io::Result<()> {
     match call {
-        Call::Summarize => summarize(name, parent, given, head, staged, table, lines, numbers),
-        Call::AppendSummary => append(name, parent, given, head, staged, lines, numbers),
+        Call::Summarize => summarize(to, name, parent, given, head, staged, table, lines, numbers),
+        Call::AppendSummary => append(to, name, parent, given, head, staged, lines, numbers),
         Call::PopSummary => pop(
-            name, parent, given, head, staged, table, deleted, lines, numbers,
+            to, name, parent, given, head, staged, table, deleted, lines, numbers,
         ),
-        Call::SpendSummary => spend(name, parent, given, head, staged, table, lines, numbers),
-        Call::UnspendSummary => unspend(name, parent, given, head, staged, table, lines, numbers),
-        _ => tally(name, given, head, lines, numbers),
+        Call::SpendSummary => spend(to, name, parent, given, head, staged, table, lines, numbers),
+        Call::UnspendSummary => unspend(
+            to, name, parent, given, head, staged, table, lines, numbers,
+        ),
+        _ => tally(to, name, given, head, lines, numbers),
     }
 }
 
@@ -217,7 +234,8 @@ fn fill(read: &[i64], numbers: &mut [u64]) {
 }
 
 // Reads the summary and makes the call.
-pub fn make(
+pub fn make<W: Write>(
+    to: &mut W,
     name: &[u8],
     call: Call,
     parent: &[u8; 32],
@@ -228,7 +246,7 @@ pub fn make(
     deleted: &mut [u8],
     s: &[u8],
     at: usize,
-) {
+) -> io::Result<()> {
     let mut read = [0i64; NUMBERS];
     let mut numbers = [0u64; NUMBERS];
     let lines = vector_fields::size_at(s, at);
@@ -236,6 +254,7 @@ pub fn make(
     let len = part.len;
     fill(&read, &mut numbers);
     called(
+        to,
         name,
         call,
         parent,
@@ -246,5 +265,5 @@ pub fn make(
         deleted,
         lines.n,
         &mut numbers[0..len],
-    );
+    )
 }

@@ -3,24 +3,26 @@ ghost use Rattle.std.specs.Prelude.{◌≡◌, ◌≤◌, length};
 
 use index_types::Int;
 use segment_id::Kind;
+use std::io;
+use std::io::Write;
 
-fn line(name: &[u8], digest: &[u8]) {
-    vector_line::start(name);
-    vector_fields::bytes(digest, 1, digest.len());
-    vector_line::end();
+fn line<W: Write>(to: &mut W, name: &[u8], digest: &[u8]) -> io::Result<()> {
+    vector_line::start(to, name)?;
+    vector_fields::bytes(to, digest, 1, digest.len())?;
+    vector_line::end(to)
 }
 
 // The digest of a record's bytes.
-pub fn digest(name: &[u8], s: &[u8]) {
+pub fn digest<W: Write>(to: &mut W, name: &[u8], s: &[u8]) -> io::Result<()> {
     let d = blake2b::blake2b256(s);
-    line(name, &d);
+    line(to, name, &d)
 }
 
 // The digest of 64 bytes.
-pub fn digest_512(name: &[u8], s: &[u8]) {
+pub fn digest_512<W: Write>(to: &mut W, name: &[u8], s: &[u8]) -> io::Result<()> {
     let mut d = [0u8; 64];
     blake2b_core::digest_into(s, &mut d);
-    line(name, &d);
+    line(to, name, &d)
 }
 
 fn parent_of(s: &[u8]) -> [u8; 32]
@@ -32,22 +34,21 @@ fn parent_of(s: &[u8]) -> [u8; 32]
     parent
 }
 
-fn key(name: &[u8], kind: Kind, s: &[u8], number: i32)
+fn key<W: Write>(to: &mut W, name: &[u8], kind: Kind, s: &[u8], number: i32) -> io::Result<()>
     requires { 32 ≤ length s.now }
 {
     let parent = parent_of(s);
     let k = segment_id::row_key(&parent, kind, number);
-    line(name, &k);
+    line(to, name, &k)
 }
 
 // The key of a record: the parent's id and the spill number as a coded number.
-pub fn row_key(name: &[u8], kind: Kind, s: &[u8]) {
+pub fn row_key<W: Write>(to: &mut W, name: &[u8], kind: Kind, s: &[u8]) -> io::Result<()> {
     if s.len() < 32 {
-        vector_line::code_line(name, refusal::BYTES_END);
-        return;
+        return vector_line::code_line(to, name, refusal::BYTES_END);
     }
     match vlq::get_i32(s, 32) {
-        Int::Number(n, _) => key(name, kind, s, n),
-        Int::Refused(code) => vector_line::code_line(name, code),
+        Int::Number(n, _) => key(to, name, kind, s, n),
+        Int::Refused(code) => vector_line::code_line(to, name, code),
     }
 }

@@ -3,6 +3,8 @@ ghost use Rattle.index_types.specs.Limits.{segment_threshold};
 ghost use Rattle.std.specs.Prelude.{◌≡◌, ◌≤◌, length};
 
 use index_types::SEGMENT_THRESHOLD;
+use std::io;
+use std::io::Write;
 use undo::prune::{Pruned, Window};
 
 fn heights_of(list: &[i64; SEGMENT_THRESHOLD]) -> [u64; SEGMENT_THRESHOLD]
@@ -15,15 +17,15 @@ fn heights_of(list: &[i64; SEGMENT_THRESHOLD]) -> [u64; SEGMENT_THRESHOLD]
     heights
 }
 
-fn show(name: &[u8], heights: &[u64], n: usize) {
-    vector_line::accepted(name);
-    vector_line::number(n as u64);
+fn show<W: Write>(to: &mut W, name: &[u8], heights: &[u64], n: usize) -> io::Result<()> {
+    vector_line::accepted(to, name)?;
+    vector_line::number(to, n as u64)?;
     for i in 0..heights.len() {
         if i < n {
-            vector_line::number(heights[i]);
+            vector_line::number(to, heights[i])?;
         }
     }
-    vector_line::end();
+    vector_line::end(to)
 }
 
 fn window_of(flag: usize, heights: usize) -> Window {
@@ -33,22 +35,23 @@ fn window_of(flag: usize, heights: usize) -> Window {
     Window::Named(heights as u64)
 }
 
-fn prune(
+fn prune<W: Write>(
+    to: &mut W,
     name: &[u8],
     heights: &mut [u64],
     count: usize,
     capacity: usize,
     current: usize,
     window: Window,
-) {
+) -> io::Result<()> {
     match undo::prune::prune_below_window(heights, count, capacity, current as u64, window) {
-        Pruned::Kept(n) => show(name, heights, n),
-        Pruned::Refused(code) => vector_line::code_line(name, code),
+        Pruned::Kept(n) => show(to, name, heights, n),
+        Pruned::Refused(code) => vector_line::code_line(to, name, code),
     }
 }
 
 // Prunes heights: the list, the count, the capacity, the current height, whether a window is named, and the window.
-pub fn pruning(name: &[u8], s: &[u8]) {
+pub fn pruning<W: Write>(to: &mut W, name: &[u8], s: &[u8]) -> io::Result<()> {
     let mut list = [0i64; SEGMENT_THRESHOLD];
     let part = vector_fields::numbers_at(s, 0, &mut list);
     let len = part.len;
@@ -59,19 +62,20 @@ pub fn pruning(name: &[u8], s: &[u8]) {
     let window = vector_fields::size_at(s, flag.next);
     let mut heights = heights_of(&list);
     prune(
+        to,
         name,
         &mut heights[0..len],
         count.n,
         capacity.n,
         current.n,
         window_of(flag.n, window.n),
-    );
+    )
 }
 
 // The milliErgs of nanoErgs.
-pub fn milli_ergs(name: &[u8], s: &[u8]) {
+pub fn milli_ergs<W: Write>(to: &mut W, name: &[u8], s: &[u8]) -> io::Result<()> {
     let nanos = vector_fields::number_at(s, 0);
-    vector_line::start(name);
-    vector_line::signed_number(statement::statement_milli_ergs(nanos.n));
-    vector_line::end();
+    vector_line::start(to, name)?;
+    vector_line::signed_number(to, statement::statement_milli_ergs(nanos.n))?;
+    vector_line::end(to)
 }

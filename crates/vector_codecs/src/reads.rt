@@ -4,55 +4,57 @@ ghost use Rattle.std.specs.Prelude.{◌≡◌, ◌≤◌, length};
 use address::{AddressRead, IndexedAddress};
 use index_types::{Int, Loaded, Long, SEGMENT_THRESHOLD};
 use refusal::Answer;
+use std::io;
+use std::io::Write;
 use vlq_reader::Span;
 
 // ---- coded numbers: the number, and the position behind it
 
-fn long_line(name: &[u8], found: Long) {
+fn long_line<W: Write>(to: &mut W, name: &[u8], found: Long) -> io::Result<()> {
     match found {
         Long::Number(n, next) => {
-            vector_line::accepted(name);
-            vector_line::signed_number(n);
-            vector_line::number(next as u64);
-            vector_line::end();
+            vector_line::accepted(to, name)?;
+            vector_line::signed_number(to, n)?;
+            vector_line::number(to, next as u64)?;
+            vector_line::end(to)
         }
-        Long::Refused(code) => vector_line::code_line(name, code),
+        Long::Refused(code) => vector_line::code_line(to, name, code),
     }
 }
 
 // The 64-bit number at a position of the bytes behind it.
-pub fn long(name: &[u8], s: &[u8]) {
+pub fn long<W: Write>(to: &mut W, name: &[u8], s: &[u8]) -> io::Result<()> {
     let mut src = [0u8; 64];
     let at = vector_fields::size_at(s, 0);
     let part = vector_fields::bytes_at(s, at.next, &mut src);
     let len = part.len;
-    long_line(name, vlq::get_i64(&src[0..len], at.n));
+    long_line(to, name, vlq::get_i64(&src[0..len], at.n))
 }
 
 // The 32-bit number at a position of the bytes behind it.
-pub fn int(name: &[u8], s: &[u8]) {
+pub fn int<W: Write>(to: &mut W, name: &[u8], s: &[u8]) -> io::Result<()> {
     let mut src = [0u8; 64];
     let at = vector_fields::size_at(s, 0);
     let part = vector_fields::bytes_at(s, at.next, &mut src);
     let len = part.len;
     match vlq::get_i32(&src[0..len], at.n) {
         Int::Number(n, next) => {
-            vector_line::accepted(name);
-            vector_line::signed_number(signed::i64_from_i32(n));
-            vector_line::number(next as u64);
-            vector_line::end();
+            vector_line::accepted(to, name)?;
+            vector_line::signed_number(to, signed::i64_from_i32(n))?;
+            vector_line::number(to, next as u64)?;
+            vector_line::end(to)
         }
-        Int::Refused(code) => vector_line::code_line(name, code),
+        Int::Refused(code) => vector_line::code_line(to, name, code),
     }
 }
 
 // The number at the start of a record's bytes, through a reader.
-pub fn first(name: &[u8], s: &[u8]) {
-    long_line(name, vlq_reader::first_i64(s));
+pub fn first<W: Write>(to: &mut W, name: &[u8], s: &[u8]) -> io::Result<()> {
+    long_line(to, name, vlq_reader::first_i64(s))
 }
 
 // Where n bytes from a position on begin and end: n, the position, and the bytes.
-pub fn span(name: &[u8], s: &[u8]) {
+pub fn span<W: Write>(to: &mut W, name: &[u8], s: &[u8]) -> io::Result<()> {
     let n = vector_fields::size_at(s, 0);
     let at = vector_fields::size_at(s, n.next);
     let mut src = [0u8; 64];
@@ -60,33 +62,40 @@ pub fn span(name: &[u8], s: &[u8]) {
     let len = part.len;
     match vlq_reader::get_bytes(&src[0..len], at.n, n.n) {
         Span::Within(start, end) => {
-            vector_line::accepted(name);
-            vector_line::number(start as u64);
-            vector_line::number(end as u64);
-            vector_line::end();
+            vector_line::accepted(to, name)?;
+            vector_line::number(to, start as u64)?;
+            vector_line::number(to, end as u64)?;
+            vector_line::end(to)
         }
-        Span::Refused(code) => vector_line::code_line(name, code),
+        Span::Refused(code) => vector_line::code_line(to, name, code),
     }
 }
 
 // ---- segments: both lists, the box spill count and the transaction spill count
 
-fn segment(
+fn segment<W: Write>(
+    to: &mut W,
     txs: &[i64],
     n_txs: usize,
     boxes: &[i64],
     n_boxes: usize,
     box_count: i32,
     tx_count: i32,
-) {
-    vector_fields::numbers(txs, n_txs);
-    vector_fields::numbers(boxes, n_boxes);
-    vector_line::signed_number(signed::i64_from_i32(box_count));
-    vector_line::signed_number(signed::i64_from_i32(tx_count));
-    vector_line::end();
+) -> io::Result<()> {
+    vector_fields::numbers(to, txs, n_txs)?;
+    vector_fields::numbers(to, boxes, n_boxes)?;
+    vector_line::signed_number(to, signed::i64_from_i32(box_count))?;
+    vector_line::signed_number(to, signed::i64_from_i32(tx_count))?;
+    vector_line::end(to)
 }
 
-fn loaded(name: &[u8], l: Loaded, txs_read: &[i64], boxes_read: &[i64]) {
+fn loaded<W: Write>(
+    to: &mut W,
+    name: &[u8],
+    l: Loaded,
+    txs_read: &[i64],
+    boxes_read: &[i64],
+) -> io::Result<()> {
     match l {
         Loaded::Read {
             txs,
@@ -95,27 +104,34 @@ fn loaded(name: &[u8], l: Loaded, txs_read: &[i64], boxes_read: &[i64]) {
             tx_segment_count,
             next: _,
         } => {
-            vector_line::accepted(name);
+            vector_line::accepted(to, name)?;
             segment(
+                to,
                 txs_read,
                 txs,
                 boxes_read,
                 boxes,
                 box_segment_count,
                 tx_segment_count,
-            );
+            )
         }
-        Loaded::Refused(code) => vector_line::code_line(name, code),
+        Loaded::Refused(code) => vector_line::code_line(to, name, code),
     }
 }
 
-fn read_row(name: &[u8], row: &[u8], txs: &mut [i64], boxes: &mut [i64]) {
+fn read_row<W: Write>(
+    to: &mut W,
+    name: &[u8],
+    row: &[u8],
+    txs: &mut [i64],
+    boxes: &mut [i64],
+) -> io::Result<()> {
     let l = segment::read_persisted_segment(row, txs, boxes);
-    loaded(name, l, txs, boxes);
+    loaded(to, name, l, txs, boxes)
 }
 
 // A row: the two lists that it is read to, and the row.
-pub fn row(name: &[u8], s: &[u8]) {
+pub fn row<W: Write>(to: &mut W, name: &[u8], s: &[u8]) -> io::Result<()> {
     let mut txs = [0i64; SEGMENT_THRESHOLD];
     let mut boxes = [0i64; SEGMENT_THRESHOLD];
     let mut row = [0u8; 10255];
@@ -126,53 +142,73 @@ pub fn row(name: &[u8], s: &[u8]) {
     let b_len = b.len;
     let r_len = r.len;
     read_row(
+        to,
         name,
         &row[0..r_len],
         &mut txs[0..t_len],
         &mut boxes[0..b_len],
-    );
+    )
 }
 
 // ---- address records: the hash, whether there is a balance, its nanoErgs and tokens, and the segment
 
-fn indexed_address(name: &[u8], address: IndexedAddress, txs: &[i64], boxes: &[i64]) {
+fn indexed_address<W: Write>(
+    to: &mut W,
+    name: &[u8],
+    address: IndexedAddress,
+    txs: &[i64],
+    boxes: &[i64],
+) -> io::Result<()> {
     let hash = address.hash;
     let balance = address.balance;
     let ids = balance.ids;
     let amounts = balance.amounts;
     let count = balance.count;
-    vector_line::accepted(name);
-    vector_fields::bytes(&hash, 32, 1);
-    vector_line::flag(address.has_balance);
-    vector_line::signed_number(balance.nanos);
-    vector_fields::bytes(&ids, 32, count);
-    vector_fields::numbers(&amounts, count);
+    vector_line::accepted(to, name)?;
+    vector_fields::bytes(to, &hash, 32, 1)?;
+    vector_line::flag(to, address.has_balance)?;
+    vector_line::signed_number(to, balance.nanos)?;
+    vector_fields::bytes(to, &ids, 32, count)?;
+    vector_fields::numbers(to, &amounts, count)?;
     segment(
+        to,
         txs,
         address.txs,
         boxes,
         address.boxes,
         address.box_segment_count,
         address.tx_segment_count,
-    );
+    )
 }
 
-fn address_read(name: &[u8], read: AddressRead, txs: &[i64], boxes: &[i64]) {
+fn address_read<W: Write>(
+    to: &mut W,
+    name: &[u8],
+    read: AddressRead,
+    txs: &[i64],
+    boxes: &[i64],
+) -> io::Result<()> {
     let answer = read.answer;
     let address = read.address;
     match answer {
-        Answer::Accepted => indexed_address(name, address, txs, boxes),
-        Answer::Refused(code) => vector_line::code_line(name, code),
+        Answer::Accepted => indexed_address(to, name, address, txs, boxes),
+        Answer::Refused(code) => vector_line::code_line(to, name, code),
     }
 }
 
-fn read_record(name: &[u8], record: &[u8], txs: &mut [i64], boxes: &mut [i64]) {
+fn read_record<W: Write>(
+    to: &mut W,
+    name: &[u8],
+    record: &[u8],
+    txs: &mut [i64],
+    boxes: &mut [i64],
+) -> io::Result<()> {
     let read = address::read_indexed_address(record, txs, boxes);
-    address_read(name, read, txs, boxes);
+    address_read(to, name, read, txs, boxes)
 }
 
 // An address record: the two lists that it is read to, and the record.
-pub fn address(name: &[u8], s: &[u8]) {
+pub fn address<W: Write>(to: &mut W, name: &[u8], s: &[u8]) -> io::Result<()> {
     let mut txs = [0i64; SEGMENT_THRESHOLD];
     let mut boxes = [0i64; SEGMENT_THRESHOLD];
     let mut record = [0u8; 15676];
@@ -183,9 +219,10 @@ pub fn address(name: &[u8], s: &[u8]) {
     let b_len = b.len;
     let r_len = r.len;
     read_record(
+        to,
         name,
         &record[0..r_len],
         &mut txs[0..t_len],
         &mut boxes[0..b_len],
-    );
+    )
 }

@@ -2,37 +2,39 @@
 ghost use Rattle.std.specs.Prelude.{◌≡◌, ◌+◌, ◌≤◌, length};
 
 use refusal::{Answer, Tolerated};
+use std::io;
+use std::io::Write;
 use undo::entry::{Encoded, UndoEntry};
 
-fn undo_entry(name: &[u8], entry: UndoEntry) {
+fn undo_entry<W: Write>(to: &mut W, name: &[u8], entry: UndoEntry) -> io::Result<()> {
     let header = entry.header;
-    vector_line::accepted(name);
-    vector_line::flag(entry.known);
-    vector_fields::bytes(&header, 32, 1);
-    vector_line::number(entry.txs);
-    vector_line::number(entry.boxes);
-    vector_line::end();
+    vector_line::accepted(to, name)?;
+    vector_line::flag(to, entry.known)?;
+    vector_fields::bytes(to, &header, 32, 1)?;
+    vector_line::number(to, entry.txs)?;
+    vector_line::number(to, entry.boxes)?;
+    vector_line::end(to)
 }
 
 // Whether a header is known and which, the numbers of transactions and boxes.
-pub fn read(name: &[u8], s: &[u8]) {
+pub fn read<W: Write>(to: &mut W, name: &[u8], s: &[u8]) -> io::Result<()> {
     let decoded = undo::entry::decode(s);
     let answer = decoded.answer;
     let entry = decoded.entry;
     match answer {
-        Answer::Accepted => undo_entry(name, entry),
-        Answer::Refused(code) => vector_line::code_line(name, code),
+        Answer::Accepted => undo_entry(to, name, entry),
+        Answer::Refused(code) => vector_line::code_line(to, name, code),
     }
 }
 
-fn encode(name: &[u8], entry: UndoEntry, out: &mut [u8]) {
+fn encode<W: Write>(to: &mut W, name: &[u8], entry: UndoEntry, out: &mut [u8]) -> io::Result<()> {
     match undo::entry::encode(entry, out) {
         Encoded::Written(end) => {
-            vector_line::accepted(name);
-            vector_fields::bytes(out, 1, end);
-            vector_line::end();
+            vector_line::accepted(to, name)?;
+            vector_fields::bytes(to, out, 1, end)?;
+            vector_line::end(to)
         }
-        Encoded::Refused(code) => vector_line::code_line(name, code),
+        Encoded::Refused(code) => vector_line::code_line(to, name, code),
     }
 }
 
@@ -47,7 +49,7 @@ fn eight_at(s: &[u8], at: usize) -> u64 {
 }
 
 // Writes an entry: whether a header is known, the header, the output, and 16 bytes of numbers.
-pub fn write(name: &[u8], s: &[u8]) {
+pub fn write<W: Write>(to: &mut W, name: &[u8], s: &[u8]) -> io::Result<()> {
     let known = vector_fields::size_at(s, 0);
     let mut header = [0u8; 32];
     let id = vector_fields::bytes_at(s, known.next, &mut header);
@@ -65,11 +67,11 @@ pub fn write(name: &[u8], s: &[u8]) {
         txs: eight_at(s, first),
         boxes: eight_at(s, second),
     };
-    encode(name, entry, &mut out[0..len]);
+    encode(to, name, entry, &mut out[0..len])
 }
 
 // The answer of a flip, a code, and what becomes of it: a flip, a skip, or the code.
-pub fn drift(name: &[u8], s: &[u8]) {
+pub fn drift<W: Write>(to: &mut W, name: &[u8], s: &[u8]) -> io::Result<()> {
     let mut answer = Answer::Accepted;
     if s.len() != 0 {
         if s[0] != 0 {
@@ -77,12 +79,12 @@ pub fn drift(name: &[u8], s: &[u8]) {
         }
     }
     match refusal::tolerate_secondary_drift(answer) {
-        Tolerated::Flipped => vector_line::code_line(name, 0),
+        Tolerated::Flipped => vector_line::code_line(to, name, 0),
         Tolerated::Skipped => {
-            vector_line::accepted(name);
-            vector_line::flag(true);
-            vector_line::end();
+            vector_line::accepted(to, name)?;
+            vector_line::flag(to, true)?;
+            vector_line::end(to)
         }
-        Tolerated::Refused(code) => vector_line::code_line(name, code),
+        Tolerated::Refused(code) => vector_line::code_line(to, name, code),
     }
 }

@@ -4,48 +4,56 @@ ghost use Rattle.std.specs.Prelude.{◌≡◌, ◌≤◌, length};
 use balance::Balance;
 use index_types::{ADDRESS_LIMIT, Wrote};
 use segment_core::ROW_LIMIT;
+use std::io;
+use std::io::Write;
 
-fn written(name: &[u8], wrote: Wrote, out: &[u8]) {
+fn written<W: Write>(to: &mut W, name: &[u8], wrote: Wrote, out: &[u8]) -> io::Result<()> {
     match wrote {
         Wrote::Next(next) => {
-            vector_line::accepted(name);
-            vector_fields::bytes(out, 1, next);
-            vector_line::end();
+            vector_line::accepted(to, name)?;
+            vector_fields::bytes(to, out, 1, next)?;
+            vector_line::end(to)
         }
-        Wrote::Refused(code) => vector_line::code_line(name, code),
+        Wrote::Refused(code) => vector_line::code_line(to, name, code),
     }
 }
 
 // ---- coded numbers: the number, the position, and the output
 
-fn put_long(name: &[u8], n: i64, at: usize, out: &mut [u8]) {
+fn put_long<W: Write>(
+    to: &mut W,
+    name: &[u8],
+    n: i64,
+    at: usize,
+    out: &mut [u8],
+) -> io::Result<()> {
     let wrote = vlq::put_i64(n, out, at);
-    written(name, wrote, out);
+    written(to, name, wrote, out)
 }
 
-fn put_int(name: &[u8], n: i32, at: usize, out: &mut [u8]) {
+fn put_int<W: Write>(to: &mut W, name: &[u8], n: i32, at: usize, out: &mut [u8]) -> io::Result<()> {
     let wrote = vlq::put_i32(n, out, at);
-    written(name, wrote, out);
+    written(to, name, wrote, out)
 }
 
 // Writes a number of 64 bits.
-pub fn long(name: &[u8], s: &[u8]) {
+pub fn long<W: Write>(to: &mut W, name: &[u8], s: &[u8]) -> io::Result<()> {
     let mut out = [0u8; 64];
     let number = vector_fields::number_at(s, 0);
     let at = vector_fields::size_at(s, number.next);
     let part = vector_fields::bytes_at(s, at.next, &mut out);
     let len = part.len;
-    put_long(name, number.n, at.n, &mut out[0..len]);
+    put_long(to, name, number.n, at.n, &mut out[0..len])
 }
 
 // Writes a number of 32 bits.
-pub fn int(name: &[u8], s: &[u8]) {
+pub fn int<W: Write>(to: &mut W, name: &[u8], s: &[u8]) -> io::Result<()> {
     let mut out = [0u8; 64];
     let number = vector_fields::count_at(s, 0);
     let at = vector_fields::size_at(s, number.next);
     let part = vector_fields::bytes_at(s, at.next, &mut out);
     let len = part.len;
-    put_int(name, number.n, at.n, &mut out[0..len]);
+    put_int(to, name, number.n, at.n, &mut out[0..len])
 }
 
 // ---- segments
@@ -77,7 +85,14 @@ fn shape_at(s: &[u8], at: usize) -> Shape {
     }
 }
 
-fn write_row(name: &[u8], shape: Shape, txs: &[i64], boxes: &[i64], out: &mut [u8]) {
+fn write_row<W: Write>(
+    to: &mut W,
+    name: &[u8],
+    shape: Shape,
+    txs: &[i64],
+    boxes: &[i64],
+    out: &mut [u8],
+) -> io::Result<()> {
     let wrote = segment::write_segment(
         txs,
         shape.n_txs,
@@ -88,11 +103,11 @@ fn write_row(name: &[u8], shape: Shape, txs: &[i64], boxes: &[i64], out: &mut [u
         out,
         shape.at,
     );
-    written(name, wrote, out);
+    written(to, name, wrote, out)
 }
 
 // Writes a row: how many numbers, the spill counts and the position, then transactions, boxes and the output.
-pub fn row(name: &[u8], s: &[u8]) {
+pub fn row<W: Write>(to: &mut W, name: &[u8], s: &[u8]) -> io::Result<()> {
     let mut txs = [0i64; 513];
     let mut boxes = [0i64; 513];
     let mut out = [0u8; ROW_LIMIT];
@@ -104,17 +119,19 @@ pub fn row(name: &[u8], s: &[u8]) {
     let b_len = b.len;
     let o_len = o.len;
     write_row(
+        to,
         name,
         shape,
         &txs[0..t_len],
         &boxes[0..b_len],
         &mut out[0..o_len],
-    );
+    )
 }
 
 // ---- address records
 
-fn write_record(
+fn write_record<W: Write>(
+    to: &mut W,
     name: &[u8],
     hash: &[u8; 32],
     flag: bool,
@@ -123,7 +140,7 @@ fn write_record(
     txs: &[i64],
     boxes: &[i64],
     out: &mut [u8],
-) {
+) -> io::Result<()> {
     let wrote = address::write_indexed_address(
         hash,
         flag,
@@ -137,11 +154,11 @@ fn write_record(
         out,
         shape.at,
     );
-    written(name, wrote, out);
+    written(to, name, wrote, out)
 }
 
 // Writes an address record: the hash, the flag and the balance, then as a row.
-pub fn address(name: &[u8], s: &[u8]) {
+pub fn address<W: Write>(to: &mut W, name: &[u8], s: &[u8]) -> io::Result<()> {
     let mut hash = [0u8; 32];
     let h = vector_fields::bytes_at(s, 0, &mut hash);
     let flag = vector_fields::size_at(s, h.next);
@@ -158,6 +175,7 @@ pub fn address(name: &[u8], s: &[u8]) {
     let b_len = b.len;
     let o_len = o.len;
     write_record(
+        to,
         name,
         &hash,
         flag.n == 1,
@@ -166,5 +184,5 @@ pub fn address(name: &[u8], s: &[u8]) {
         &txs[0..t_len],
         &boxes[0..b_len],
         &mut out[0..o_len],
-    );
+    )
 }

@@ -7,11 +7,8 @@
 ghost use Rattle.std.specs.Prelude.{◌<◌, ◌≤◌, length};
 
 use index_types::{Int, Long};
-use libc::STDOUT_FILENO;
-
-fn wide(x: u8) -> u64 {
-    x as u64
-}
+use std::io;
+use std::io::Write;
 
 // A byte as a length.
 pub fn as_length(x: u8) -> usize
@@ -39,8 +36,8 @@ pub fn record_end(s: &[u8], at: usize) -> usize
 }
 
 // A line of a record that is cut.
-pub fn cut() {
-    vector_line::code_line(b"cut", refusal::BYTES_END);
+pub fn cut<W: Write>(to: &mut W) -> io::Result<()> {
+    vector_line::code_line(to, b"cut", refusal::BYTES_END)
 }
 
 // ---- fields
@@ -148,23 +145,25 @@ pub fn bytes_at(s: &[u8], at: usize, out: &mut [u8]) -> Part
 // ---- lists on a line
 
 // The first n parts of `unit` bytes each, in hexadecimal.
-pub fn bytes(list: &[u8], unit: usize, n: usize)
+pub fn bytes<W: Write>(to: &mut W, list: &[u8], unit: usize, n: usize) -> io::Result<()>
     requires { 0 < unit }
 {
-    io::write_all(STDOUT_FILENO, b" ");
+    to.write_all(b" ")?;
     for i in 0..list.len() {
         if i / unit < n {
-            io::print_hex(STDOUT_FILENO, wide(list[i]), 2);
+            write!(to, "{:02x}", list[i])?;
         }
     }
+    Ok(())
 }
 
 // How many numbers a list has, and the numbers, as many as were borrowed.
-pub fn numbers(list: &[i64], n: usize) {
-    vector_line::number(n as u64);
+pub fn numbers<W: Write>(to: &mut W, list: &[i64], n: usize) -> io::Result<()> {
+    vector_line::number(to, n as u64)?;
     for i in 0..list.len() {
         if i < n {
-            vector_line::signed_number(list[i]);
+            vector_line::signed_number(to, list[i])?;
         }
     }
+    Ok(())
 }

@@ -2,73 +2,110 @@
 #![tactic(auto)]
 
 use index_types::{BoxNumber, FlatChanged, FlatPopped};
+use std::io;
+use std::io::Write;
 
 // The places of the list that a record may borrow: four more than it needs.
 const PLACES: usize = 4100;
 
-fn shown(list: &[i64], count: usize) {
-    vector_fields::numbers(list, if count < 4000 { count + 3 } else { 0 });
-    vector_line::end();
+fn shown<W: Write>(to: &mut W, list: &[i64], count: usize) -> io::Result<()> {
+    vector_fields::numbers(to, list, if count < 4000 { count + 3 } else { 0 })?;
+    vector_line::end(to)
 }
 
-fn changed_line(name: &[u8], changed: FlatChanged, list: &[i64]) {
+fn changed_line<W: Write>(
+    to: &mut W,
+    name: &[u8],
+    changed: FlatChanged,
+    list: &[i64],
+) -> io::Result<()> {
     match changed {
         FlatChanged::Done(count) => {
-            vector_line::accepted(name);
-            vector_line::number(count as u64);
-            shown(list, count);
+            vector_line::accepted(to, name)?;
+            vector_line::number(to, count as u64)?;
+            shown(to, list, count)
         }
-        FlatChanged::Refused(code) => vector_line::code_line(name, code),
+        FlatChanged::Refused(code) => vector_line::code_line(to, name, code),
     }
 }
 
-fn popped_line(name: &[u8], popped: FlatPopped, list: &[i64]) {
+fn popped_line<W: Write>(
+    to: &mut W,
+    name: &[u8],
+    popped: FlatPopped,
+    list: &[i64],
+) -> io::Result<()> {
     match popped {
         FlatPopped::Number(last, count) => {
-            vector_line::accepted(name);
-            vector_line::signed_number(last.0);
-            vector_line::number(count as u64);
-            shown(list, count);
+            vector_line::accepted(to, name)?;
+            vector_line::signed_number(to, last.0)?;
+            vector_line::number(to, count as u64)?;
+            shown(to, list, count)
         }
-        FlatPopped::Refused(code) => vector_line::code_line(name, code),
+        FlatPopped::Refused(code) => vector_line::code_line(to, name, code),
     }
 }
 
-fn append(name: &[u8], count: usize, number: i64, list: &mut [i64]) {
+fn append<W: Write>(
+    to: &mut W,
+    name: &[u8],
+    count: usize,
+    number: i64,
+    list: &mut [i64],
+) -> io::Result<()> {
     let changed = flat_list::append_box(count, list, BoxNumber(number));
-    changed_line(name, changed, list);
+    changed_line(to, name, changed, list)
 }
 
-fn spend(name: &[u8], count: usize, number: i64, list: &mut [i64]) {
+fn spend<W: Write>(
+    to: &mut W,
+    name: &[u8],
+    count: usize,
+    number: i64,
+    list: &mut [i64],
+) -> io::Result<()> {
     let changed = flat_list::spend_box(count, list, BoxNumber(number));
-    changed_line(name, changed, list);
+    changed_line(to, name, changed, list)
 }
 
-fn unspend(name: &[u8], count: usize, number: i64, list: &mut [i64]) {
+fn unspend<W: Write>(
+    to: &mut W,
+    name: &[u8],
+    count: usize,
+    number: i64,
+    list: &mut [i64],
+) -> io::Result<()> {
     let changed = flat_list::unspend_box(count, list, BoxNumber(number));
-    changed_line(name, changed, list);
+    changed_line(to, name, changed, list)
 }
 
-fn pop(name: &[u8], count: usize, list: &mut [i64]) {
+fn pop<W: Write>(to: &mut W, name: &[u8], count: usize, list: &mut [i64]) -> io::Result<()> {
     let popped = flat_list::pop_box(count, list);
-    popped_line(name, popped, list);
+    popped_line(to, name, popped, list)
 }
 
-fn called(name: &[u8], call: u8, count: usize, number: i64, list: &mut [i64]) {
+fn called<W: Write>(
+    to: &mut W,
+    name: &[u8],
+    call: u8,
+    count: usize,
+    number: i64,
+    list: &mut [i64],
+) -> io::Result<()> {
     match call {
-        0 => append(name, count, number, list),
-        1 => spend(name, count, number, list),
-        2 => unspend(name, count, number, list),
-        _ => pop(name, count, list),
+        0 => append(to, name, count, number, list),
+        1 => spend(to, name, count, number, list),
+        2 => unspend(to, name, count, number, list),
+        _ => pop(to, name, count, list),
     }
 }
 
 // A call: which one (0 append, 1 spend, 2 unspend, 3 pop), the list, how many numbers of it count, and the number.
-pub fn replay(name: &[u8], call: u8, s: &[u8]) {
+pub fn replay<W: Write>(to: &mut W, name: &[u8], call: u8, s: &[u8]) -> io::Result<()> {
     let mut list = [0i64; PLACES];
     let part = vector_fields::numbers_at(s, 0, &mut list);
     let len = part.len;
     let count = vector_fields::size_at(s, part.next);
     let number = vector_fields::number_at(s, count.next);
-    called(name, call, count.n, number.n, &mut list[0..len]);
+    called(to, name, call, count.n, number.n, &mut list[0..len])
 }

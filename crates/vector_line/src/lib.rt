@@ -1,71 +1,63 @@
 // What the vector programs print: a line for each case, its name and what came out.
 #![tactic(auto)]
 
-use libc::STDOUT_FILENO;
 use refusal::Answer;
+use std::io;
+use std::io::Write;
 
 fn wide(x: u8) -> u64 {
     x as u64
 }
 
 // Begins a line with the case's name.
-pub fn start(name: &[u8]) {
-    io::write_all(STDOUT_FILENO, name);
-    io::write_all(STDOUT_FILENO, b":");
+pub fn start<W: Write>(to: &mut W, name: &[u8]) -> io::Result<()> {
+    to.write_all(name)?;
+    to.write_all(b":")
 }
 
 // A number on the line.
-pub fn number(n: u64) {
-    io::write_all(STDOUT_FILENO, b" ");
-    io::print_decimal(STDOUT_FILENO, n);
+pub fn number<W: Write>(to: &mut W, n: u64) -> io::Result<()> {
+    write!(to, " {n}")
 }
 
 // A signed number on the line.
-pub fn signed_number(n: i64) {
-    io::write_all(STDOUT_FILENO, b" ");
-    if n < 0 {
-        io::write_all(STDOUT_FILENO, b"-");
-    }
-    io::print_decimal(STDOUT_FILENO, signed::magnitude(n));
+pub fn signed_number<W: Write>(to: &mut W, n: i64) -> io::Result<()> {
+    write!(to, " {n}")
 }
 
 // Whether something holds, as 1 or 0.
-pub fn flag(holds: bool) {
-    if holds {
-        number(1);
-    } else {
-        number(0);
-    }
+pub fn flag<W: Write>(to: &mut W, holds: bool) -> io::Result<()> {
+    if holds { number(to, 1) } else { number(to, 0) }
 }
 
 // Ends the line.
-pub fn end() {
-    io::write_all(STDOUT_FILENO, b"\n");
+pub fn end<W: Write>(to: &mut W) -> io::Result<()> {
+    to.write_all(b"\n")
 }
 
 // A refusal code on the line, or 0 where the call was accepted.
-pub fn code(code: u8) {
-    number(wide(code));
+pub fn code<W: Write>(to: &mut W, code: u8) -> io::Result<()> {
+    number(to, wide(code))
 }
 
 // A line of a name and a refusal code, or 0.
-pub fn code_line(name: &[u8], code: u8) {
-    start(name);
-    number(wide(code));
-    end();
+pub fn code_line<W: Write>(to: &mut W, name: &[u8], code: u8) -> io::Result<()> {
+    start(to, name)?;
+    number(to, wide(code))?;
+    end(to)
 }
 
 // Begins the line of a call that was accepted: its name and 0.
-pub fn accepted(name: &[u8]) {
-    start(name);
-    number(0);
+pub fn accepted<W: Write>(to: &mut W, name: &[u8]) -> io::Result<()> {
+    start(to, name)?;
+    number(to, 0)
 }
 
 // A line of a call that was accepted, and one number that it gave.
-pub fn value_line(name: &[u8], n: u64) {
-    accepted(name);
-    number(n);
-    end();
+pub fn value_line<W: Write>(to: &mut W, name: &[u8], n: u64) -> io::Result<()> {
+    accepted(to, name)?;
+    number(to, n)?;
+    end(to)
 }
 
 // The number of an answer: the refusal code, or 0.
@@ -77,6 +69,6 @@ pub fn code_of(answer: Answer) -> u8 {
 }
 
 // A line of a name and an answer.
-pub fn answer_line(name: &[u8], answer: Answer) {
-    code_line(name, code_of(answer));
+pub fn answer_line<W: Write>(to: &mut W, name: &[u8], answer: Answer) -> io::Result<()> {
+    code_line(to, name, code_of(answer))
 }

@@ -2,44 +2,58 @@
 #![tactic(auto)]
 
 use load::{Generated, Source};
+use std::io;
+use std::io::Write;
 
-fn show(name: &[u8], made: Generated, out: &[u8]) {
+fn show<W: Write>(to: &mut W, name: &[u8], made: Generated, out: &[u8]) -> io::Result<()> {
     match made {
         Generated::Written(n, after) => {
-            vector_line::accepted(name);
-            vector_line::number(n as u64);
-            vector_line::number(after.state);
-            vector_line::number(after.boxes);
-            vector_line::number(after.txs);
-            vector_fields::bytes(out, 1, out.len());
-            vector_line::end();
+            vector_line::accepted(to, name)?;
+            vector_line::number(to, n as u64)?;
+            vector_line::number(to, after.state)?;
+            vector_line::number(to, after.boxes)?;
+            vector_line::number(to, after.txs)?;
+            vector_fields::bytes(to, out, 1, out.len())?;
+            vector_line::end(to)
         }
-        Generated::Refused(code) => vector_line::code_line(name, code),
+        Generated::Refused(code) => vector_line::code_line(to, name, code),
     }
 }
 
-fn start(name: &[u8], state: u64, count: u64, out: &mut [u8]) {
+fn start<W: Write>(
+    to: &mut W,
+    name: &[u8],
+    state: u64,
+    count: u64,
+    out: &mut [u8],
+) -> io::Result<()> {
     let made = load::generate_load(state, count, out);
-    show(name, made, out);
+    show(to, name, made, out)
 }
 
-fn further(name: &[u8], source: Source, count: u64, out: &mut [u8]) {
+fn further<W: Write>(
+    to: &mut W,
+    name: &[u8],
+    source: Source,
+    count: u64,
+    out: &mut [u8],
+) -> io::Result<()> {
     let made = load::go_on(source, count, out);
-    show(name, made, out);
+    show(to, name, made, out)
 }
 
 // A load from a state: the output, the state and how many calls.
-pub fn generate(name: &[u8], s: &[u8]) {
+pub fn generate<W: Write>(to: &mut W, name: &[u8], s: &[u8]) -> io::Result<()> {
     let mut out = [0u8; 256];
     let part = vector_fields::bytes_at(s, 0, &mut out);
     let len = part.len;
     let state = vector_fields::size_at(s, part.next);
     let count = vector_fields::size_at(s, state.next);
-    start(name, state.n as u64, count.n as u64, &mut out[0..len]);
+    start(to, name, state.n as u64, count.n as u64, &mut out[0..len])
 }
 
 // A load that goes on: the output, the state, how many calls, and the counts of boxes and transactions.
-pub fn go_on(name: &[u8], s: &[u8]) {
+pub fn go_on<W: Write>(to: &mut W, name: &[u8], s: &[u8]) -> io::Result<()> {
     let mut out = [0u8; 256];
     let part = vector_fields::bytes_at(s, 0, &mut out);
     let len = part.len;
@@ -52,5 +66,5 @@ pub fn go_on(name: &[u8], s: &[u8]) {
         boxes: boxes.n as u64,
         txs: txs.n as u64,
     };
-    further(name, source, count.n as u64, &mut out[0..len]);
+    further(to, name, source, count.n as u64, &mut out[0..len])
 }

@@ -8,48 +8,58 @@ use call_steps::{AMOUNTS_AT, NANOS_AT, PARENT_NUMBERS};
 use runner_start::{
     ALL_LENGTHS, ALL_NUMBERS, ALL_SPILLS, DELETED_BYTES, STAGED_BYTES, TABLE_BYTES,
 };
+use std::io;
+use std::io::Write;
 
-fn answer(code: u8, popped: bool, number: i64) {
-    vector_line::code(code);
+fn answer<W: Write>(to: &mut W, code: u8, popped: bool, number: i64) -> io::Result<()> {
+    vector_line::code(to, code)?;
     if popped {
-        vector_line::signed_number(number);
+        vector_line::signed_number(to, number)?;
     }
+    Ok(())
 }
 
 // The answers of n calls, at most 1,024.
-fn answers(codes: &[u8; 2048], numbers: &[i64; AMOUNTS_AT], n: usize) {
-    vector_line::number(n as u64);
+fn answers<W: Write>(
+    to: &mut W,
+    codes: &[u8; 2048],
+    numbers: &[i64; AMOUNTS_AT],
+    n: usize,
+) -> io::Result<()> {
+    vector_line::number(to, n as u64)?;
     for i in 0..1024 {
         if i < n {
             let code = i * 2;
             let flag = code + 1;
-            answer(codes[code], codes[flag] == 1, numbers[i]);
+            answer(to, codes[code], codes[flag] == 1, numbers[i])?;
         }
     }
+    Ok(())
 }
 
-fn head(len: usize, spills: i32) {
-    vector_line::number(len as u64);
-    vector_line::signed_number(signed::i64_from_i32(spills));
+fn head<W: Write>(to: &mut W, len: usize, spills: i32) -> io::Result<()> {
+    vector_line::number(to, len as u64)?;
+    vector_line::signed_number(to, signed::i64_from_i32(spills))
 }
 
 // A parent's heads, boxes first, with their spill counts, its nanoErgs and its token count.
-fn parent(
+fn parent<W: Write>(
+    to: &mut W,
     p: usize,
     numbers: &[i64; ALL_NUMBERS],
     lengths: &[usize; ALL_LENGTHS],
     spills: &[i32; ALL_SPILLS],
-)
+) -> io::Result<()>
     requires { p < 2 }
 {
-    head(lengths[p * 3], spills[p * 2]);
-    head(lengths[p * 3 + 1], spills[p * 2 + 1]);
-    vector_line::signed_number(numbers[p * PARENT_NUMBERS + NANOS_AT]);
-    vector_line::number(lengths[p * 3 + 2] as u64);
+    head(to, lengths[p * 3], spills[p * 2])?;
+    head(to, lengths[p * 3 + 1], spills[p * 2 + 1])?;
+    vector_line::signed_number(to, numbers[p * PARENT_NUMBERS + NANOS_AT])?;
+    vector_line::number(to, lengths[p * 3 + 2] as u64)
 }
 
 // Makes the calls of a history on two parents, from the empty state of the call runner.
-pub fn run(name: &[u8], s: &[u8]) {
+pub fn run<W: Write>(to: &mut W, name: &[u8], s: &[u8]) -> io::Result<()> {
     let mut ids = runner_start::parent_ids();
     let mut numbers = [0i64; ALL_NUMBERS];
     let mut lengths = [0usize; ALL_LENGTHS];
@@ -75,9 +85,9 @@ pub fn run(name: &[u8], s: &[u8]) {
         counts,
     );
     let made = p.made;
-    vector_line::start(name);
-    answers(&codes, &popped, made);
-    parent(0, &numbers, &lengths, &spills);
-    parent(1, &numbers, &lengths, &spills);
-    vector_line::end();
+    vector_line::start(to, name)?;
+    answers(to, &codes, &popped, made)?;
+    parent(to, 0, &numbers, &lengths, &spills)?;
+    parent(to, 1, &numbers, &lengths, &spills)?;
+    vector_line::end(to)
 }
