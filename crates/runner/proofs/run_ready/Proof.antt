@@ -52,7 +52,7 @@ loop-again c =
     let k = c.before.before.before.before.before.before.before.before.before.before.before.before.before.before.before.before.before.turn-p.auto in
     let s = l.invariant.same in
     kept_turn _ a.parents a.input.now l.left (run l.p l.ids l.numbers l.lengths l.spills l.staged l.table l.deleted l.answers l.popped) (start (state a.ids.now a.numbers.now a.lengths.now a.spills.now (lists_with a.counts a.staged.now a.table.now a.deleted.now)) a.answers.now a.popped.now) l.invariant _ _ c.before.before.before.before.before.before.before.before.before.before.before.before.before.before.before.before.before.before.before.before.before.before.before.before.before.before.before.before.before.before.loop-left-test.true (sym c.before.before.before.before.before.before.before.before.before.before.before.before.before.before.before.before.before.before.before.before.before.before.before.before.before.before.before.before.before.may_go.ensures ∙ c.before.before.before.before.before.before.before.before.before.before.before.before.before.before.before.before.before.before.before.before.before.before.before.before.before.before.before.before.if-may_go.true)
-    (k.1.1.0 ∙ s.0, k.1.1.1.0 ∙ s.1, k.1.1.1.1.0 ∙ s.2, k.1.1.1.1.1.0 ∙ s.3, k.1.1.1.1.1.1.0 ∙ s.4, k.1.1.1.1.1.1.1.0 ∙ s.5, k.1.1.1.1.1.1.1.1.0 ∙ s.6, k.1.1.1.1.1.1.1.1.1.0 ∙ s.7, k.1.1.1.1.1.1.1.1.1.1.0 ∙ s.8, k.1.1.1.1.1.1.1.1.1.1.1.0 ∙ s.9) c.before.before.before.before.before.before.before.before.before.before.before.before.before.before.before.before.before.turn-p.ensures
+    (k.ids ∙ s.0, k.numbers ∙ s.1, k.lengths ∙ s.2, k.spills ∙ s.3, k.staged ∙ s.4, k.table ∙ s.5, k.deleted ∙ s.6, k.answers ∙ s.7, k.popped ∙ s.8, k.hints ∙ s.9) c.before.before.before.before.before.before.before.before.before.before.before.before.before.before.before.before.before.turn-p.ensures
 
 same_length : tie.Need-shape_of-ids-else-may_go invariant_loop decreases_loop
 same_length c = c.before.before.before.loop-left.invariant.same.0

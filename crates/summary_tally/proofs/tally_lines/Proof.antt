@@ -15,58 +15,58 @@ use borrow.Author.Rules.{rules}
 use Rattle.summary_tally.proofs.tally_lines.Statement.{statement}
 use Rattle.summary_tally.proofs.tally_lines.Tie as tie
 
-order_ok_requires : tie.Need-order-ok-requires
+order_ok_requires : tie.Need-order_ok-requires
 order_ok_requires c κs = search rules
 
-returns : tie.Need-returns
+returns : tie.Need-returns-then-not-order_ok
 returns c =
     let a = c.before.before.before.before.args in
-    tally_10 a.counts.spills (take a.counts.len a.head.now) a.lines a.summary.now (sym c.before.order_ok.ensures ∙ not-true _ c.if1.true)
+    tally_10 a.counts.spills (take a.counts.len a.head.now) a.lines a.summary.now (sym c.before.order_ok.ensures ∙ c.if-not-order_ok.true)
 
-is_negative_i32_requires : tie.Need-is-negative-i32-requires
+is_negative_i32_requires : tie.Need-is_negative_i32-requires
 is_negative_i32_requires c κs = search rules
 
-returns-2 : tie.Need-returns-2
+returns-2 : tie.Need-returns-then-is_negative_i32
 returns-2 c =
     let a = c.before.before.before.before.before.before.args in
     let e = back w32 a.counts.spills (search rules) in
-    tally_11 a.counts.spills (take a.counts.len a.head.now) a.lines a.summary.now (sym c.before.before.before.order_ok.ensures ∙ not-false _ c.before.before.if1.false) (ap is_negative (sym e) ∙ sym c.before.is_negative_i32.ensures ∙ c.if2.true)
+    tally_11 a.counts.spills (take a.counts.len a.head.now) a.lines a.summary.now (sym c.before.before.before.order_ok.ensures ∙ c.before.before.if-not-order_ok.false) (ap is_negative (sym e) ∙ sym c.before.is_negative_i32.ensures ∙ c.if-is_negative_i32.true)
 
-usize_from_i32_requires : tie.Need-usize-from-i32-requires
-usize_from_i32_requires c κs = sym c.before.is_negative_i32.ensures ∙ c.if2.false
+usize_from_i32_requires : tie.Need-usize_from_i32-rows-requires
+usize_from_i32_requires c κs = sym c.before.is_negative_i32.ensures ∙ c.if-is_negative_i32.false
 
-returns-3 : tie.Need-returns-3
+returns-3 : tie.Need-returns-then-lines-rows
 returns-3 c =
     let a = c.before.before.before.before.before.before.before.before.args in
     let e = back w32 a.counts.spills (search rules) in
-    tally_36 a.counts.spills (take a.counts.len a.head.now) a.lines a.summary.now (sym c.before.before.before.before.before.order_ok.ensures ∙ not-false _ c.before.before.before.before.if1.false) (ap is_negative (sym e) ∙ sym c.before.before.before.is_negative_i32.ensures ∙ c.before.before.if2.false)
-    _ (c.before.usize_from_i32.ensures ∙ ap nat_abs e) c.if3.true
+    tally_36 a.counts.spills (take a.counts.len a.head.now) a.lines a.summary.now (sym c.before.before.before.before.before.order_ok.ensures ∙ c.before.before.before.before.if-not-order_ok.false) (ap is_negative (sym e) ∙ sym c.before.before.before.is_negative_i32.ensures ∙ c.before.before.if-is_negative_i32.false)
+    _ (c.before.usize_from_i32-rows.ensures ∙ ap nat_abs e) c.if-lines-rows.true
 
-tally_entries_requires : tie.Need-tally-entries-requires
+tally_entries_requires : tie.Need-tally_entries-requires
 tally_entries_requires c κs = search rules
 
-add_lines_requires : tie.Need-add-lines-requires
+add_lines_requires : tie.Need-add_lines-requires
 add_lines_requires c κs =
     let s = c.before.before.before.before.before.before.before.before.before in
     let a = s.args in
     let e = back w32 a.counts.spills (search rules) in
-    let n = ap is_negative (sym e) ∙ sym c.before.before.before.before.is_negative_i32.ensures ∙ c.before.before.before.if2.false in
+    let n = ap is_negative (sym e) ∙ sym c.before.before.before.before.is_negative_i32.ensures ∙ c.before.before.before.if-is_negative_i32.false in
     let zs = take a.counts.len a.head.now in
     let t = length-take-le a.counts.len a.head.now (omega (arith, s.requires.0, s.requires.1)) in
     let k = c.tally_entries.ensures in (
-      omega (arith, s.requires.2, c.before.if3.false),
-      spills_below a.counts.spills n (search rules) _ (c.before.before.usize_from_i32.ensures ∙ ap nat_abs e),
+      omega (arith, s.requires.2, c.before.if-lines-rows.false),
+      spills_below a.counts.spills n (search rules) _ (c.before.before.usize_from_i32-rows.ensures ∙ ap nat_abs e),
       rw k (omega (arith, s.requires.0, t, adds_up zs)),
       rw k (omega (arith, s.requires.0, t, adds_up zs)),
       rw k (omega (arith, s.requires.0, t, adds_up zs)),
     )
 
-returns-4 : tie.Need-returns-4
+returns-4 : tie.Need-returns
 returns-4 c =
     let a = c.before.before.before.before.before.before.before.before.before.before.args in
     let e = back w32 a.counts.spills (search rules) in
-    tally_on a.counts.spills (take a.counts.len a.head.now) a.lines a.summary.now (sym c.before.before.before.before.before.before.before.order_ok.ensures ∙ not-false _ c.before.before.before.before.before.before.if1.false) (ap is_negative (sym e) ∙ sym c.before.before.before.before.before.is_negative_i32.ensures ∙ c.before.before.before.before.if2.false)
-    _ (c.before.before.before.usize_from_i32.ensures ∙ ap nat_abs e) c.before.before.if3.false _ c.before.tally_entries.ensures _ c.add_lines.ensures
+    tally_on a.counts.spills (take a.counts.len a.head.now) a.lines a.summary.now (sym c.before.before.before.before.before.before.before.order_ok.ensures ∙ c.before.before.before.before.before.before.if-not-order_ok.false) (ap is_negative (sym e) ∙ sym c.before.before.before.before.before.is_negative_i32.ensures ∙ c.before.before.before.before.if-is_negative_i32.false)
+    _ (c.before.before.before.usize_from_i32-rows.ensures ∙ ap nat_abs e) c.before.before.if-lines-rows.false _ c.before.tally_entries.ensures _ c.add_lines.ensures
 
 pub tally_lines_spec : {M : Type 1} → statement M
 tally_lines_spec =
