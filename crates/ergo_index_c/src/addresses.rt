@@ -29,7 +29,20 @@ pub extern "C" fn ergo_index_write_indexed_address(
         ≡ write_export at.old (write_address hash.now has_balance nanos ids.now amounts.now count txs.now n_txs boxes.now n_boxes box_segment_count tx_segment_count out.old at.old) }
 {
     ergo_index_addresses::ergo_index_write_indexed_address(
-        hash, has_balance, ids, amounts, count, nanos, txs, n_txs, boxes, n_boxes, box_segment_count, tx_segment_count, out, at,
+        hash,
+        has_balance,
+        ids,
+        amounts,
+        count,
+        nanos,
+        txs,
+        n_txs,
+        boxes,
+        n_boxes,
+        box_segment_count,
+        tx_segment_count,
+        out,
+        at,
     )
 }
 
@@ -58,6 +71,18 @@ pub extern "C" fn ergo_index_read_indexed_address(
         (read_address row.now txs.old boxes.old) }
 {
     ergo_index_addresses::ergo_index_read_indexed_address(
-        row, hash, has_balance, ids, amounts, count, nanos, txs, n_txs, boxes, n_boxes, box_segment_count, tx_segment_count,
+        row,
+        hash,
+        has_balance,
+        ids,
+        amounts,
+        count,
+        nanos,
+        txs,
+        n_txs,
+        boxes,
+        n_boxes,
+        box_segment_count,
+        tx_segment_count,
     )
 }

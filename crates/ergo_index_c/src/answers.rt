@@ -4,7 +4,6 @@ ghost use Rattle.refusal.specs.Refusal.{tolerated};
 ghost use Rattle.statement.specs.Statement.{milli_ergs};
 ghost use Rattle.ergo_index_answers.specs.Answers.{answer_of, drift_out, drift_export};
 
-
 // A flip whose code is 15 is skipped, which is no refusal; any other code passes.
 #[unsafe(no_mangle)]
 pub extern "C" fn ergo_index_tolerate_secondary_drift(flip: u8, skipped: &mut bool) -> u8

@@ -7,7 +7,6 @@ ghost use Rattle.ergo_index_lists.specs.Lists.{named_edition};
 ghost use Rattle.ergo_index_outs.specs.Outs.{append_out};
 ghost use Rattle.ergo_index_append.specs.Append.{append_call};
 
-
 // A box number goes to the end of the head of boxes; a full head becomes the next staged row first.
 #[unsafe(no_mangle)]
 pub extern "C" fn ergo_index_append_box_entry(
@@ -24,7 +23,14 @@ pub extern "C" fn ergo_index_append_box_entry(
         ≡ append_call One Box parent.now len.old spills.old head.old number staged_count.old staged_capacity staged.old }
 {
     ergo_index_append::ergo_index_append_box_entry(
-        parent, len, spills, head, number, staged_count, staged_capacity, staged,
+        parent,
+        len,
+        spills,
+        head,
+        number,
+        staged_count,
+        staged_capacity,
+        staged,
     )
 }
 
@@ -44,7 +50,14 @@ pub extern "C" fn ergo_index_append_tx_entry(
         ≡ append_call One Tx parent.now len.old spills.old head.old number staged_count.old staged_capacity staged.old }
 {
     ergo_index_append::ergo_index_append_tx_entry(
-        parent, len, spills, head, number, staged_count, staged_capacity, staged,
+        parent,
+        len,
+        spills,
+        head,
+        number,
+        staged_count,
+        staged_capacity,
+        staged,
     )
 }
 
@@ -65,7 +78,15 @@ pub extern "C" fn ergo_index_append_box_entry_in_edition(
         ≡ append_call (named_edition second_edition) Box parent.now len.old spills.old head.old number staged_count.old staged_capacity staged.old }
 {
     ergo_index_append::ergo_index_append_box_entry_in_edition(
-        second_edition, parent, len, spills, head, number, staged_count, staged_capacity, staged,
+        second_edition,
+        parent,
+        len,
+        spills,
+        head,
+        number,
+        staged_count,
+        staged_capacity,
+        staged,
     )
 }
 
@@ -86,6 +107,14 @@ pub extern "C" fn ergo_index_append_tx_entry_in_edition(
         ≡ append_call (named_edition second_edition) Tx parent.now len.old spills.old head.old number staged_count.old staged_capacity staged.old }
 {
     ergo_index_append::ergo_index_append_tx_entry_in_edition(
-        second_edition, parent, len, spills, head, number, staged_count, staged_capacity, staged,
+        second_edition,
+        parent,
+        len,
+        spills,
+        head,
+        number,
+        staged_count,
+        staged_capacity,
+        staged,
     )
 }

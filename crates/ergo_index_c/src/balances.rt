@@ -22,7 +22,14 @@ pub extern "C" fn ergo_index_add_box(
         ≡ balance_export (add_box (flat held_ids.old held_amounts.old held_count.old held_nanos.old) nanos ids.now amounts.now count) }
 {
     ergo_index_balances::ergo_index_add_box(
-        held_ids, held_amounts, held_count, held_nanos, nanos, ids, amounts, count,
+        held_ids,
+        held_amounts,
+        held_count,
+        held_nanos,
+        nanos,
+        ids,
+        amounts,
+        count,
     )
 }
 
@@ -42,6 +49,13 @@ pub extern "C" fn ergo_index_subtract_box(
         ≡ balance_export (subtract_box (flat held_ids.old held_amounts.old held_count.old held_nanos.old) nanos ids.now amounts.now count) }
 {
     ergo_index_balances::ergo_index_subtract_box(
-        held_ids, held_amounts, held_count, held_nanos, nanos, ids, amounts, count,
+        held_ids,
+        held_amounts,
+        held_count,
+        held_nanos,
+        nanos,
+        ids,
+        amounts,
+        count,
     )
 }

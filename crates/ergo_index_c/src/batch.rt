@@ -3,7 +3,6 @@
 ghost use Rattle.std.specs.Prelude.{◌≡◌};
 ghost use Rattle.ergo_index_batch.specs.Batch.{run_out, run_call};
 
-
 // The calls from the front of the input, until no call stands at `at` or the answers have no room; `made` of them were answered, and `end` tells why there
 // was no further one. The result is 25 where the state was refused, and then nothing is changed; else 0.
 #[unsafe(no_mangle)]
@@ -36,6 +35,25 @@ pub extern "C" fn ergo_index_run_calls(
         at.old made.old end.old }
 {
     ergo_index_batch::ergo_index_run_calls(
-        input, parents, ids, numbers, lengths, spills, staged_count, staged_capacity, staged, table_count, table_capacity, table, deleted_count, deleted_capacity, deleted, answers, popped, at, made, end,
+        input,
+        parents,
+        ids,
+        numbers,
+        lengths,
+        spills,
+        staged_count,
+        staged_capacity,
+        staged,
+        table_count,
+        table_capacity,
+        table,
+        deleted_count,
+        deleted_capacity,
+        deleted,
+        answers,
+        popped,
+        at,
+        made,
+        end,
     )
 }

@@ -3,7 +3,6 @@ ghost use Rattle.std.specs.Prelude.{◌≡◌};
 ghost use Rattle.driver_core.specs.Bytes.{journal};
 ghost use Rattle.ergo_index_driver.specs.Driver.{state_in, state_out, apply_out, apply_call, make_out, make_call, undo_out, undo_call};
 
-
 // The calls from the front of the input, the accepted ones at the end of the journal, until one ends the batch or the answers have no room; `made` of them were
 // answered, and `end` tells why there was no further one. The result is 25 where the state or the journal was refused, and then nothing is changed; else 0.
 #[unsafe(no_mangle)]
@@ -38,7 +37,28 @@ pub extern "C" fn ergo_index_apply_calls(
         (journal entries.old used.old standing.old) answers.old at.old made.old end.old }
 {
     ergo_index_driver::ergo_index_apply_calls(
-        input, parents, ids, numbers, lengths, spills, staged_count, staged_capacity, staged, table_count, table_capacity, table, deleted_count, deleted_capacity, deleted, entries, used, standing, answers, at, made, end,
+        input,
+        parents,
+        ids,
+        numbers,
+        lengths,
+        spills,
+        staged_count,
+        staged_capacity,
+        staged,
+        table_count,
+        table_capacity,
+        table,
+        deleted_count,
+        deleted_capacity,
+        deleted,
+        entries,
+        used,
+        standing,
+        answers,
+        at,
+        made,
+        end,
     )
 }
 
@@ -73,7 +93,26 @@ pub extern "C" fn ergo_index_make_calls(
         answers.old popped.old at.old made.old end.old }
 {
     ergo_index_driver::ergo_index_make_calls(
-        input, parents, ids, numbers, lengths, spills, staged_count, staged_capacity, staged, table_count, table_capacity, table, deleted_count, deleted_capacity, deleted, answers, popped, at, made, end,
+        input,
+        parents,
+        ids,
+        numbers,
+        lengths,
+        spills,
+        staged_count,
+        staged_capacity,
+        staged,
+        table_count,
+        table_capacity,
+        table,
+        deleted_count,
+        deleted_capacity,
+        deleted,
+        answers,
+        popped,
+        at,
+        made,
+        end,
     )
 }
 
@@ -105,6 +144,23 @@ pub extern "C" fn ergo_index_undo_to(
         (journal entries.now used.old standing.old) }
 {
     ergo_index_driver::ergo_index_undo_to(
-        parents, mark, ids, numbers, lengths, spills, staged_count, staged_capacity, staged, table_count, table_capacity, table, deleted_count, deleted_capacity, deleted, entries, used, standing,
+        parents,
+        mark,
+        ids,
+        numbers,
+        lengths,
+        spills,
+        staged_count,
+        staged_capacity,
+        staged,
+        table_count,
+        table_capacity,
+        table,
+        deleted_count,
+        deleted_capacity,
+        deleted,
+        entries,
+        used,
+        standing,
     )
 }

@@ -4,7 +4,6 @@ ghost use Rattle.index_types.specs.declared.RowEdition.TheVariants.{One, Two};
 ghost use Rattle.row_converters.specs.Convert.{convert};
 ghost use Rattle.ergo_index_numbers.specs.Numbers.{write_out, write_export};
 
-
 // A row of the first edition, with its parent, kind (1 box, 2 transaction) and spill number, goes to the front of the output as one of the second.
 #[unsafe(no_mangle)]
 pub extern "C" fn ergo_index_row_to_second(

@@ -3,7 +3,6 @@ ghost use Rattle.std.specs.Prelude.{◌≡◌};
 ghost use Rattle.ergo_index_lists.specs.Lists.{named_edition};
 ghost use Rattle.ergo_index_fetching.specs.Fetching.{put_out, put_call};
 
-
 // Puts a row under its key. The number of records goes to the out.
 #[unsafe(no_mangle)]
 pub extern "C" fn ergo_index_put_row<'a>(
@@ -18,6 +17,11 @@ pub extern "C" fn ergo_index_put_row<'a>(
         ≡ put_call (named_edition second_edition) key.now row.now table_count.old table_capacity table.old }
 {
     ergo_index_fetching::ergo_index_put_row(
-        second_edition, key, row, table_count, table_capacity, table,
+        second_edition,
+        key,
+        row,
+        table_count,
+        table_capacity,
+        table,
     )
 }

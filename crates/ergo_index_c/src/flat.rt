@@ -3,7 +3,6 @@ ghost use Rattle.std.specs.Prelude.{◌≡◌, true, false};
 ghost use Rattle.flat_list.specs.Flat.{flat_append, flat_flip, flat_pop};
 ghost use Rattle.ergo_index_flat.specs.Exports.{change_out, change_export, pop_out, pop_export};
 
-
 // Puts a box number at the end of the list.
 #[unsafe(no_mangle)]
 pub extern "C" fn ergo_index_flat_append_box(count: &mut usize, list: &mut [i64], number: i64) -> u8

@@ -6,7 +6,6 @@ ghost use Rattle.ergo_index_lists.specs.Lists.{named_edition};
 ghost use Rattle.ergo_index_outs.specs.Outs.{flip_out, tally_out};
 ghost use Rattle.ergo_index_flips.specs.Flips.{flip_call, tally_call};
 
-
 // Marks one box as spent.
 #[unsafe(no_mangle)]
 pub extern "C" fn ergo_index_flip_box_segment_entry(
@@ -26,7 +25,17 @@ pub extern "C" fn ergo_index_flip_box_segment_entry(
         ≡ flip_call One Spend parent.now len spills head.old target staged_count.old staged_capacity staged.old table_count table_capacity table.now }
 {
     ergo_index_flips::ergo_index_flip_box_segment_entry(
-        parent, len, spills, head, target, staged_count, staged_capacity, staged, table_count, table_capacity, table,
+        parent,
+        len,
+        spills,
+        head,
+        target,
+        staged_count,
+        staged_capacity,
+        staged,
+        table_count,
+        table_capacity,
+        table,
     )
 }
 
@@ -49,7 +58,17 @@ pub extern "C" fn ergo_index_unflip_box_segment_entry(
         ≡ flip_call One Unspend parent.now len spills head.old target staged_count.old staged_capacity staged.old table_count table_capacity table.now }
 {
     ergo_index_flips::ergo_index_unflip_box_segment_entry(
-        parent, len, spills, head, target, staged_count, staged_capacity, staged, table_count, table_capacity, table,
+        parent,
+        len,
+        spills,
+        head,
+        target,
+        staged_count,
+        staged_capacity,
+        staged,
+        table_count,
+        table_capacity,
+        table,
     )
 }
 
@@ -74,7 +93,19 @@ pub extern "C" fn ergo_index_tally<'a>(
         ≡ tally_call One parent.now len spills head.now staged_count staged_capacity staged.now table_count table_capacity table.now unspent.old spent.old unknown.old }
 {
     ergo_index_flips::ergo_index_tally(
-        parent, len, spills, head, staged_count, staged_capacity, staged, table_count, table_capacity, table, unspent, spent, unknown,
+        parent,
+        len,
+        spills,
+        head,
+        staged_count,
+        staged_capacity,
+        staged,
+        table_count,
+        table_capacity,
+        table,
+        unspent,
+        spent,
+        unknown,
     )
 }
 
@@ -98,7 +129,18 @@ pub extern "C" fn ergo_index_flip_box_segment_entry_in_edition(
         ≡ flip_call (named_edition second_edition) Spend parent.now len spills head.old target staged_count.old staged_capacity staged.old table_count table_capacity table.now }
 {
     ergo_index_flips::ergo_index_flip_box_segment_entry_in_edition(
-        second_edition, parent, len, spills, head, target, staged_count, staged_capacity, staged, table_count, table_capacity, table,
+        second_edition,
+        parent,
+        len,
+        spills,
+        head,
+        target,
+        staged_count,
+        staged_capacity,
+        staged,
+        table_count,
+        table_capacity,
+        table,
     )
 }
 
@@ -122,7 +164,18 @@ pub extern "C" fn ergo_index_unflip_box_segment_entry_in_edition(
         ≡ flip_call (named_edition second_edition) Unspend parent.now len spills head.old target staged_count.old staged_capacity staged.old table_count table_capacity table.now }
 {
     ergo_index_flips::ergo_index_unflip_box_segment_entry_in_edition(
-        second_edition, parent, len, spills, head, target, staged_count, staged_capacity, staged, table_count, table_capacity, table,
+        second_edition,
+        parent,
+        len,
+        spills,
+        head,
+        target,
+        staged_count,
+        staged_capacity,
+        staged,
+        table_count,
+        table_capacity,
+        table,
     )
 }
 
@@ -148,6 +201,19 @@ pub extern "C" fn ergo_index_tally_in_edition<'a>(
         ≡ tally_call (named_edition second_edition) parent.now len spills head.now staged_count staged_capacity staged.now table_count table_capacity table.now unspent.old spent.old unknown.old }
 {
     ergo_index_flips::ergo_index_tally_in_edition(
-        second_edition, parent, len, spills, head, staged_count, staged_capacity, staged, table_count, table_capacity, table, unspent, spent, unknown,
+        second_edition,
+        parent,
+        len,
+        spills,
+        head,
+        staged_count,
+        staged_capacity,
+        staged,
+        table_count,
+        table_capacity,
+        table,
+        unspent,
+        spent,
+        unknown,
     )
 }

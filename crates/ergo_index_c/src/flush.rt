@@ -5,7 +5,6 @@ ghost use Rattle.ergo_index_lists.specs.Lists.{named_edition};
 ghost use Rattle.ergo_index_outs.specs.Outs.{flush_out};
 ghost use Rattle.ergo_index_flush.specs.Flush.{flush_call};
 
-
 // Writes the staged rows whose key is not deleted to the table, then removes the deleted keys from it; staged and deleted spills end empty.
 #[unsafe(no_mangle)]
 pub extern "C" fn ergo_index_flush_staged_spills(
@@ -23,7 +22,15 @@ pub extern "C" fn ergo_index_flush_staged_spills(
         ≡ flush_call One staged_count.old staged_capacity staged.old table_count.old table_capacity table.old deleted_count.old deleted_capacity deleted.old }
 {
     ergo_index_flush::ergo_index_flush_staged_spills(
-        staged_count, staged_capacity, staged, table_count, table_capacity, table, deleted_count, deleted_capacity, deleted,
+        staged_count,
+        staged_capacity,
+        staged,
+        table_count,
+        table_capacity,
+        table,
+        deleted_count,
+        deleted_capacity,
+        deleted,
     )
 }
 
@@ -45,6 +52,15 @@ pub extern "C" fn ergo_index_flush_staged_spills_in_edition(
         ≡ flush_call (named_edition second_edition) staged_count.old staged_capacity staged.old table_count.old table_capacity table.old deleted_count.old deleted_capacity deleted.old }
 {
     ergo_index_flush::ergo_index_flush_staged_spills_in_edition(
-        second_edition, staged_count, staged_capacity, staged, table_count, table_capacity, table, deleted_count, deleted_capacity, deleted,
+        second_edition,
+        staged_count,
+        staged_capacity,
+        staged,
+        table_count,
+        table_capacity,
+        table,
+        deleted_count,
+        deleted_capacity,
+        deleted,
     )
 }

@@ -4,7 +4,6 @@ ghost use Rattle.vlq_core.specs.Writing.{put_bytes};
 ghost use Rattle.history_growth.specs.Listing.{histories, bytes_of};
 ghost use Rattle.ergo_index_numbers.specs.Numbers.{write_out, write_export};
 
-
 // Writes every history of at most five calls at the front of the output: 32 if it is too short.
 #[unsafe(no_mangle)]
 pub extern "C" fn ergo_index_list_histories(out: &mut [u8], written: &mut usize) -> u8

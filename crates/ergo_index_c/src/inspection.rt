@@ -4,7 +4,6 @@ ghost use Rattle.index_types.specs.declared.RowEdition.TheVariants.{One};
 ghost use Rattle.ergo_index_lists.specs.Lists.{named_edition};
 ghost use Rattle.ergo_index_inspection.specs.Inspection.{locate_out, locate_call, inspect_out, inspect_call};
 
-
 // Which list holds the row under a key, and the index of its record there.
 #[unsafe(no_mangle)]
 pub extern "C" fn ergo_index_locate_spill(
@@ -22,7 +21,15 @@ pub extern "C" fn ergo_index_locate_spill(
         ≡ locate_call One staged_count staged_capacity staged.now table_count table_capacity table.now key.now list.old index.old }
 {
     ergo_index_inspection::ergo_index_locate_spill(
-        staged_count, staged_capacity, staged, table_count, table_capacity, table, key, list, index,
+        staged_count,
+        staged_capacity,
+        staged,
+        table_count,
+        table_capacity,
+        table,
+        key,
+        list,
+        index,
     )
 }
 
@@ -44,7 +51,16 @@ pub extern "C" fn ergo_index_inspect_spill<'a>(
         ≡ inspect_call One staged_count staged_capacity staged.now table_count table_capacity table.now key.now list.old offset.old length.old }
 {
     ergo_index_inspection::ergo_index_inspect_spill(
-        staged_count, staged_capacity, staged, table_count, table_capacity, table, key, list, offset, length,
+        staged_count,
+        staged_capacity,
+        staged,
+        table_count,
+        table_capacity,
+        table,
+        key,
+        list,
+        offset,
+        length,
     )
 }
 
@@ -66,7 +82,16 @@ pub extern "C" fn ergo_index_locate_spill_in_edition(
         ≡ locate_call (named_edition second_edition) staged_count staged_capacity staged.now table_count table_capacity table.now key.now list.old index.old }
 {
     ergo_index_inspection::ergo_index_locate_spill_in_edition(
-        second_edition, staged_count, staged_capacity, staged, table_count, table_capacity, table, key, list, index,
+        second_edition,
+        staged_count,
+        staged_capacity,
+        staged,
+        table_count,
+        table_capacity,
+        table,
+        key,
+        list,
+        index,
     )
 }
 
@@ -89,6 +114,16 @@ pub extern "C" fn ergo_index_inspect_spill_in_edition<'a>(
         ≡ inspect_call (named_edition second_edition) staged_count staged_capacity staged.now table_count table_capacity table.now key.now list.old offset.old length.old }
 {
     ergo_index_inspection::ergo_index_inspect_spill_in_edition(
-        second_edition, staged_count, staged_capacity, staged, table_count, table_capacity, table, key, list, offset, length,
+        second_edition,
+        staged_count,
+        staged_capacity,
+        staged,
+        table_count,
+        table_capacity,
+        table,
+        key,
+        list,
+        offset,
+        length,
     )
 }

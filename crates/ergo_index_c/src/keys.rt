@@ -4,7 +4,6 @@ ghost use Rattle.blake2b_core.specs.Blake2b as spec;
 ghost use Rattle.segment_id.specs.declared.Kind.TheVariants.{Box, Tx};
 ghost use Rattle.segment_id.specs.Key.{row_key};
 
-
 // The BLAKE2b-256 digest of any input.
 #[unsafe(no_mangle)]
 pub extern "C" fn ergo_index_blake2b256(s: &[u8], out: &mut [u8; 32])

@@ -4,7 +4,6 @@ ghost use Rattle.load_core.specs.Draw.{source};
 ghost use Rattle.load.specs.Generated.{generate_load_of, go_on_of};
 ghost use Rattle.ergo_index_load.specs.Load.{load_out, load_export};
 
-
 // Writes `count` calls at the front of the output, drawn from the state `from`: how many bytes they took, and the generator after them.
 #[unsafe(no_mangle)]
 pub extern "C" fn ergo_index_generate_load(

@@ -7,7 +7,6 @@ ghost use Rattle.ergo_index_lists.specs.Lists.{named_edition};
 ghost use Rattle.missing_outs.specs.Outs.{missing_out};
 ghost use Rattle.ergo_index_missing.specs.Missing.{flip_missing, pop_missing, tally_missing, page_missing};
 
-
 // The row that a spend needs next.
 #[unsafe(no_mangle)]
 pub extern "C" fn ergo_index_missing_for_spend<'a>(
@@ -30,7 +29,20 @@ pub extern "C" fn ergo_index_missing_for_spend<'a>(
         ≡ flip_missing (named_edition second_edition) Spend parent.now len spills head.now target staged_count staged_capacity staged.now table_count table_capacity table.now number.old key.old }
 {
     ergo_index_missing::ergo_index_missing_for_spend(
-        second_edition, parent, len, spills, head, target, staged_count, staged_capacity, staged, table_count, table_capacity, table, number, key,
+        second_edition,
+        parent,
+        len,
+        spills,
+        head,
+        target,
+        staged_count,
+        staged_capacity,
+        staged,
+        table_count,
+        table_capacity,
+        table,
+        number,
+        key,
     )
 }
 
@@ -56,7 +68,20 @@ pub extern "C" fn ergo_index_missing_for_unspend<'a>(
         ≡ flip_missing (named_edition second_edition) Unspend parent.now len spills head.now target staged_count staged_capacity staged.now table_count table_capacity table.now number.old key.old }
 {
     ergo_index_missing::ergo_index_missing_for_unspend(
-        second_edition, parent, len, spills, head, target, staged_count, staged_capacity, staged, table_count, table_capacity, table, number, key,
+        second_edition,
+        parent,
+        len,
+        spills,
+        head,
+        target,
+        staged_count,
+        staged_capacity,
+        staged,
+        table_count,
+        table_capacity,
+        table,
+        number,
+        key,
     )
 }
 
@@ -85,7 +110,22 @@ pub extern "C" fn ergo_index_missing_for_pop_box<'a>(
         deleted_count deleted_capacity deleted.now number.old key.old }
 {
     ergo_index_missing::ergo_index_missing_for_pop_box(
-        second_edition, parent, len, spills, head, staged_count, staged_capacity, staged, table_count, table_capacity, table, deleted_count, deleted_capacity, deleted, number, key,
+        second_edition,
+        parent,
+        len,
+        spills,
+        head,
+        staged_count,
+        staged_capacity,
+        staged,
+        table_count,
+        table_capacity,
+        table,
+        deleted_count,
+        deleted_capacity,
+        deleted,
+        number,
+        key,
     )
 }
 
@@ -114,7 +154,22 @@ pub extern "C" fn ergo_index_missing_for_pop_tx<'a>(
         deleted_count deleted_capacity deleted.now number.old key.old }
 {
     ergo_index_missing::ergo_index_missing_for_pop_tx(
-        second_edition, parent, len, spills, head, staged_count, staged_capacity, staged, table_count, table_capacity, table, deleted_count, deleted_capacity, deleted, number, key,
+        second_edition,
+        parent,
+        len,
+        spills,
+        head,
+        staged_count,
+        staged_capacity,
+        staged,
+        table_count,
+        table_capacity,
+        table,
+        deleted_count,
+        deleted_capacity,
+        deleted,
+        number,
+        key,
     )
 }
 
@@ -139,7 +194,19 @@ pub extern "C" fn ergo_index_missing_for_tally<'a>(
         ≡ tally_missing (named_edition second_edition) parent.now len spills head.now staged_count staged_capacity staged.now table_count table_capacity table.now number.old key.old }
 {
     ergo_index_missing::ergo_index_missing_for_tally(
-        second_edition, parent, len, spills, head, staged_count, staged_capacity, staged, table_count, table_capacity, table, number, key,
+        second_edition,
+        parent,
+        len,
+        spills,
+        head,
+        staged_count,
+        staged_capacity,
+        staged,
+        table_count,
+        table_capacity,
+        table,
+        number,
+        key,
     )
 }
 
@@ -166,6 +233,20 @@ pub extern "C" fn ergo_index_missing_for_page<'a>(
         ≡ page_missing (named_edition second_edition) parent.now len spills head.now staged_count staged_capacity staged.now table_count table_capacity table.now length page.now number.old key.old }
 {
     ergo_index_missing::ergo_index_missing_for_page(
-        second_edition, parent, len, spills, head, staged_count, staged_capacity, staged, table_count, table_capacity, table, length, page, number, key,
+        second_edition,
+        parent,
+        len,
+        spills,
+        head,
+        staged_count,
+        staged_capacity,
+        staged,
+        table_count,
+        table_capacity,
+        table,
+        length,
+        page,
+        number,
+        key,
     )
 }

@@ -6,7 +6,6 @@ ghost use Rattle.vlq_core.specs.Reading.{read_at, long_of, int_of};
 ghost use Rattle.vlq_core.specs.Writing.{put_bytes};
 ghost use Rattle.ergo_index_numbers.specs.Numbers.{write_out, write_export, number_out, long_export, int_export};
 
-
 // Writes a signed 64-bit number.
 #[unsafe(no_mangle)]
 pub extern "C" fn ergo_index_put_i64(n: i64, out: &mut [u8], at: &mut usize) -> u8

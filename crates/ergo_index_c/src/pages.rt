@@ -4,7 +4,6 @@ ghost use Rattle.index_types.specs.declared.RowEdition.TheVariants.{One};
 ghost use Rattle.ergo_index_lists.specs.Lists.{named_edition};
 ghost use Rattle.ergo_index_pages.specs.Pages.{page_out, page_call};
 
-
 // The unspent box numbers of head and rows, newest first: those from the offset on, as many as the length asks, then zeros to 64. How many stand in the page
 // goes to the out.
 #[unsafe(no_mangle)]
@@ -28,7 +27,20 @@ pub extern "C" fn ergo_index_unspent_page<'a>(
         ≡ page_call One parent.now len spills head.now staged_count staged_capacity staged.now table_count table_capacity table.now offset length numbers.old page.old }
 {
     ergo_index_pages::ergo_index_unspent_page(
-        parent, len, spills, head, staged_count, staged_capacity, staged, table_count, table_capacity, table, offset, length, page, numbers,
+        parent,
+        len,
+        spills,
+        head,
+        staged_count,
+        staged_capacity,
+        staged,
+        table_count,
+        table_capacity,
+        table,
+        offset,
+        length,
+        page,
+        numbers,
     )
 }
 
@@ -55,6 +67,20 @@ pub extern "C" fn ergo_index_unspent_page_in_edition<'a>(
         ≡ page_call (named_edition second_edition) parent.now len spills head.now staged_count staged_capacity staged.now table_count table_capacity table.now offset length numbers.old page.old }
 {
     ergo_index_pages::ergo_index_unspent_page_in_edition(
-        second_edition, parent, len, spills, head, staged_count, staged_capacity, staged, table_count, table_capacity, table, offset, length, page, numbers,
+        second_edition,
+        parent,
+        len,
+        spills,
+        head,
+        staged_count,
+        staged_capacity,
+        staged,
+        table_count,
+        table_capacity,
+        table,
+        offset,
+        length,
+        page,
+        numbers,
     )
 }

@@ -7,7 +7,6 @@ ghost use Rattle.ergo_index_lists.specs.Lists.{named_edition};
 ghost use Rattle.ergo_index_outs.specs.Outs.{pop_out};
 ghost use Rattle.ergo_index_pop.specs.Pop.{pop_call};
 
-
 // The last box number of the head; on an empty head the newest row becomes the head first.
 #[unsafe(no_mangle)]
 pub extern "C" fn ergo_index_pop_box_entry(
@@ -31,7 +30,20 @@ pub extern "C" fn ergo_index_pop_box_entry(
         deleted_count.old deleted_capacity deleted.old number.old }
 {
     ergo_index_pop::ergo_index_pop_box_entry(
-        parent, len, spills, head, staged_count, staged_capacity, staged, table_count, table_capacity, table, deleted_count, deleted_capacity, deleted, number,
+        parent,
+        len,
+        spills,
+        head,
+        staged_count,
+        staged_capacity,
+        staged,
+        table_count,
+        table_capacity,
+        table,
+        deleted_count,
+        deleted_capacity,
+        deleted,
+        number,
     )
 }
 
@@ -58,7 +70,20 @@ pub extern "C" fn ergo_index_pop_tx_entry(
         deleted_count.old deleted_capacity deleted.old number.old }
 {
     ergo_index_pop::ergo_index_pop_tx_entry(
-        parent, len, spills, head, staged_count, staged_capacity, staged, table_count, table_capacity, table, deleted_count, deleted_capacity, deleted, number,
+        parent,
+        len,
+        spills,
+        head,
+        staged_count,
+        staged_capacity,
+        staged,
+        table_count,
+        table_capacity,
+        table,
+        deleted_count,
+        deleted_capacity,
+        deleted,
+        number,
     )
 }
 
@@ -86,7 +111,21 @@ pub extern "C" fn ergo_index_pop_box_entry_in_edition(
         deleted_count.old deleted_capacity deleted.old number.old }
 {
     ergo_index_pop::ergo_index_pop_box_entry_in_edition(
-        second_edition, parent, len, spills, head, staged_count, staged_capacity, staged, table_count, table_capacity, table, deleted_count, deleted_capacity, deleted, number,
+        second_edition,
+        parent,
+        len,
+        spills,
+        head,
+        staged_count,
+        staged_capacity,
+        staged,
+        table_count,
+        table_capacity,
+        table,
+        deleted_count,
+        deleted_capacity,
+        deleted,
+        number,
     )
 }
 
@@ -114,6 +153,20 @@ pub extern "C" fn ergo_index_pop_tx_entry_in_edition(
         deleted_count.old deleted_capacity deleted.old number.old }
 {
     ergo_index_pop::ergo_index_pop_tx_entry_in_edition(
-        second_edition, parent, len, spills, head, staged_count, staged_capacity, staged, table_count, table_capacity, table, deleted_count, deleted_capacity, deleted, number,
+        second_edition,
+        parent,
+        len,
+        spills,
+        head,
+        staged_count,
+        staged_capacity,
+        staged,
+        table_count,
+        table_capacity,
+        table,
+        deleted_count,
+        deleted_capacity,
+        deleted,
+        number,
     )
 }

@@ -5,7 +5,6 @@ ghost use Rattle.segment.specs.Calls.{write_of, read_of};
 ghost use Rattle.ergo_index_numbers.specs.Numbers.{write_out, write_export};
 ghost use Rattle.ergo_index_rows.specs.Rows.{counted, row_out, row_export};
 
-
 // Writes the first n_txs transactions and the first n_boxes boxes, with the spill counts, as a row.
 #[unsafe(no_mangle)]
 pub extern "C" fn ergo_index_write_segment(
@@ -22,7 +21,14 @@ pub extern "C" fn ergo_index_write_segment(
         ≡ write_export at.old (write_of txs.now n_txs boxes.now n_boxes box_segment_count tx_segment_count out.old at.old) }
 {
     ergo_index_rows::ergo_index_write_segment(
-        txs, n_txs, boxes, n_boxes, box_segment_count, tx_segment_count, out, at,
+        txs,
+        n_txs,
+        boxes,
+        n_boxes,
+        box_segment_count,
+        tx_segment_count,
+        out,
+        at,
     )
 }
 
@@ -41,6 +47,12 @@ pub extern "C" fn ergo_index_read_persisted_segment(
         ≡ row_export (counted n_txs.old n_boxes.old box_segment_count.old tx_segment_count.old) (read_of row_limit row.now txs.old boxes.old) }
 {
     ergo_index_rows::ergo_index_read_persisted_segment(
-        row, txs, n_txs, boxes, n_boxes, box_segment_count, tx_segment_count,
+        row,
+        txs,
+        n_txs,
+        boxes,
+        n_boxes,
+        box_segment_count,
+        tx_segment_count,
     )
 }

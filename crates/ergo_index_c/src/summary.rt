@@ -6,7 +6,6 @@ ghost use Rattle.ergo_index_lists.specs.Lists.{named_edition};
 ghost use Rattle.ergo_index_outs.specs.Outs.{tally_out};
 ghost use Rattle.ergo_index_summary.specs.Summary.{summary_call, tally_lines_call};
 
-
 // Makes the summary afresh: a line for each box spill, made from its row, and zeros on the lines behind.
 #[unsafe(no_mangle)]
 pub extern "C" fn ergo_index_summarize_boxes<'a>(
@@ -28,7 +27,19 @@ pub extern "C" fn ergo_index_summarize_boxes<'a>(
         ≡ summary_call (named_edition second_edition) parent.now len spills head.now staged_count staged_capacity staged.now table_count table_capacity table.now lines summary.old }
 {
     ergo_index_summary::ergo_index_summarize_boxes(
-        second_edition, parent, len, spills, head, staged_count, staged_capacity, staged, table_count, table_capacity, table, lines, summary,
+        second_edition,
+        parent,
+        len,
+        spills,
+        head,
+        staged_count,
+        staged_capacity,
+        staged,
+        table_count,
+        table_capacity,
+        table,
+        lines,
+        summary,
     )
 }
 

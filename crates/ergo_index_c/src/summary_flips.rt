@@ -7,7 +7,6 @@ ghost use Rattle.ergo_index_lists.specs.Lists.{named_edition};
 ghost use Rattle.ergo_index_outs.specs.Outs.{flip_out};
 ghost use Rattle.ergo_index_summary_flips.specs.Flips.{flip_lines_call};
 
-
 // Marks one box as spent.
 #[unsafe(no_mangle)]
 pub extern "C" fn ergo_index_flip_box_segment_entry_with_summary(
@@ -30,7 +29,20 @@ pub extern "C" fn ergo_index_flip_box_segment_entry_with_summary(
         ≡ flip_lines_call (named_edition second_edition) Spend parent.now len spills head.old target staged_count.old staged_capacity staged.old table_count table_capacity table.now lines summary.old }
 {
     ergo_index_summary_flips::ergo_index_flip_box_segment_entry_with_summary(
-        second_edition, parent, len, spills, head, target, staged_count, staged_capacity, staged, table_count, table_capacity, table, lines, summary,
+        second_edition,
+        parent,
+        len,
+        spills,
+        head,
+        target,
+        staged_count,
+        staged_capacity,
+        staged,
+        table_count,
+        table_capacity,
+        table,
+        lines,
+        summary,
     )
 }
 
@@ -56,6 +68,19 @@ pub extern "C" fn ergo_index_unflip_box_segment_entry_with_summary(
         ≡ flip_lines_call (named_edition second_edition) Unspend parent.now len spills head.old target staged_count.old staged_capacity staged.old table_count table_capacity table.now lines summary.old }
 {
     ergo_index_summary_flips::ergo_index_unflip_box_segment_entry_with_summary(
-        second_edition, parent, len, spills, head, target, staged_count, staged_capacity, staged, table_count, table_capacity, table, lines, summary,
+        second_edition,
+        parent,
+        len,
+        spills,
+        head,
+        target,
+        staged_count,
+        staged_capacity,
+        staged,
+        table_count,
+        table_capacity,
+        table,
+        lines,
+        summary,
     )
 }

@@ -6,7 +6,6 @@ ghost use Rattle.ergo_index_lists.specs.Lists.{named_edition};
 ghost use Rattle.missing_outs.specs.Outs.{missing_out};
 ghost use Rattle.ergo_index_summary_missing.specs.Missing.{flip_lines_missing};
 
-
 // The row that a spend needs next.
 #[unsafe(no_mangle)]
 pub extern "C" fn ergo_index_missing_for_spend_with_summary<'a>(
@@ -31,7 +30,22 @@ pub extern "C" fn ergo_index_missing_for_spend_with_summary<'a>(
         ≡ flip_lines_missing (named_edition second_edition) Spend parent.now len spills head.now target staged_count staged_capacity staged.now table_count table_capacity table.now lines summary.now number.old key.old }
 {
     ergo_index_summary_missing::ergo_index_missing_for_spend_with_summary(
-        second_edition, parent, len, spills, head, target, staged_count, staged_capacity, staged, table_count, table_capacity, table, lines, summary, number, key,
+        second_edition,
+        parent,
+        len,
+        spills,
+        head,
+        target,
+        staged_count,
+        staged_capacity,
+        staged,
+        table_count,
+        table_capacity,
+        table,
+        lines,
+        summary,
+        number,
+        key,
     )
 }
 
@@ -59,6 +73,21 @@ pub extern "C" fn ergo_index_missing_for_unspend_with_summary<'a>(
         ≡ flip_lines_missing (named_edition second_edition) Unspend parent.now len spills head.now target staged_count staged_capacity staged.now table_count table_capacity table.now lines summary.now number.old key.old }
 {
     ergo_index_summary_missing::ergo_index_missing_for_unspend_with_summary(
-        second_edition, parent, len, spills, head, target, staged_count, staged_capacity, staged, table_count, table_capacity, table, lines, summary, number, key,
+        second_edition,
+        parent,
+        len,
+        spills,
+        head,
+        target,
+        staged_count,
+        staged_capacity,
+        staged,
+        table_count,
+        table_capacity,
+        table,
+        lines,
+        summary,
+        number,
+        key,
     )
 }

@@ -7,7 +7,6 @@ ghost use Rattle.ergo_index_outs.specs.Outs.{append_out};
 ghost use Rattle.ergo_index_outs.specs.Outs.{pop_out};
 ghost use Rattle.ergo_index_summary_moves.specs.Moves.{append_lines_call, pop_lines_call};
 
-
 // A box number goes to the end of the head of boxes; a full head becomes the next staged row first, and the row gets its line.
 #[unsafe(no_mangle)]
 pub extern "C" fn ergo_index_append_box_entry_with_summary(
@@ -27,7 +26,17 @@ pub extern "C" fn ergo_index_append_box_entry_with_summary(
         ≡ append_lines_call (named_edition second_edition) parent.now len.old spills.old head.old number staged_count.old staged_capacity staged.old lines summary.old }
 {
     ergo_index_summary_moves::ergo_index_append_box_entry_with_summary(
-        second_edition, parent, len, spills, head, number, staged_count, staged_capacity, staged, lines, summary,
+        second_edition,
+        parent,
+        len,
+        spills,
+        head,
+        number,
+        staged_count,
+        staged_capacity,
+        staged,
+        lines,
+        summary,
     )
 }
 
@@ -58,6 +67,22 @@ pub extern "C" fn ergo_index_pop_box_entry_with_summary(
         table_count table_capacity table.now deleted_count.old deleted_capacity deleted.old lines summary.old number.old }
 {
     ergo_index_summary_moves::ergo_index_pop_box_entry_with_summary(
-        second_edition, parent, len, spills, head, staged_count, staged_capacity, staged, table_count, table_capacity, table, deleted_count, deleted_capacity, deleted, lines, summary, number,
+        second_edition,
+        parent,
+        len,
+        spills,
+        head,
+        staged_count,
+        staged_capacity,
+        staged,
+        table_count,
+        table_capacity,
+        table,
+        deleted_count,
+        deleted_capacity,
+        deleted,
+        lines,
+        summary,
+        number,
     )
 }

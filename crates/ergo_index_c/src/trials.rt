@@ -1,7 +1,6 @@
 // Trying staging sizes with made-up forks.
 ghost use Rattle.ergo_index_trials.specs.Trials.{TriesOut};
 
-
 // The largest number of staged rows and of deleted keys at any one time, over blocks of generated calls and forks. The four buffers are zeroed to their
 // capacities, refused or not, unless the refusal is 25 or 38.
 #[unsafe(no_mangle)]
@@ -24,6 +23,17 @@ pub extern "C" fn ergo_index_try_forks(
         result most_staged.new most_deleted.new table.new staged.new deleted.new standing.new }
 {
     ergo_index_trials::ergo_index_try_forks(
-        state, steps, table_capacity, table, staged_capacity, staged, deleted_capacity, deleted, standing_capacity, standing, most_staged, most_deleted,
+        state,
+        steps,
+        table_capacity,
+        table,
+        staged_capacity,
+        staged,
+        deleted_capacity,
+        deleted,
+        standing_capacity,
+        standing,
+        most_staged,
+        most_deleted,
     )
 }

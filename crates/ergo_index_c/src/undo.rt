@@ -3,7 +3,6 @@ ghost use Rattle.std.specs.Prelude.{◌≡◌};
 ghost use Rattle.undo_entries.specs.Entry.{encoded_of, decoded_of};
 ghost use Rattle.ergo_index_undo.specs.Undo.{entry, encode_out, encode_export, decode_out, decode_export, window, prune_out, prune_call};
 
-
 // Writes an undo entry at the front of the output, and how many bytes it took.
 #[unsafe(no_mangle)]
 pub extern "C" fn ergo_index_encode_undo_entry(
@@ -47,6 +46,11 @@ pub extern "C" fn ergo_index_prune_below_window(
     ensures { prune_out result count.new heights.new ≡ prune_call heights.old count.old capacity current (window window_named window_heights) }
 {
     ergo_index_undo::ergo_index_prune_below_window(
-        heights, count, capacity, current, window_named, window_heights,
+        heights,
+        count,
+        capacity,
+        current,
+        window_named,
+        window_heights,
     )
 }

@@ -8,16 +8,16 @@ use borrow.Author.Rules.{rules}
 use Rattle.address.proofs.write_indexed_address.Statement.{statement}
 use Rattle.address.proofs.write_indexed_address.Tie as tie
 
-slice_aggregate_write_address : tie.Need-slice-aggregate-write-address
+slice_aggregate_write_address : tie.Need-slice_bounds-write_address-end-2
 slice_aggregate_write_address c = search rules
 
-slice_aggregate_write_address_2 : tie.Need-slice-aggregate-write-address-2
+slice_aggregate_write_address_2 : tie.Need-slice_bounds-write_address-end-3
 slice_aggregate_write_address_2 c = search rules
 
-write_address_requires : tie.Need-write-address-requires
+write_address_requires : tie.Need-write_address-requires
 write_address_requires c κs = search rules
 
-same_length : tie.Need-same-length
+same_length : tie.Need-shape_of-out
 same_length c = search rules
 
 returns : tie.Need-returns

@@ -7,7 +7,7 @@ use borrow.Author.Rules.{rules}
 use Rattle.content_order.proofs.check_and_compare.Statement.{statement}
 use Rattle.content_order.proofs.check_and_compare.Tie as tie
 
-check_both_requires : tie.Need-check-both-requires
+check_both_requires : tie.Need-check_both-checked-requires
 check_both_requires c κs =
     let s = c.before.before.before.before.before.before in
     let a = s.args in
@@ -15,33 +15,33 @@ check_both_requires c κs =
     let y = address_of a.other_edition a.other_counts a.other_hash.now a.other_ids.now a.other_amounts.now a.other_boxes.now a.other_txs.now a.other_staged.now a.other_table.now in
     (rows_ready x s.requires.0.buffers, rows_ready y s.requires.1.buffers)
 
-enum_known_checked : tie.Need-enum-known-checked
+enum_known_checked : tie.Need-enum_known-checked
 enum_known_checked c = search rules
 
-enum_told : tie.Need-enum-told
+enum_told : tie.Need-enum_told-1
 enum_told c = search rules
 
-compare_contents_requires : tie.Need-compare-contents-requires
+compare_contents_requires : tie.Need-compare_contents-requires
 compare_contents_requires c κs =
-    let s = c.before.before.before.before.before.before.before.before.before in
+    let s = c.before.before.before.before.before.before.before.before in
     let a = s.args in
     let x = address_of a.edition a.counts a.hash.now a.ids.now a.amounts.now a.boxes.now a.txs.now a.staged.now a.table.now in
     let y = address_of a.other_edition a.other_counts a.other_hash.now a.other_ids.now a.other_amounts.now a.other_boxes.now a.other_txs.now a.other_staged.now a.other_table.now in
-    both_taken x y s.requires.0 s.requires.1 (sym c.enum_told.given.1 ∙ c.before.before.check_both.ensures a.boxes.now a.txs.now a.other_boxes.now a.other_txs.now)
+    both_taken x y s.requires.0 s.requires.1 (sym c.in-Good.is ∙ c.before.check_both-checked.ensures a.boxes.now a.txs.now a.other_boxes.now a.other_txs.now)
 
-returns : tie.Need-returns
+returns : tie.Need-returns-in-Faulty
 returns c =
-    let a = c.before.before.before.before.before.before.before.before.before.before.args in
+    let a = c.before.before.before.before.before.before.before.before.args in
     let x = address_of a.edition a.counts a.hash.now a.ids.now a.amounts.now a.boxes.now a.txs.now a.staged.now a.table.now in
     let y = address_of a.other_edition a.other_counts a.other_hash.now a.other_ids.now a.other_amounts.now a.other_boxes.now a.other_txs.now a.other_staged.now a.other_table.now in
-    read_refused x y _ (sym c.before.checked.given.1 ∙ c.before.before.before.check_both.ensures a.boxes.now a.txs.now a.other_boxes.now a.other_txs.now)
+    read_refused x y _ (sym c.in-Faulty.is ∙ c.before.check_both-checked.ensures a.boxes.now a.txs.now a.other_boxes.now a.other_txs.now)
 
-returns-2 : tie.Need-returns-2
+returns-2 : tie.Need-returns-in-Good
 returns-2 c =
-    let a = c.before.before.before.before.before.before.before.before.before.before.args in
+    let a = c.before.before.before.before.before.before.before.before.before.args in
     let x = address_of a.edition a.counts a.hash.now a.ids.now a.amounts.now a.boxes.now a.txs.now a.staged.now a.table.now in
     let y = address_of a.other_edition a.other_counts a.other_hash.now a.other_ids.now a.other_amounts.now a.other_boxes.now a.other_txs.now a.other_staged.now a.other_table.now in
-    read_ranked x y (sym c.before.enum_told.given.1 ∙ c.before.before.before.check_both.ensures a.boxes.now a.txs.now a.other_boxes.now a.other_txs.now) _ c.compare_contents.ensures
+    read_ranked x y (sym c.before.in-Good.is ∙ c.before.before.check_both-checked.ensures a.boxes.now a.txs.now a.other_boxes.now a.other_txs.now) _ c.compare_contents.ensures
 
 pub check_and_compare_spec : {M : Type 1} → statement M
 check_and_compare_spec =

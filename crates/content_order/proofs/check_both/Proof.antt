@@ -13,13 +13,13 @@ use borrow.Author.Rules.{rules}
 use Rattle.content_order.proofs.check_both.Statement.{statement}
 use Rattle.content_order.proofs.check_both.Tie as tie
 
-check_address_requires : tie.Need-check-address-requires
+check_address_requires : tie.Need-check_address-first-requires
 check_address_requires c κs = search rules
 
-check_address_requires_2 : tie.Need-check-address-requires-2
+check_address_requires_2 : tie.Need-check_address-second-requires
 check_address_requires_2 c κs = search rules
 
-first_fault_requires : tie.Need-first-fault-requires
+first_fault_requires : tie.Need-first_fault-requires
 first_fault_requires c κs = search rules
 
 returns : tie.Need-returns
@@ -35,8 +35,8 @@ returns c = λ bs ts bs' ts'.
     let f = back w32 a.counts.txs.spills (search rules) in
     let e' = back w32 a.other_counts.boxes.spills (search rules) in
     let f' = back w32 a.other_counts.txs.spills (search rules) in
-    let p = c.before.before.before.before.check_address.ensures h k ∙ (λ i. first_fault (read_of (side_of (edition_of a.edition) Box w (e i) h)) (read_of (side_of (edition_of a.edition) Tx w (f i) k))) in
-    let q = c.before.check_address2.ensures h' k' ∙ (λ i. first_fault (read_of (side_of (edition_of a.other_edition) Box w' (e' i) h')) (read_of (side_of (edition_of a.other_edition) Tx w' (f' i) k'))) in
+    let p = c.before.before.before.before.check_address-first.ensures h k ∙ (λ i. first_fault (read_of (side_of (edition_of a.edition) Box w (e i) h)) (read_of (side_of (edition_of a.edition) Tx w (f i) k))) in
+    let q = c.before.check_address-second.ensures h' k' ∙ (λ i. first_fault (read_of (side_of (edition_of a.other_edition) Box w' (e' i) h')) (read_of (side_of (edition_of a.other_edition) Tx w' (f' i) k'))) in
     c.first_fault.ensures ∙ (λ i. first_fault (p i) (q i))
 
 pub check_both_spec : {M : Type 1} → statement M

@@ -5,16 +5,16 @@ use borrow.Author.Rules.{rules}
 use Rattle.content_order.proofs.first_fault.Statement.{statement}
 use Rattle.content_order.proofs.first_fault.Tie as tie
 
-enum_known_first : tie.Need-enum-known-first
+enum_known_first : tie.Need-enum_known-first
 enum_known_first c = search rules
 
-enum_told : tie.Need-enum-told
+enum_told : tie.Need-enum_told-1
 enum_told c = search rules
 
-returns : tie.Need-returns
-returns c = fault_first _ _ _ (sym c.before.first.given.1)
+returns : tie.Need-returns-in-Faulty
+returns c = fault_first _ _ _ (sym c.in-Faulty.is)
 
-returns-2 : tie.Need-returns-2
+returns-2 : tie.Need-returns-in-Good
 returns-2 c = search rules
 
 pub first_fault_spec : {M : Type 1} → statement M

@@ -3,92 +3,92 @@ use borrow.Author.Rules.{rules}
 use Rattle.driver_turns.proofs.apply_noted.Statement.{statement}
 use Rattle.driver_turns.proofs.apply_noted.Tie as tie
 
-array_borrow_prefix_none : tie.Need-array-borrow-prefix-none
+array_borrow_prefix_none : tie.Need-slice_bounds-none-end
 array_borrow_prefix_none c = search rules
 
-slice_aggregate_apply_ready : tie.Need-slice-aggregate-apply-ready
+slice_aggregate_apply_ready : tie.Need-slice_bounds-apply_ready-end
 slice_aggregate_apply_ready c = search rules
 
-apply_ready_requires : tie.Need-apply-ready-requires
+apply_ready_requires : tie.Need-apply_ready-requires
 apply_ready_requires c κs = c.before.before.before.before.before.before.before.before.before.before.before.before.before.before.before.before.before.before.before.before.before.before.requires
 
-same_length : tie.Need-same-length
+same_length : tie.Need-shape_of-ids-then-held-le-FEW_RECORDS
 same_length c = search rules
 
-same_length_2 : tie.Need-same-length-2
+same_length_2 : tie.Need-shape_of-numbers-then-held-le-FEW_RECORDS
 same_length_2 c = search rules
 
-same_length_3 : tie.Need-same-length-3
+same_length_3 : tie.Need-shape_of-lengths-then-held-le-FEW_RECORDS
 same_length_3 c = search rules
 
-same_length_4 : tie.Need-same-length-4
+same_length_4 : tie.Need-shape_of-spills-then-held-le-FEW_RECORDS
 same_length_4 c = search rules
 
-same_length_5 : tie.Need-same-length-5
+same_length_5 : tie.Need-shape_of-staged-then-held-le-FEW_RECORDS
 same_length_5 c = search rules
 
-same_length_6 : tie.Need-same-length-6
+same_length_6 : tie.Need-shape_of-table-then-held-le-FEW_RECORDS
 same_length_6 c = search rules
 
-same_length_7 : tie.Need-same-length-7
+same_length_7 : tie.Need-shape_of-deleted-then-held-le-FEW_RECORDS
 same_length_7 c = search rules
 
-same_length_8 : tie.Need-same-length-8
+same_length_8 : tie.Need-shape_of-entries-then-held-le-FEW_RECORDS
 same_length_8 c = search rules
 
-same_length_9 : tie.Need-same-length-9
+same_length_9 : tie.Need-shape_of-answers-then-held-le-FEW_RECORDS
 same_length_9 c = search rules
 
-same_length_10 : tie.Need-same-length-10
+same_length_10 : tie.Need-shape_of-popped-then-held-le-FEW_RECORDS
 same_length_10 c = search rules
 
-returns : tie.Need-returns
+returns : tie.Need-returns-then-held-le-FEW_RECORDS
 returns c = c.before.before.before.before.before.before.before.before.before.before.before.before.before.before.before.before.before.before.apply_ready.ensures
 
-slice_aggregate_note_table : tie.Need-slice-aggregate-note-table
+slice_aggregate_note_table : tie.Need-slice_bounds-note_table-end
 slice_aggregate_note_table c = search rules
 
-note_table_requires : tie.Need-note-table-requires
+note_table_requires : tie.Need-note_table-requires
 note_table_requires c κs = search rules
 
-slice_aggregate_apply_ready_2 : tie.Need-slice-aggregate-apply-ready-2
+slice_aggregate_apply_ready_2 : tie.Need-slice_bounds-apply_ready-end-2
 slice_aggregate_apply_ready_2 c = search rules
 
-apply_ready_requires_2 : tie.Need-apply-ready-requires-2
-apply_ready_requires_2 c κs = c.before.before.before.before.before.before.before.before.before.before.before.before.before.before.before.before.before.before.before.before.before.before.before.before.before.before.requires
+apply_ready_requires_2 : tie.Need-apply_ready-requires-2
+apply_ready_requires_2 c κs = c.before.before.before.before.before.before.before.before.before.before.before.before.before.before.before.before.before.before.before.before.before.before.before.before.before.requires
 
-same_length_11 : tie.Need-same-length-11
+same_length_11 : tie.Need-shape_of-ids
 same_length_11 c = search rules
 
-same_length_12 : tie.Need-same-length-12
+same_length_12 : tie.Need-shape_of-numbers
 same_length_12 c = search rules
 
-same_length_13 : tie.Need-same-length-13
+same_length_13 : tie.Need-shape_of-lengths
 same_length_13 c = search rules
 
-same_length_14 : tie.Need-same-length-14
+same_length_14 : tie.Need-shape_of-spills
 same_length_14 c = search rules
 
-same_length_15 : tie.Need-same-length-15
+same_length_15 : tie.Need-shape_of-staged
 same_length_15 c = search rules
 
-same_length_16 : tie.Need-same-length-16
+same_length_16 : tie.Need-shape_of-table
 same_length_16 c = search rules
 
-same_length_17 : tie.Need-same-length-17
+same_length_17 : tie.Need-shape_of-deleted
 same_length_17 c = search rules
 
-same_length_18 : tie.Need-same-length-18
+same_length_18 : tie.Need-shape_of-entries
 same_length_18 c = search rules
 
-same_length_19 : tie.Need-same-length-19
+same_length_19 : tie.Need-shape_of-answers
 same_length_19 c = search rules
 
-same_length_20 : tie.Need-same-length-20
+same_length_20 : tie.Need-shape_of-popped
 same_length_20 c = search rules
 
-returns-2 : tie.Need-returns-2
-returns-2 c = c.before.before.before.before.before.before.before.before.before.before.before.before.before.before.before.before.before.before.apply_ready2.ensures
+returns-2 : tie.Need-returns
+returns-2 c = c.before.before.before.before.before.before.before.before.before.before.before.before.before.before.before.before.before.before.apply_ready-2.ensures
 
 pub apply_noted_spec : {M : Type 1} → statement M
 apply_noted_spec =

@@ -6,24 +6,24 @@ use borrow.Author.Rules.{rules}
 use Rattle.line_seeking.proofs.look_line.Statement.{statement}
 use Rattle.line_seeking.proofs.look_line.Tie as tie
 
-number_at_requires : tie.Need-number-at-requires
+number_at_requires : tie.Need-number_at-last-requires
 number_at_requires c κs = search rules
 
-returns : tie.Need-returns
+returns : tie.Need-returns-then-last-target
 returns c =
     let a = c.before.before.before.before.before.before.args in
-    line_stop (edition_of a.edition) (sources a.parent.now a.staged.now a.staged_count a.table.now a.table_count) a.summary.now a.target a.spend a.number _ c.before.number_at.ensures c.if1.true
+    line_stop (edition_of a.edition) (sources a.parent.now a.staged.now a.staged_count a.table.now a.table_count) a.summary.now a.target a.spend a.number _ c.before.number_at-last.ensures c.if-last-target.true
 
-number_at_requires_2 : tie.Need-number-at-requires-2
+number_at_requires_2 : tie.Need-number_at-first-requires
 number_at_requires_2 c κs = search rules
 
-look_in_row_requires : tie.Need-look-in-row-requires
+look_in_row_requires : tie.Need-look_in_row-requires
 look_in_row_requires c κs = search rules
 
-returns-2 : tie.Need-returns-2
+returns-2 : tie.Need-returns
 returns-2 c =
     let a = c.before.before.before.before.before.before.before.before.args in
-    line_on (edition_of a.edition) (sources a.parent.now a.staged.now a.staged_count a.table.now a.table_count) a.summary.now a.target a.spend a.number _ c.before.before.before.number_at.ensures c.before.before.if1.false _ c.before.number_at2.ensures _ c.look_in_row.ensures
+    line_on (edition_of a.edition) (sources a.parent.now a.staged.now a.staged_count a.table.now a.table_count) a.summary.now a.target a.spend a.number _ c.before.before.before.number_at-last.ensures c.before.before.if-last-target.false _ c.before.number_at-first.ensures _ c.look_in_row.ensures
 
 pub look_line_spec : {M : Type 1} → statement M
 look_line_spec =

@@ -13,60 +13,60 @@ use Rattle.missing_rows.proofs.CallLaws.{pop_25, pop_11, pop_head, pop_none, pop
 use Rattle.missing_rows.proofs.missing_for_pop.Statement.{statement}
 use Rattle.missing_rows.proofs.missing_for_pop.Tie as tie
 
-pop_ok_requires : tie.Need-pop-ok-requires
+pop_ok_requires : tie.Need-pop_ok-requires
 pop_ok_requires c κs = search rules
 
-returns : tie.Need-returns
+returns : tie.Need-returns-then-not-pop_ok
 returns c =
     let a = c.before.before.before.before.before.before.args in
-    pop_25 (edition_of a.edition) a.kind a.parent.now a.counts a.staged_counts a.staged.now a.table_counts a.table.now a.deleted_counts a.deleted.now a.head.now (sym c.before.pop_ok.ensures ∙ not-true _ c.if1.true)
+    pop_25 (edition_of a.edition) a.kind a.parent.now a.counts a.staged_counts a.staged.now a.table_counts a.table.now a.deleted_counts a.deleted.now a.head.now (sym c.before.pop_ok.ensures ∙ c.if-not-pop_ok.true)
 
-is_negative_i32_requires : tie.Need-is-negative-i32-requires
+is_negative_i32_requires : tie.Need-is_negative_i32-requires
 is_negative_i32_requires c κs = search rules
 
-returns-2 : tie.Need-returns-2
+returns-2 : tie.Need-returns-then-is_negative_i32
 returns-2 c =
     let a = c.before.before.before.before.before.before.before.before.args in
     let e = back w32 a.counts.spills (search rules) in
-    pop_11 (edition_of a.edition) a.kind a.parent.now a.counts a.staged_counts a.staged.now a.table_counts a.table.now a.deleted_counts a.deleted.now a.head.now (sym c.before.before.before.pop_ok.ensures ∙ not-false _ c.before.before.if1.false) (ap is_negative (sym e) ∙ sym c.before.is_negative_i32.ensures ∙ c.if2.true)
+    pop_11 (edition_of a.edition) a.kind a.parent.now a.counts a.staged_counts a.staged.now a.table_counts a.table.now a.deleted_counts a.deleted.now a.head.now (sym c.before.before.before.pop_ok.ensures ∙ c.before.before.if-not-pop_ok.false) (ap is_negative (sym e) ∙ sym c.before.is_negative_i32.ensures ∙ c.if-is_negative_i32.true)
 
-returns-3 : tie.Need-returns-3
+returns-3 : tie.Need-returns-then-counts-gt0
 returns-3 c =
     let a = c.before.before.before.before.before.before.before.before.before.before.args in
     let e = back w32 a.counts.spills (search rules) in
-    pop_head (edition_of a.edition) a.kind a.parent.now a.counts a.staged_counts a.staged.now a.table_counts a.table.now a.deleted_counts a.deleted.now a.head.now (sym c.before.before.before.before.before.pop_ok.ensures ∙ not-false _ c.before.before.before.before.if1.false) (ap is_negative (sym e) ∙ sym c.before.before.before.is_negative_i32.ensures ∙ c.before.before.if2.false) c.if3.true
+    pop_head (edition_of a.edition) a.kind a.parent.now a.counts a.staged_counts a.staged.now a.table_counts a.table.now a.deleted_counts a.deleted.now a.head.now (sym c.before.before.before.before.before.pop_ok.ensures ∙ c.before.before.before.before.if-not-pop_ok.false) (ap is_negative (sym e) ∙ sym c.before.before.before.is_negative_i32.ensures ∙ c.before.before.if-is_negative_i32.false) c.if-counts-gt0.true
 
-usize_from_i32_requires : tie.Need-usize-from-i32-requires
-usize_from_i32_requires c κs = sym c.before.before.before.is_negative_i32.ensures ∙ c.before.before.if2.false
+usize_from_i32_requires : tie.Need-usize_from_i32-rows-requires
+usize_from_i32_requires c κs = sym c.before.before.before.is_negative_i32.ensures ∙ c.before.before.if-is_negative_i32.false
 
-returns-4 : tie.Need-returns-4
+returns-4 : tie.Need-returns-then-rows-eq0
 returns-4 c =
     let a = c.before.before.before.before.before.before.before.before.before.before.before.before.args in
     let e = back w32 a.counts.spills (search rules) in
-    pop_none (edition_of a.edition) a.kind a.parent.now a.counts a.staged_counts a.staged.now a.table_counts a.table.now a.deleted_counts a.deleted.now a.head.now (sym c.before.before.before.before.before.before.before.pop_ok.ensures ∙ not-false _ c.before.before.before.before.before.before.if1.false) (ap is_negative (sym e) ∙ sym c.before.before.before.before.before.is_negative_i32.ensures ∙ c.before.before.before.before.if2.false) c.before.before.if3.false _ (c.before.usize_from_i32.ensures ∙ ap nat_abs e) c.if4.true
+    pop_none (edition_of a.edition) a.kind a.parent.now a.counts a.staged_counts a.staged.now a.table_counts a.table.now a.deleted_counts a.deleted.now a.head.now (sym c.before.before.before.before.before.before.before.pop_ok.ensures ∙ c.before.before.before.before.before.before.if-not-pop_ok.false) (ap is_negative (sym e) ∙ sym c.before.before.before.before.before.is_negative_i32.ensures ∙ c.before.before.before.before.if-is_negative_i32.false) c.before.before.if-counts-gt0.false _ (c.before.usize_from_i32-rows.ensures ∙ ap nat_abs e) c.if-rows-eq0.true
 
-sub_ask : tie.Need-overflow-sub-ask
+sub_ask : tie.Need-overflow_sub-rows
 sub_ask c = search rules
 
-array_share_prefix_none : tie.Need-array-share-prefix-none
+array_share_prefix_none : tie.Need-slice_bounds-none-end
 array_share_prefix_none c = search rules
 
-slice_aggregate_ask : tie.Need-slice-aggregate-ask
+slice_aggregate_ask : tie.Need-slice_bounds-ask-end
 slice_aggregate_ask c = search rules
 
 ask_requires : tie.Need-ask-requires
 ask_requires c κs =
     let a = c.before.before.before.before.before.before.before.before.before.before.before.before.before.args in
     let e = back w32 a.counts.spills (search rules) in
-    let n = ap is_negative (sym e) ∙ sym c.before.before.before.before.before.before.is_negative_i32.ensures ∙ c.before.before.before.before.before.if2.false in
-    let k = spills_below a.counts.spills n (search rules) _ (c.before.before.usize_from_i32.ensures ∙ ap nat_abs e) in
-    (pop_facts a.edition a.kind a.parent.now a.counts a.staged_counts a.staged.now a.table_counts a.table.now a.deleted_counts a.deleted.now a.head.now (sym c.before.before.before.before.before.before.before.before.pop_ok.ensures ∙ not-false _ c.before.before.before.before.before.before.before.if1.false), omega (arith, k))
+    let n = ap is_negative (sym e) ∙ sym c.before.before.before.before.before.before.is_negative_i32.ensures ∙ c.before.before.before.before.before.if-is_negative_i32.false in
+    let k = spills_below a.counts.spills n (search rules) _ (c.before.before.usize_from_i32-rows.ensures ∙ ap nat_abs e) in
+    (pop_facts a.edition a.kind a.parent.now a.counts a.staged_counts a.staged.now a.table_counts a.table.now a.deleted_counts a.deleted.now a.head.now (sym c.before.before.before.before.before.before.before.before.pop_ok.ensures ∙ c.before.before.before.before.before.before.before.if-not-pop_ok.false), omega (arith, k))
 
-returns-5 : tie.Need-returns-5
+returns-5 : tie.Need-returns
 returns-5 c =
     let a = c.before.before.before.before.before.before.before.before.before.before.before.before.before.before.args in
     let e = back w32 a.counts.spills (search rules) in
-    pop_goes (edition_of a.edition) a.kind a.parent.now a.counts a.staged_counts a.staged.now a.table_counts a.table.now a.deleted_counts a.deleted.now a.head.now (sym c.before.before.before.before.before.before.before.before.before.pop_ok.ensures ∙ not-false _ c.before.before.before.before.before.before.before.before.if1.false) (ap is_negative (sym e) ∙ sym c.before.before.before.before.before.before.before.is_negative_i32.ensures ∙ c.before.before.before.before.before.before.if2.false) c.before.before.before.before.if3.false _ (c.before.before.before.usize_from_i32.ensures ∙ ap nat_abs e) c.before.before.if4.false _ c.ask.ensures
+    pop_goes (edition_of a.edition) a.kind a.parent.now a.counts a.staged_counts a.staged.now a.table_counts a.table.now a.deleted_counts a.deleted.now a.head.now (sym c.before.before.before.before.before.before.before.before.before.pop_ok.ensures ∙ c.before.before.before.before.before.before.before.before.if-not-pop_ok.false) (ap is_negative (sym e) ∙ sym c.before.before.before.before.before.before.before.is_negative_i32.ensures ∙ c.before.before.before.before.before.before.if-is_negative_i32.false) c.before.before.before.before.if-counts-gt0.false _ (c.before.before.before.usize_from_i32-rows.ensures ∙ ap nat_abs e) c.before.before.if-rows-eq0.false _ c.ask.ensures
 
 pub missing_for_pop_spec : {M : Type 1} → statement M
 missing_for_pop_spec =

@@ -8,23 +8,23 @@ use Rattle.missing_rows.proofs.CallLaws.{tally_25, tally_goes}
 use Rattle.missing_rows.proofs.missing_for_tally.Statement.{statement}
 use Rattle.missing_rows.proofs.missing_for_tally.Tie as tie
 
-flip_ok_requires : tie.Need-flip-ok-requires
+flip_ok_requires : tie.Need-flip_ok-requires
 flip_ok_requires c κs = search rules
 
-returns : tie.Need-returns
+returns : tie.Need-returns-then-not-flip_ok
 returns c =
     let a = c.before.before.before.before.args in
-    tally_25 (edition_of a.edition) a.parent.now a.counts a.staged_counts a.staged.now a.table_counts a.table.now a.head.now (sym c.before.flip_ok.ensures ∙ not-true _ c.if1.true)
+    tally_25 (edition_of a.edition) a.parent.now a.counts a.staged_counts a.staged.now a.table_counts a.table.now a.head.now (sym c.before.flip_ok.ensures ∙ c.if-not-flip_ok.true)
 
-seek_tally_requires : tie.Need-seek-tally-requires
+seek_tally_requires : tie.Need-seek_tally-requires
 seek_tally_requires c κs =
     let a = c.before.before.before.before.args in
-    flip_facts a.edition a.counts a.staged_counts a.staged.now a.table_counts a.table.now a.head.now (sym c.before.flip_ok.ensures ∙ not-false _ c.if1.false)
+    flip_facts a.edition a.counts a.staged_counts a.staged.now a.table_counts a.table.now a.head.now (sym c.before.flip_ok.ensures ∙ c.if-not-flip_ok.false)
 
-returns-2 : tie.Need-returns-2
+returns-2 : tie.Need-returns
 returns-2 c =
     let a = c.before.before.before.before.before.args in
-    tally_goes (edition_of a.edition) a.parent.now a.counts a.staged_counts a.staged.now a.table_counts a.table.now a.head.now (sym c.before.before.flip_ok.ensures ∙ not-false _ c.before.if1.false) _ c.seek_tally.ensures
+    tally_goes (edition_of a.edition) a.parent.now a.counts a.staged_counts a.staged.now a.table_counts a.table.now a.head.now (sym c.before.before.flip_ok.ensures ∙ c.before.if-not-flip_ok.false) _ c.seek_tally.ensures
 
 pub missing_for_tally_spec : {M : Type 1} → statement M
 missing_for_tally_spec =

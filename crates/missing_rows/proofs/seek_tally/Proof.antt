@@ -14,45 +14,45 @@ use Rattle.missing_rows.proofs.CallLaws.{core_10, core_11, core_on}
 use Rattle.missing_rows.proofs.seek_tally.Statement.{statement}
 use Rattle.missing_rows.proofs.seek_tally.Tie as tie
 
-order_ok_requires : tie.Need-order-ok-requires
+order_ok_requires : tie.Need-order_ok-requires
 order_ok_requires c κs = search rules
 
-returns : tie.Need-returns
+returns : tie.Need-returns-then-not-order_ok
 returns c =
     let a = c.before.before.before.before.before.args in
-    core_10 (edition_of a.edition) (sources a.parent.now a.staged.now a.staged_counts.count a.table.now a.table_counts.count) a.counts.spills (take a.counts.len a.head.now) (sym c.before.order_ok.ensures ∙ not-true _ c.if1.true)
+    core_10 (edition_of a.edition) (sources a.parent.now a.staged.now a.staged_counts.count a.table.now a.table_counts.count) a.counts.spills (take a.counts.len a.head.now) (sym c.before.order_ok.ensures ∙ c.if-not-order_ok.true)
 
-is_negative_i32_requires : tie.Need-is-negative-i32-requires
+is_negative_i32_requires : tie.Need-is_negative_i32-requires
 is_negative_i32_requires c κs = search rules
 
-returns-2 : tie.Need-returns-2
+returns-2 : tie.Need-returns-then-is_negative_i32
 returns-2 c =
     let a = c.before.before.before.before.before.before.before.args in
     let e = back w32 a.counts.spills (search rules) in
-    core_11 (edition_of a.edition) (sources a.parent.now a.staged.now a.staged_counts.count a.table.now a.table_counts.count) a.counts.spills (take a.counts.len a.head.now) (sym c.before.before.before.order_ok.ensures ∙ not-false _ c.before.before.if1.false) (ap is_negative (sym e) ∙ sym c.before.is_negative_i32.ensures ∙ c.if2.true)
+    core_11 (edition_of a.edition) (sources a.parent.now a.staged.now a.staged_counts.count a.table.now a.table_counts.count) a.counts.spills (take a.counts.len a.head.now) (sym c.before.before.before.order_ok.ensures ∙ c.before.before.if-not-order_ok.false) (ap is_negative (sym e) ∙ sym c.before.is_negative_i32.ensures ∙ c.if-is_negative_i32.true)
 
-usize_from_i32_requires : tie.Need-usize-from-i32-requires
-usize_from_i32_requires c κs = sym c.before.is_negative_i32.ensures ∙ c.if2.false
+usize_from_i32_requires : tie.Need-usize_from_i32-requires
+usize_from_i32_requires c κs = sym c.before.is_negative_i32.ensures ∙ c.if-is_negative_i32.false
 
-array_share_prefix_none : tie.Need-array-share-prefix-none
+array_share_prefix_none : tie.Need-slice_bounds-none-end
 array_share_prefix_none c = search rules
 
-slice_aggregate_seek_up : tie.Need-slice-aggregate-seek-up
+slice_aggregate_seek_up : tie.Need-slice_bounds-seek_up-end
 slice_aggregate_seek_up c = search rules
 
-seek_up_requires : tie.Need-seek-up-requires
+seek_up_requires : tie.Need-seek_up-requires
 seek_up_requires c κs =
     let s = c.before.before.before.before.before.before.before.before.before in
     let a = s.args in
     let e = back w32 a.counts.spills (search rules) in
-    let n = ap is_negative (sym e) ∙ sym c.before.before.before.is_negative_i32.ensures ∙ c.before.before.if2.false in
+    let n = ap is_negative (sym e) ∙ sym c.before.before.before.is_negative_i32.ensures ∙ c.before.before.if-is_negative_i32.false in
     (record { in_staged = s.requires.bounds.within; in_table = s.requires.table_bounds.within; apart = s.requires.apart }, spills_below a.counts.spills n (search rules) _ (c.before.usize_from_i32.ensures ∙ ap nat_abs e))
 
-returns-3 : tie.Need-returns-3
+returns-3 : tie.Need-returns
 returns-3 c =
     let a = c.before.before.before.before.before.before.before.before.before.before.args in
     let e = back w32 a.counts.spills (search rules) in
-    core_on (edition_of a.edition) (sources a.parent.now a.staged.now a.staged_counts.count a.table.now a.table_counts.count) a.counts.spills (take a.counts.len a.head.now) (sym c.before.before.before.before.before.before.order_ok.ensures ∙ not-false _ c.before.before.before.before.before.if1.false) (ap is_negative (sym e) ∙ sym c.before.before.before.before.is_negative_i32.ensures ∙ c.before.before.before.if2.false) _ (c.before.before.usize_from_i32.ensures ∙ ap nat_abs e) _ c.seek_up.ensures
+    core_on (edition_of a.edition) (sources a.parent.now a.staged.now a.staged_counts.count a.table.now a.table_counts.count) a.counts.spills (take a.counts.len a.head.now) (sym c.before.before.before.before.before.before.order_ok.ensures ∙ c.before.before.before.before.before.if-not-order_ok.false) (ap is_negative (sym e) ∙ sym c.before.before.before.before.is_negative_i32.ensures ∙ c.before.before.before.if-is_negative_i32.false) _ (c.before.before.usize_from_i32.ensures ∙ ap nat_abs e) _ c.seek_up.ensures
 
 pub seek_tally_spec : {M : Type 1} → statement M
 seek_tally_spec =

@@ -8,27 +8,27 @@ use borrow.Author.Rules.{rules}
 use Rattle.row_converters.proofs.put_body.Statement.{statement}
 use Rattle.row_converters.proofs.put_body.Tie as tie
 
-sub_body : tie.Need-overflow-sub-body
+sub_body : tie.Need-slice_bounds-body-count
 sub_body c = search rules
 
-part_body_start : tie.Need-slice-bounds-body-start
+part_body_start : tie.Need-slice_bounds-body-start
 part_body_start c = search rules
 
-part_body_end : tie.Need-slice-bounds-body-end
+part_body_end : tie.Need-slice_bounds-body-end
 part_body_end c = search rules
 
-returns : tie.Need-returns
+returns : tie.Need-returns-then-out-body
 returns c =
     let a = c.before.before.before.before.args in
     no_room (drop a.at a.row.now) a.out.now (omega (arith, length-drop a.at a.row.now))
 
-put_bytes_requires : tie.Need-put-bytes-requires
+put_bytes_requires : tie.Need-put_bytes-requires
 put_bytes_requires c κs = search rules
 
-same_length : tie.Need-same-length
+same_length : tie.Need-shape_of-out
 same_length c = search rules
 
-returns-2 : tie.Need-returns-2
+returns-2 : tie.Need-returns
 returns-2 c =
     let a = c.before.before.before.before.before.before.before.before.args in
     with_room (drop a.at a.row.now) a.out.now _ _ (omega (arith, length-drop a.at a.row.now)) (put_as (rest a.at a.row.now) a.out.now 0 _ _ c.before.before.put_bytes.ensures)

@@ -4,7 +4,7 @@ use borrow.Author.Rules.{rules}
 use Rattle.trial_buffers.proofs.fits.Statement.{statement}
 use Rattle.trial_buffers.proofs.fits.Tie as tie
 
-div_result : tie.Need-nonzero-div-result
+div_result : tie.Need-nonzero_div-result
 div_result c = search rules
 
 returns : tie.Need-returns

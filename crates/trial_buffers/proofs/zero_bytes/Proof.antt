@@ -4,10 +4,10 @@ use borrow.Author.Rules.{rules}
 use Rattle.trial_buffers.proofs.zero_bytes.Statement.{statement}
 use Rattle.trial_buffers.proofs.zero_bytes.Tie as tie
 
-clear_bytes_requires : tie.Need-clear-bytes-requires
+clear_bytes_requires : tie.Need-clear_bytes-requires
 clear_bytes_requires c κs = search rules
 
-same_length : tie.Need-same-length
+same_length : tie.Need-shape_of-dst
 same_length c = search rules
 
 returns : tie.Need-returns

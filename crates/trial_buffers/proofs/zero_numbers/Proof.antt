@@ -5,10 +5,10 @@ use borrow.Author.Rules.{rules}
 use Rattle.trial_buffers.proofs.zero_numbers.Statement.{statement}
 use Rattle.trial_buffers.proofs.zero_numbers.Tie as tie
 
-clear_numbers_requires : tie.Need-clear-numbers-requires
+clear_numbers_requires : tie.Need-clear_numbers-requires
 clear_numbers_requires c κs = search rules
 
-same_length : tie.Need-same-length
+same_length : tie.Need-shape_of-dst
 same_length c = search rules
 
 returns : tie.Need-returns
