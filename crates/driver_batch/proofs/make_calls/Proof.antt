@@ -10,79 +10,79 @@ use Rattle.driver_batch.proofs.BatchLaws.{none_entered, driver_ready, batch_pass
 use Rattle.driver_batch.proofs.make_calls.Statement.{statement}
 use Rattle.driver_batch.proofs.make_calls.Tie as tie
 
-state_ok_requires : tie.Need-state-ok-requires
+state_ok_requires : tie.Need-state_ok-requires
 state_ok_requires c κs = search rules
 
-array_borrow_prefix_none : tie.Need-array-borrow-prefix-none
+array_borrow_prefix_none : tie.Need-slice_bounds-none-end
 array_borrow_prefix_none c = search rules
 
-slice_aggregate_apply_noted : tie.Need-slice-aggregate-apply-noted
+slice_aggregate_apply_noted : tie.Need-slice_bounds-apply_noted-end
 slice_aggregate_apply_noted c = search rules
 
-apply_noted_requires : tie.Need-apply-noted-requires
+apply_noted_requires : tie.Need-apply_noted-requires
 apply_noted_requires c κs =
-    let a = c.before.before.before.before.before.before.before.before.before.before.before.before.before.before.before.before.before.before.before.before.before.before.before.before.before.before.args in
-    driver_ready a.parents (state a.ids.now a.numbers.now a.lengths.now a.spills.now (lists_with a.counts a.staged.now a.table.now a.deleted.now)) (journal [] 0 0) (sym (ok_alone a.parents (state a.ids.now a.numbers.now a.lengths.now a.spills.now (lists_with a.counts a.staged.now a.table.now a.deleted.now)) _ c.before.before.before.before.before.before.before.before.before.before.before.state_ok.ensures) ∙ c.before.before.before.before.before.before.before.before.before.before.if1.true)
+    let a = c.before.before.before.before.before.before.before.before.before.before.before.before.before.before.before.before.before.before.before.args in
+    driver_ready a.parents (state a.ids.now a.numbers.now a.lengths.now a.spills.now (lists_with a.counts a.staged.now a.table.now a.deleted.now)) (journal [] 0 0) (sym (ok_alone a.parents (state a.ids.now a.numbers.now a.lengths.now a.spills.now (lists_with a.counts a.staged.now a.table.now a.deleted.now)) _ c.before.before.before.before.before.before.before.before.before.before.before.state_ok.ensures) ∙ c.before.before.before.before.before.before.before.before.before.before.if-state_ok.true)
 
-same_length : tie.Need-same-length
+same_length : tie.Need-shape_of-ids-then-state_ok
 same_length c = search rules
 
-same_length_2 : tie.Need-same-length-2
+same_length_2 : tie.Need-shape_of-numbers-then-state_ok
 same_length_2 c = search rules
 
-same_length_3 : tie.Need-same-length-3
+same_length_3 : tie.Need-shape_of-lengths-then-state_ok
 same_length_3 c = search rules
 
-same_length_4 : tie.Need-same-length-4
+same_length_4 : tie.Need-shape_of-spills-then-state_ok
 same_length_4 c = search rules
 
-same_length_5 : tie.Need-same-length-5
+same_length_5 : tie.Need-shape_of-staged-then-state_ok
 same_length_5 c = search rules
 
-same_length_6 : tie.Need-same-length-6
+same_length_6 : tie.Need-shape_of-table-then-state_ok
 same_length_6 c = search rules
 
-same_length_7 : tie.Need-same-length-7
+same_length_7 : tie.Need-shape_of-deleted-then-state_ok
 same_length_7 c = search rules
 
-same_length_8 : tie.Need-same-length-8
+same_length_8 : tie.Need-shape_of-answers-then-state_ok
 same_length_8 c = search rules
 
-same_length_9 : tie.Need-same-length-9
+same_length_9 : tie.Need-shape_of-popped-then-state_ok
 same_length_9 c = search rules
 
-returns : tie.Need-returns
+returns : tie.Need-returns-then-state_ok
 returns c =
-    let a = c.before.before.before.before.before.before.before.before.before.before.before.before.before.before.before.before.before.before.before.before.before.before.before.before.before.before.before.before.before.before.before.before.before.before.before.before.before.before.before.before.before.before.before.args in
+    let a = c.before.before.before.before.before.before.before.before.before.before.before.before.before.before.before.before.before.before.before.before.before.before.before.before.before.before.before.before.before.before.before.before.before.before.before.before.args in
     let b = c.before.before.before.before.before.before.before.before.before.before.before.before.before.before.before.before.apply_noted in
-    none_entered b.result _ _ _ _ _ _ _ _ _ _ _ b.ensures b.auto.1.1.1.1.1.1.1.1.1.1.0
-    ∙ batch_passed a.parents (state a.ids.now a.numbers.now a.lengths.now a.spills.now (lists_with a.counts a.staged.now a.table.now a.deleted.now)) (journal [] 0 0) false a.input.now a.answers.now a.popped.now (sym (ok_alone a.parents (state a.ids.now a.numbers.now a.lengths.now a.spills.now (lists_with a.counts a.staged.now a.table.now a.deleted.now)) _ c.before.before.before.before.before.before.before.before.before.before.before.before.before.before.before.before.before.before.before.before.before.before.before.before.before.before.before.before.state_ok.ensures) ∙ c.before.before.before.before.before.before.before.before.before.before.before.before.before.before.before.before.before.before.before.before.before.before.before.before.before.before.before.if1.true)
+    none_entered b.result _ _ _ _ _ _ _ _ _ _ _ b.ensures c.before.before.before.before.before.before.before.before.before.before.before.before.before.before.before.before.apply_noted.auto.entries
+    ∙ batch_passed a.parents (state a.ids.now a.numbers.now a.lengths.now a.spills.now (lists_with a.counts a.staged.now a.table.now a.deleted.now)) (journal [] 0 0) false a.input.now a.answers.now a.popped.now (sym (ok_alone a.parents (state a.ids.now a.numbers.now a.lengths.now a.spills.now (lists_with a.counts a.staged.now a.table.now a.deleted.now)) _ c.before.before.before.before.before.before.before.before.before.before.before.before.before.before.before.before.before.before.before.before.before.before.before.before.before.before.before.before.state_ok.ensures) ∙ c.before.before.before.before.before.before.before.before.before.before.before.before.before.before.before.before.before.before.before.before.before.before.before.before.before.before.before.if-state_ok.true)
 
-same_length_10 : tie.Need-same-length-10
+same_length_10 : tie.Need-shape_of-ids
 same_length_10 c = search rules
 
-same_length_11 : tie.Need-same-length-11
+same_length_11 : tie.Need-shape_of-numbers
 same_length_11 c = search rules
 
-same_length_12 : tie.Need-same-length-12
+same_length_12 : tie.Need-shape_of-lengths
 same_length_12 c = search rules
 
-same_length_13 : tie.Need-same-length-13
+same_length_13 : tie.Need-shape_of-spills
 same_length_13 c = search rules
 
-same_length_14 : tie.Need-same-length-14
+same_length_14 : tie.Need-shape_of-staged
 same_length_14 c = search rules
 
-same_length_15 : tie.Need-same-length-15
+same_length_15 : tie.Need-shape_of-table
 same_length_15 c = search rules
 
-same_length_16 : tie.Need-same-length-16
+same_length_16 : tie.Need-shape_of-deleted
 same_length_16 c = search rules
 
-returns-2 : tie.Need-returns-2
+returns-2 : tie.Need-returns
 returns-2 c =
-    let a = c.before.before.before.before.before.before.before.before.before.before.before.before.before.before.before.before.args in
-    batch_refused a.parents (state a.ids.now a.numbers.now a.lengths.now a.spills.now (lists_with a.counts a.staged.now a.table.now a.deleted.now)) (journal [] 0 0) false a.input.now a.answers.now a.popped.now (sym (ok_alone a.parents (state a.ids.now a.numbers.now a.lengths.now a.spills.now (lists_with a.counts a.staged.now a.table.now a.deleted.now)) _ c.before.state_ok.ensures) ∙ c.if1.false)
+    let a = c.before.before.before.before.before.before.before.before.before.args in
+    batch_refused a.parents (state a.ids.now a.numbers.now a.lengths.now a.spills.now (lists_with a.counts a.staged.now a.table.now a.deleted.now)) (journal [] 0 0) false a.input.now a.answers.now a.popped.now (sym (ok_alone a.parents (state a.ids.now a.numbers.now a.lengths.now a.spills.now (lists_with a.counts a.staged.now a.table.now a.deleted.now)) _ c.before.state_ok.ensures) ∙ c.if-state_ok.false)
 
 pub make_calls_spec : {M : Type 1} → statement M
 make_calls_spec =

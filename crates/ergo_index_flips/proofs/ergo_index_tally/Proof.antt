@@ -5,7 +5,7 @@ use borrow.Author.Rules.{rules}
 use Rattle.ergo_index_flips.proofs.ergo_index_tally.Statement.{statement}
 use Rattle.ergo_index_flips.proofs.ergo_index_tally.Tie as tie
 
-ergo_index_tally_in_edition_requires : tie.Need-ergo-index-tally-in-edition-requires
+ergo_index_tally_in_edition_requires : tie.Need-ergo_index_tally_in_edition-requires
 ergo_index_tally_in_edition_requires c κs = search rules
 
 returns : tie.Need-returns

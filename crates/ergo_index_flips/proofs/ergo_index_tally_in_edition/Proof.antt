@@ -6,20 +6,20 @@ use borrow.Author.Rules.{rules}
 use Rattle.ergo_index_flips.proofs.ergo_index_tally_in_edition.Statement.{statement}
 use Rattle.ergo_index_flips.proofs.ergo_index_tally_in_edition.Tie as tie
 
-named_edition_requires : tie.Need-named-edition-requires
+named_edition_requires : tie.Need-named_edition-requires
 named_edition_requires c κs = search rules
 
-tally_requires : tie.Need-tally-requires
+tally_requires : tie.Need-tally-tallied-requires
 tally_requires c κs = search rules
 
-tally_told_requires : tie.Need-tally-told-requires
+tally_told_requires : tie.Need-tally_told-requires
 tally_told_requires c κs = search rules
 
 returns : tie.Need-returns
 returns c =
     let s = c.before.before.before.before.before.before.before.before in
     let a = s.args in
-    let e = rw (c.before.before.before.before.before.named_edition.ensures, back w32 a.spills s.ranges.spills) at c.before.before.before.before.tally.ensures in
+    let e = rw (c.before.before.before.before.before.named_edition.ensures, back w32 a.spills s.ranges.spills) at c.before.before.before.before.tally-tallied.ensures in
     tally_told a.unspent.now a.spent.now a.unknown.now _ _ e _ _ _ _ c.tally_told.ensures
 
 pub ergo_index_tally_in_edition_spec : {M : Type 1} → statement M

@@ -8,10 +8,10 @@ use Rattle.ergo_index_flips.proofs.ergo_index_unflip_box_segment_entry.Tie as ti
 flip_requires : tie.Need-flip-requires
 flip_requires c κs = search rules
 
-same_length : tie.Need-same-length
+same_length : tie.Need-shape_of-head
 same_length c = search rules
 
-same_length_2 : tie.Need-same-length-2
+same_length_2 : tie.Need-shape_of-staged
 same_length_2 c = search rules
 
 returns : tie.Need-returns

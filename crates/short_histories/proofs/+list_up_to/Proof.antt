@@ -14,7 +14,7 @@ use borrow.Fn.Kinds.{In}
 use borrow.Fn.PlainCycle.{Measures, is, falls, and}
 use Rattle.short_histories.proofs.list_up_to.Reads as list_up_to
 use Rattle.short_histories.proofs.list_up_to.Kinds as list_up_to_kinds
-use Rattle.short_histories.proofs.+list_up_to.Lts_list_up_to as list_up_to_lts
+use Rattle.short_histories.proofs.+list_up_to.Lts-list_up_to as list_up_to_lts
 use Rattle.history_steps.proofs.no_calls.Reads as no_calls_reads
 use Rattle.history_growth.proofs.grow.Reads as grow_reads
 use Rattle.short_histories.proofs.+list_up_to.{statement}
@@ -31,7 +31,7 @@ abbrev list_up_to_below : ℕ → In 1 list_up_to_kinds.ps
 list_up_to_below t =
     and 1 list_up_to_kinds.ps (falls 1 list_up_to_kinds.ps ◌<◌ μ_list_up_to t) list_up_to.Pre
 
-list_up_to_no_calls_requires : (t : ℕ) → list_up_to_lts.Need-no-calls-requires (
+list_up_to_no_calls_requires : (t : ℕ) → list_up_to_lts.Need-no_calls-none-requires (
   no_calls_reads.Asked,
   no_calls_reads.Learnt,
   grow_reads.Asked,
@@ -51,10 +51,10 @@ list_up_to_grow_requires : (t : ℕ) → list_up_to_lts.Need-grow-requires (
 ) (list_up_to_at t) list_up_to.Post
 list_up_to_grow_requires t c κs =
     let s = c.before.before.before.before in
-    let e = c.before.before.no_calls.ensures.1 in
-    (omega arith, omega (arith, e), omega (arith, e), omega (arith, s.requires.1.1, ap length (up_to_none (ranks_in c.before.before.no_calls.result) c.before.before.no_calls.ensures.0 s.args.n c.before.if1.true)))
+    let e = c.before.before.no_calls-none.ensures.1 in
+    (omega arith, omega (arith, e), omega (arith, e), omega (arith, s.requires.1.1, ap length (up_to_none (ranks_in c.before.before.no_calls-none.result) c.before.before.no_calls-none.ensures.0 s.args.n c.before.if-n-eq0.true)))
 
-list_up_to_same_length : (t : ℕ) → list_up_to_lts.Need-same-length (
+list_up_to_same_length : (t : ℕ) → list_up_to_lts.Need-shape_of-out-then-n-eq0 (
   no_calls_reads.Asked,
   no_calls_reads.Learnt,
   grow_reads.Asked,
@@ -64,7 +64,7 @@ list_up_to_same_length : (t : ℕ) → list_up_to_lts.Need-same-length (
 ) (list_up_to_at t) list_up_to.Post
 list_up_to_same_length t c = search rules
 
-list_up_to_returns : (t : ℕ) → list_up_to_lts.Need-returns (
+list_up_to_returns : (t : ℕ) → list_up_to_lts.Need-returns-then-n-eq0 (
   no_calls_reads.Asked,
   no_calls_reads.Learnt,
   grow_reads.Asked,
@@ -72,9 +72,9 @@ list_up_to_returns : (t : ℕ) → list_up_to_lts.Need-returns (
   list_up_to_below t,
   list_up_to.Post,
 ) (list_up_to_at t) list_up_to.Post
-list_up_to_returns t c = let s = c.before.before.before.before.before.before.before in put_as (up_to_none (ranks_in c.before.before.before.before.before.no_calls.result) c.before.before.before.before.before.no_calls.ensures.0 s.args.n c.before.before.before.before.if1.true) _ _ _ _ c.before.before.grow.ensures
+list_up_to_returns t c = let s = c.before.before.before.before.before.before.before in put_as (up_to_none (ranks_in c.before.before.before.before.before.no_calls-none.result) c.before.before.before.before.before.no_calls-none.ensures.0 s.args.n c.before.before.before.before.if-n-eq0.true) _ _ _ _ c.before.before.grow.ensures
 
-list_up_to_sub_list_up_to : (t : ℕ) → list_up_to_lts.Need-overflow-sub-list-up-to (
+list_up_to_sub_list_up_to : (t : ℕ) → list_up_to_lts.Need-overflow_sub-n (
   no_calls_reads.Asked,
   no_calls_reads.Learnt,
   grow_reads.Asked,
@@ -82,9 +82,9 @@ list_up_to_sub_list_up_to : (t : ℕ) → list_up_to_lts.Need-overflow-sub-list-
   list_up_to_below t,
   list_up_to.Post,
 ) (list_up_to_at t) list_up_to.Post
-list_up_to_sub_list_up_to t c = omega (arith, c.if1.false)
+list_up_to_sub_list_up_to t c = omega (arith, c.if-n-eq0.false)
 
-list_up_to_list_up_to_requires : (t : ℕ) → list_up_to_lts.Need-list-up-to-requires (
+list_up_to_list_up_to_requires : (t : ℕ) → list_up_to_lts.Need-list_up_to-at-requires (
   no_calls_reads.Asked,
   no_calls_reads.Learnt,
   grow_reads.Asked,
@@ -94,9 +94,9 @@ list_up_to_list_up_to_requires : (t : ℕ) → list_up_to_lts.Need-list-up-to-re
 ) (list_up_to_at t) list_up_to.Post
 list_up_to_list_up_to_requires t c κs =
     let s = c.before.before.before.before in
-    let turn = up_to_turn (ranks_in c.before.before.no_calls.result) c.before.before.no_calls.ensures.0 s.args.n (omega (arith, c.before.if1.false)) in
-    let none = ranks_in c.before.before.no_calls.result in
-    (omega (arith, s.requires.0, c.before.if1.false), (omega (arith, s.requires.1.0), omega (arith, s.requires.1.1, ap length turn, length-append (bytes_of (histories_up_to (s.args.n - 1))) (bytes_of (going_on s.args.n 0 none Flush none)))))
+    let turn = up_to_turn (ranks_in c.before.before.no_calls-none.result) c.before.before.no_calls-none.ensures.0 s.args.n (omega (arith, c.before.if-n-eq0.false)) in
+    let none = ranks_in c.before.before.no_calls-none.result in
+    (omega (arith, s.requires.0, c.before.if-n-eq0.false), (omega (arith, s.requires.1.0), omega (arith, s.requires.1.1, ap length turn, length-append (bytes_of (histories_up_to (s.args.n - 1))) (bytes_of (going_on s.args.n 0 none Flush none)))))
 
 list_up_to_grow_requires_2 : (t : ℕ) → list_up_to_lts.Need-grow-requires-2 (
   no_calls_reads.Asked,
@@ -108,13 +108,13 @@ list_up_to_grow_requires_2 : (t : ℕ) → list_up_to_lts.Need-grow-requires-2 (
 ) (list_up_to_at t) list_up_to.Post
 list_up_to_grow_requires_2 t c κs =
     let s = c.before.before.before.before.before.before.before.before in
-    let e = c.before.before.before.before.before.before.no_calls.ensures.1 in
-    let turn = up_to_turn (ranks_in c.before.before.before.before.before.before.no_calls.result) c.before.before.before.before.before.before.no_calls.ensures.0 s.args.n (omega (arith, c.before.before.before.before.before.if1.false)) in
-    let none = ranks_in c.before.before.before.before.before.before.no_calls.result in
-    let p = c.before.before.before.list_up_to in
-    (omega arith, omega (arith, e, s.requires.1.0), omega (arith, e, s.requires.1.0), omega (arith, s.requires.1.1, ap length turn, length-append (bytes_of (histories_up_to (s.args.n - 1))) (bytes_of (going_on s.args.n 0 none Flush none)), p.ensures.0, p.auto.1.0))
+    let e = c.before.before.before.before.before.before.no_calls-none.ensures.1 in
+    let turn = up_to_turn (ranks_in c.before.before.before.before.before.before.no_calls-none.result) c.before.before.before.before.before.before.no_calls-none.ensures.0 s.args.n (omega (arith, c.before.before.before.before.before.if-n-eq0.false)) in
+    let none = ranks_in c.before.before.before.before.before.before.no_calls-none.result in
+    let p = c.before.before.before.list_up_to-at in
+    (omega arith, omega (arith, e, s.requires.1.0), omega (arith, e, s.requires.1.0), omega (arith, s.requires.1.1, ap length turn, length-append (bytes_of (histories_up_to (s.args.n - 1))) (bytes_of (going_on s.args.n 0 none Flush none)), p.ensures.0, c.before.before.before.list_up_to-at.auto.out))
 
-list_up_to_same_length_2 : (t : ℕ) → list_up_to_lts.Need-same-length-2 (
+list_up_to_same_length_2 : (t : ℕ) → list_up_to_lts.Need-shape_of-out (
   no_calls_reads.Asked,
   no_calls_reads.Learnt,
   grow_reads.Asked,
@@ -124,7 +124,7 @@ list_up_to_same_length_2 : (t : ℕ) → list_up_to_lts.Need-same-length-2 (
 ) (list_up_to_at t) list_up_to.Post
 list_up_to_same_length_2 t c = search rules
 
-list_up_to_returns_2 : (t : ℕ) → list_up_to_lts.Need-returns-2 (
+list_up_to_returns_2 : (t : ℕ) → list_up_to_lts.Need-returns (
   no_calls_reads.Asked,
   no_calls_reads.Learnt,
   grow_reads.Asked,
@@ -134,9 +134,9 @@ list_up_to_returns_2 : (t : ℕ) → list_up_to_lts.Need-returns-2 (
 ) (list_up_to_at t) list_up_to.Post
 list_up_to_returns_2 t c =
     let s = c.before.before.before.before.before.before.before.before.before.before.before in
-    let none = ranks_in c.before.before.before.before.before.before.before.before.before.no_calls.result in
-    put_as (up_to_turn (ranks_in c.before.before.before.before.before.before.before.before.before.no_calls.result) c.before.before.before.before.before.before.before.before.before.no_calls.ensures.0 s.args.n (omega (arith, c.before.before.before.before.before.before.before.before.if1.false))) _ _ _ _
-    (put_both (bytes_of (histories_up_to (s.args.n - 1))) (bytes_of (going_on s.args.n 0 none Flush none)) s.args.out.now _ _ _ _ _ c.before.before.before.before.before.before.list_up_to.ensures c.before.before.grow2.ensures)
+    let none = ranks_in c.before.before.before.before.before.before.before.before.before.no_calls-none.result in
+    put_as (up_to_turn (ranks_in c.before.before.before.before.before.before.before.before.before.no_calls-none.result) c.before.before.before.before.before.before.before.before.before.no_calls-none.ensures.0 s.args.n (omega (arith, c.before.before.before.before.before.before.before.before.if-n-eq0.false))) _ _ _ _
+    (put_both (bytes_of (histories_up_to (s.args.n - 1))) (bytes_of (going_on s.args.n 0 none Flush none)) s.args.out.now _ _ _ _ _ c.before.before.before.before.before.before.list_up_to-at.ensures c.before.before.grow-2.ensures)
 
 pub +list_up_to_spec : {M : Type 1} → statement M
 +list_up_to_spec = close μ_list_up_to λ t. list_up_to_lts.spec (

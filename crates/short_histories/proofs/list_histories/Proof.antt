@@ -12,19 +12,19 @@ use Rattle.short_histories.proofs.LengthLaws.{length_histories}
 use Rattle.short_histories.proofs.list_histories.Statement.{statement}
 use Rattle.short_histories.proofs.list_histories.Tie as tie
 
-returns : tie.Need-returns
-returns c = let out = c.before.before.args.out.now in put_short {s = bytes_of histories} refl out 0 2668 (sym length_histories) false (sym (lt-leb 2668 (length out) c.if1.true)) refl
+returns : tie.Need-returns-then-out-lt-HISTORIES_LENGTH
+returns c = let out = c.before.before.args.out.now in put_short {s = bytes_of histories} refl out 0 2668 (sym length_histories) false (sym (lt-leb 2668 (length out) c.if-out-lt-HISTORIES_LENGTH.true)) refl
 
-list_up_to_requires : tie.Need-list-up-to-requires
-list_up_to_requires c κs = (omega arith, subst (λ (n : ℕ). n ≤ length c.before.before.before.args.out.now) (sym length_histories) c.before.if1.false)
+list_up_to_requires : tie.Need-list_up_to-requires
+list_up_to_requires c κs = (omega arith, subst (λ (n : ℕ). n ≤ length c.before.before.before.args.out.now) (sym length_histories) c.before.if-out-lt-HISTORIES_LENGTH.false)
 
-same_length : tie.Need-same-length
+same_length : tie.Need-shape_of-out
 same_length c = search rules
 
-returns-2 : tie.Need-returns-2
+returns-2 : tie.Need-returns
 returns-2 c =
     let out = c.before.before.before.before.before.before.args.out.now in
-    put_within refl out 0 _ _ c.before.before.list_up_to.ensures (subst (λ (n : ℕ). 0 + n ≤ length out) (sym length_histories) c.before.before.before.before.if1.false)
+    put_within refl out 0 _ _ c.before.before.list_up_to.ensures (subst (λ (n : ℕ). 0 + n ≤ length out) (sym length_histories) c.before.before.before.before.if-out-lt-HISTORIES_LENGTH.false)
 
 pub list_histories_spec : {M : Type 1} → statement M
 list_histories_spec = tie.close (tie.spec returns list_up_to_requires same_length returns-2)

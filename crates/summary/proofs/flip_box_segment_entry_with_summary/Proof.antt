@@ -5,16 +5,16 @@ use borrow.Author.Rules.{rules}
 use Rattle.summary.proofs.flip_box_segment_entry_with_summary.Statement.{statement}
 use Rattle.summary.proofs.flip_box_segment_entry_with_summary.Tie as tie
 
-flip_entry_requires : tie.Need-flip-entry-requires
+flip_entry_requires : tie.Need-flip_entry-requires
 flip_entry_requires c κs = search rules
 
-same_length : tie.Need-same-length
+same_length : tie.Need-shape_of-head
 same_length c = search rules
 
-same_length_2 : tie.Need-same-length-2
+same_length_2 : tie.Need-shape_of-staged
 same_length_2 c = search rules
 
-same_length_3 : tie.Need-same-length-3
+same_length_3 : tie.Need-shape_of-summary
 same_length_3 c = search rules
 
 returns : tie.Need-returns

@@ -6,46 +6,46 @@ use borrow.Author.Rules.{rules}
 use Rattle.summary.proofs.pop_box_entry_with_summary.Statement.{statement}
 use Rattle.summary.proofs.pop_box_entry_with_summary.Tie as tie
 
-pop_entry_requires : tie.Need-pop-entry-requires
+pop_entry_requires : tie.Need-pop_entry-popped-requires
 pop_entry_requires c κs = search rules
 
-enum_known_popped : tie.Need-enum-known-popped
+enum_known_popped : tie.Need-enum_known-popped
 enum_known_popped c = search rules
 
-enum_known_popped_2 : tie.Need-enum-known-popped-2
+enum_known_popped_2 : tie.Need-enum_known-popped-in-Refused-1
 enum_known_popped_2 c = search rules
 
-same_length : tie.Need-same-length
+same_length : tie.Need-shape_of-head-in-Number
 same_length c = search rules
 
-same_length_2 : tie.Need-same-length-2
+same_length_2 : tie.Need-shape_of-staged-in-Number
 same_length_2 c = search rules
 
-same_length_3 : tie.Need-same-length-3
+same_length_3 : tie.Need-shape_of-deleted-in-Number
 same_length_3 c = search rules
 
-same_length_4 : tie.Need-same-length-4
+same_length_4 : tie.Need-shape_of-summary-in-Number
 same_length_4 c = search rules
 
-returns : tie.Need-returns
+returns : tie.Need-returns-in-Number
 returns c =
-    same_number _ c.before.popped.given.0.0 _ _ _ _ _ _ _ _ c.before.before.before.before.before.before.before.before.before.before.pop_entry.ensures c.before.popped.given.1 _ (back w64 c.before.popped.given.0.0 (search rules))
+    same_number _ c.in-Number.n _ _ _ _ _ _ _ _ c.before.before.before.before.before.before.before.before.pop_entry-popped.ensures c.in-Number.is _ (back w64 c.in-Number.n (search rules))
 
-same_length_5 : tie.Need-same-length-5
+same_length_5 : tie.Need-shape_of-head-in-Refused
 same_length_5 c = search rules
 
-same_length_6 : tie.Need-same-length-6
+same_length_6 : tie.Need-shape_of-staged-in-Refused
 same_length_6 c = search rules
 
-same_length_7 : tie.Need-same-length-7
+same_length_7 : tie.Need-shape_of-deleted-in-Refused
 same_length_7 c = search rules
 
-same_length_8 : tie.Need-same-length-8
+same_length_8 : tie.Need-shape_of-summary-in-Refused
 same_length_8 c = search rules
 
-returns-2 : tie.Need-returns-2
+returns-2 : tie.Need-returns-in-Refused
 returns-2 c =
-    rw c.before.popped2.given.1 at c.before.before.before.before.before.before.before.before.before.before.pop_entry.ensures
+    rw c.in-Refused.is at c.before.before.before.before.before.before.before.before.pop_entry-popped.ensures
 
 pub pop_box_entry_with_summary_spec : {M : Type 1} → statement M
 pop_box_entry_with_summary_spec =

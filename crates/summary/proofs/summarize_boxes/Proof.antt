@@ -5,29 +5,29 @@ use borrow.Author.Rules.{rules}
 use Rattle.summary.proofs.summarize_boxes.Statement.{statement}
 use Rattle.summary.proofs.summarize_boxes.Tie as tie
 
-flip_ok_requires : tie.Need-flip-ok-requires
+flip_ok_requires : tie.Need-flip_ok-requires
 flip_ok_requires c κs = search rules
 
 summarize_requires : tie.Need-summarize-requires
 summarize_requires c κs =
-    let a = c.before.before.before.before.before.before.before.args in
-    flip_asks a.lines a.summary.now a.edition a.parent.now a.counts a.staged_counts a.staged.now a.table_counts a.table.now a.head.now (sym c.before.before.flip_ok.ensures ∙ c.before.if1.true)
+    let a = c.before.before.before.before.before.before.args in
+    flip_asks a.lines a.summary.now a.edition a.parent.now a.counts a.staged_counts a.staged.now a.table_counts a.table.now a.head.now (sym c.before.before.flip_ok.ensures ∙ c.before.if-flip_ok.true)
 
-same_length : tie.Need-same-length
+same_length : tie.Need-shape_of-summary-then-flip_ok
 same_length c = search rules
 
-returns : tie.Need-returns
+returns : tie.Need-returns-then-flip_ok
 returns c =
-    let a = c.before.before.before.before.before.before.before.before.before.before.args in
-    made_goes a.lines a.summary.now a.edition a.parent.now a.counts a.staged_counts a.staged.now a.table_counts a.table.now a.head.now (sym c.before.before.before.before.before.flip_ok.ensures ∙ c.before.before.before.before.if1.true) _ c.before.before.summarize.ensures
+    let a = c.before.before.before.before.before.before.before.before.before.args in
+    made_goes a.lines a.summary.now a.edition a.parent.now a.counts a.staged_counts a.staged.now a.table_counts a.table.now a.head.now (sym c.before.before.before.before.before.flip_ok.ensures ∙ c.before.before.before.before.if-flip_ok.true) _ c.before.before.summarize.ensures
 
-same_length_2 : tie.Need-same-length-2
+same_length_2 : tie.Need-shape_of-summary
 same_length_2 c = search rules
 
-returns-2 : tie.Need-returns-2
+returns-2 : tie.Need-returns
 returns-2 c =
-    let a = c.before.before.before.before.before.before.args in
-    made_25 a.lines a.summary.now a.edition a.parent.now a.counts a.staged_counts a.staged.now a.table_counts a.table.now a.head.now (sym c.before.flip_ok.ensures ∙ c.if1.false)
+    let a = c.before.before.before.before.before.args in
+    made_25 a.lines a.summary.now a.edition a.parent.now a.counts a.staged_counts a.staged.now a.table_counts a.table.now a.head.now (sym c.before.flip_ok.ensures ∙ c.if-flip_ok.false)
 
 pub summarize_boxes_spec : {M : Type 1} → statement M
 summarize_boxes_spec =

@@ -6,7 +6,7 @@ use Rattle.signed.proofs.SignedLaws.{back}
 use Rattle.trial_runs.proofs.count_of.Statement.{statement}
 use Rattle.trial_runs.proofs.count_of.Tie as tie
 
-usize_from_i32_requires : tie.Need-usize-from-i32-requires
+usize_from_i32_requires : tie.Need-usize_from_i32-requires
 usize_from_i32_requires c κs = search rules
 
 returns : tie.Need-returns
