@@ -1,4 +1,5 @@
-/* The C interface of the proved Ergo segment index. Link target/staticlib/libergo_index.a (include/archive.sh writes it), x86-64 Linux.
+/* The C interface of the proved Ergo segment index. Link target/staticlib/libergo_index.a (include/archive.sh makes it of the crate
+ * ergo_index_c), x86-64 Linux.
  *
  * Conventions, the same for every function:
  * - The result is a code: 0 where the call was accepted, otherwise the number of its refusal (ERGO_INDEX_*). Functions that refuse nothing return
