@@ -2,7 +2,7 @@
 # make load   writes a load that can be repeated to standard output: CALLS calls from STATE
 # make fork-trial  which room the staged and the deleted spills need for given blocks and forks (STATE, STEPS): n a block of n calls, -d a fork of d blocks
 # make histories   prints every short history, then runs each on the index at both editions and on the flat list beside a ledger: the release run
-# make test   the gate: every crate proved from nothing, every must-fail edit refused, every program's output compared
+# make test   the gate: every crate proved, every must-fail edit refused, every program's output compared
 # make c-test    the C interface: proves and builds the archive, links a C program with it and compares what it prints
 # make bindings  the Rust crate over the archive: proves and builds the archive, then builds and tests the crate, offline
 # make convert   a sample table turned into edition 2 and back; cargo's --example convert does it for a stored table

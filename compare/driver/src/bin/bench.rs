@@ -347,7 +347,7 @@ fn balances() {
 
 /// The runner's program on appends and spends of two parents, and on the load that can be repeated, if it is built.
 fn runner() {
-    let path = env::var("ERGO_RUNNER").unwrap_or_else(|_| "../target/bin/call_runner".into());
+    let path = env::var("ERGO_RUNNER").unwrap_or_else(|_| "../crates/call_runner/out/call_runner".into());
     if !fs::exists(&path).unwrap_or(false) {
         eprintln!("no {path}: the runner is not measured (name it by ERGO_RUNNER)");
         return;
