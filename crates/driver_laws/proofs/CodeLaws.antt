@@ -318,7 +318,7 @@ module _ (ids : ledger.Parent → List ℕ) where
       o : Appending
       o = appending_to edition_1 ids b ch n
 
-      by : (x : Appended) → AppendNotZero x → NotZero (index.after-append b ch x (appending_to edition_1 ids b ch n).head (appending_to edition_1 ids b ch n).staged)
+      by : (x : Appended) → AppendNotZero x → NotZero (index.after_append b ch x (appending_to edition_1 ids b ch n).head (appending_to edition_1 ids b ch n).staged)
       by (appended.Done h c) k = tt
       by (appended.Refused r) k = k
 

@@ -6,7 +6,7 @@ use Rattle.signed.proofs.SignedLaws.{back}
 use Rattle.balance_parts.proofs.add_box.Statement.{statement}
 use Rattle.balance_parts.proofs.add_box.Tie as tie
 
-change_parts_requires : tie.Need-change-parts-requires
+change_parts_requires : tie.Need-change_parts-requires
 change_parts_requires c κs = search rules
 
 returns : tie.Need-returns

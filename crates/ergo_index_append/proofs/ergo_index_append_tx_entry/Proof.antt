@@ -8,10 +8,10 @@ use Rattle.ergo_index_append.proofs.ergo_index_append_tx_entry.Tie as tie
 append_requires : tie.Need-append-requires
 append_requires c κs = search rules
 
-same_length : tie.Need-same-length
+same_length : tie.Need-shape_of-head
 same_length c = search rules
 
-same_length_2 : tie.Need-same-length-2
+same_length_2 : tie.Need-shape_of-staged
 same_length_2 c = search rules
 
 returns : tie.Need-returns

@@ -5,16 +5,16 @@ use borrow.Author.Rules.{rules}
 use Rattle.ergo_index_append.proofs.ergo_index_append_tx_entry_in_edition.Statement.{statement}
 use Rattle.ergo_index_append.proofs.ergo_index_append_tx_entry_in_edition.Tie as tie
 
-named_edition_requires : tie.Need-named-edition-requires
+named_edition_requires : tie.Need-named_edition-requires
 named_edition_requires c κs = search rules
 
 append_requires : tie.Need-append-requires
 append_requires c κs = search rules
 
-same_length : tie.Need-same-length
+same_length : tie.Need-shape_of-head
 same_length c = search rules
 
-same_length_2 : tie.Need-same-length-2
+same_length_2 : tie.Need-shape_of-staged
 same_length_2 c = search rules
 
 returns : tie.Need-returns

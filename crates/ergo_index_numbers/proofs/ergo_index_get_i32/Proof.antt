@@ -6,20 +6,20 @@ use borrow.Author.Rules.{rules}
 use Rattle.ergo_index_numbers.proofs.ergo_index_get_i32.Statement.{statement}
 use Rattle.ergo_index_numbers.proofs.ergo_index_get_i32.Tie as tie
 
-get_i32_requires : tie.Need-get-i32-requires
+get_i32_requires : tie.Need-get_i32-read-requires
 get_i32_requires c κs = search rules
 
-enum_known_read : tie.Need-enum-known-read
+enum_known_read : tie.Need-enum_known-read
 enum_known_read c = search rules
 
-enum_known_read_2 : tie.Need-enum-known-read-2
+enum_known_read_2 : tie.Need-enum_known-read-in-Refused-1
 enum_known_read_2 c = search rules
 
-returns : tie.Need-returns
-returns c = int_read _ _ _ _ _ _ _ c.before.before.before.get_i32.ensures c.before.read.given.1 (back w32 c.before.read.given.0.0 (search rules))
+returns : tie.Need-returns-in-Number
+returns c = int_read _ _ _ _ _ _ _ c.before.get_i32-read.ensures c.in-Number.is (back w32 c.in-Number.number (search rules))
 
-returns-2 : tie.Need-returns-2
-returns-2 c = int_none _ _ _ _ _ c.before.before.before.get_i32.ensures c.before.read2.given.1
+returns-2 : tie.Need-returns-in-Refused
+returns-2 c = int_none _ _ _ _ _ c.before.get_i32-read.ensures c.in-Refused.is
 
 pub ergo_index_get_i32_spec : {M : Type 1} → statement M
 ergo_index_get_i32_spec =

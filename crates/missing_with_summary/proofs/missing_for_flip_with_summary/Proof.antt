@@ -14,85 +14,85 @@ use borrow.Author.Rules.{rules}
 use Rattle.missing_with_summary.proofs.missing_for_flip_with_summary.Statement.{statement}
 use Rattle.missing_with_summary.proofs.missing_for_flip_with_summary.Tie as tie
 
-magnitude_requires : tie.Need-magnitude-requires
+magnitude_requires : tie.Need-magnitude-size-requires
 magnitude_requires c κs = search rules
 
-flip_ok_requires : tie.Need-flip-ok-requires
+flip_ok_requires : tie.Need-flip_ok-requires
 flip_ok_requires c κs = search rules
 
-returns : tie.Need-returns
+returns : tie.Need-returns-then-not-flip_ok
 returns c =
     let s = c.before.before.before.before.before.before.before in
     let a = s.args in
-    flip_25 (edition_of a.edition) a.direction a.parent.now a.counts a.target a.staged_counts a.staged.now a.table_counts a.table.now a.head.now a.lines a.summary.now (sym c.before.flip_ok.ensures ∙ not-true _ c.if1.true)
+    flip_25 (edition_of a.edition) a.direction a.parent.now a.counts a.target a.staged_counts a.staged.now a.table_counts a.table.now a.head.now a.lines a.summary.now (sym c.before.flip_ok.ensures ∙ c.if-not-flip_ok.true)
 
-returns-2 : tie.Need-returns-2
+returns-2 : tie.Need-returns-then-size-ge9223372036854775808
 returns-2 c =
     let s = c.before.before.before.before.before.before.before.before in
     let a = s.args in
-    let t = c.before.before.before.before.magnitude.ensures ∙ ap nat_abs (back w64 a.target s.ranges.target) in
-    flip_9 (edition_of a.edition) a.direction a.parent.now a.counts a.target a.staged_counts a.staged.now a.table_counts a.table.now a.head.now a.lines a.summary.now (sym c.before.before.flip_ok.ensures ∙ not-false _ c.before.if1.false) _ t c.if2.true
+    let t = c.before.before.before.before.magnitude-size.ensures ∙ ap nat_abs (back w64 a.target s.ranges.target) in
+    flip_9 (edition_of a.edition) a.direction a.parent.now a.counts a.target a.staged_counts a.staged.now a.table_counts a.table.now a.head.now a.lines a.summary.now (sym c.before.before.flip_ok.ensures ∙ c.before.if-not-flip_ok.false) _ t c.if-size-ge9223372036854775808.true
 
-order_ok_requires : tie.Need-order-ok-requires
+order_ok_requires : tie.Need-order_ok-requires
 order_ok_requires c κs =
     let s = c.before.before.before.before.before.before.before.before in
     let a = s.args in
-    let f = flip_facts a.edition a.counts a.staged_counts a.staged.now a.table_counts a.table.now a.head.now (lists_pass (edition_of a.edition) a.direction a.parent.now a.counts a.target a.staged_counts a.staged.now a.table_counts a.table.now a.head.now a.lines a.summary.now (sym c.before.before.flip_ok.ensures ∙ not-false _ c.before.if1.false)) in
+    let f = flip_facts a.edition a.counts a.staged_counts a.staged.now a.table_counts a.table.now a.head.now (lists_pass (edition_of a.edition) a.direction a.parent.now a.counts a.target a.staged_counts a.staged.now a.table_counts a.table.now a.head.now a.lines a.summary.now (sym c.before.before.flip_ok.ensures ∙ c.before.if-not-flip_ok.false)) in
     omega (arith, f.few, f.long)
 
-returns-3 : tie.Need-returns-3
+returns-3 : tie.Need-returns-then-not-order_ok
 returns-3 c =
     let s = c.before.before.before.before.before.before.before.before.before.before in
     let a = s.args in
-    let t = c.before.before.before.before.before.before.magnitude.ensures ∙ ap nat_abs (back w64 a.target s.ranges.target) in
-    flip_10 (edition_of a.edition) a.direction a.parent.now a.counts a.target a.staged_counts a.staged.now a.table_counts a.table.now a.head.now a.lines a.summary.now (sym c.before.before.before.before.flip_ok.ensures ∙ not-false _ c.before.before.before.if1.false) _ t c.before.before.if2.false (sym c.before.order_ok.ensures ∙ not-true _ c.if3.true)
+    let t = c.before.before.before.before.before.before.magnitude-size.ensures ∙ ap nat_abs (back w64 a.target s.ranges.target) in
+    flip_10 (edition_of a.edition) a.direction a.parent.now a.counts a.target a.staged_counts a.staged.now a.table_counts a.table.now a.head.now a.lines a.summary.now (sym c.before.before.before.before.flip_ok.ensures ∙ c.before.before.before.if-not-flip_ok.false) _ t c.before.before.if-size-ge9223372036854775808.false (sym c.before.order_ok.ensures ∙ c.if-not-order_ok.true)
 
-is_negative_i32_requires : tie.Need-is-negative-i32-requires
+is_negative_i32_requires : tie.Need-is_negative_i32-requires
 is_negative_i32_requires c κs = search rules
 
-returns-4 : tie.Need-returns-4
+returns-4 : tie.Need-returns-then-is_negative_i32
 returns-4 c =
     let s = c.before.before.before.before.before.before.before.before.before.before.before.before in
     let a = s.args in
-    let t = c.before.before.before.before.before.before.before.before.magnitude.ensures ∙ ap nat_abs (back w64 a.target s.ranges.target) in
+    let t = c.before.before.before.before.before.before.before.before.magnitude-size.ensures ∙ ap nat_abs (back w64 a.target s.ranges.target) in
     let e = back w32 a.counts.spills (search rules) in
-    flip_11 (edition_of a.edition) a.direction a.parent.now a.counts a.target a.staged_counts a.staged.now a.table_counts a.table.now a.head.now a.lines a.summary.now (sym c.before.before.before.before.before.before.flip_ok.ensures ∙ not-false _ c.before.before.before.before.before.if1.false) _ t c.before.before.before.before.if2.false (sym c.before.before.before.order_ok.ensures ∙ not-false _ c.before.before.if3.false) (ap is_negative (sym e) ∙ sym c.before.is_negative_i32.ensures ∙ c.if4.true)
+    flip_11 (edition_of a.edition) a.direction a.parent.now a.counts a.target a.staged_counts a.staged.now a.table_counts a.table.now a.head.now a.lines a.summary.now (sym c.before.before.before.before.before.before.flip_ok.ensures ∙ c.before.before.before.before.before.if-not-flip_ok.false) _ t c.before.before.before.before.if-size-ge9223372036854775808.false (sym c.before.before.before.order_ok.ensures ∙ c.before.before.if-not-order_ok.false) (ap is_negative (sym e) ∙ sym c.before.is_negative_i32.ensures ∙ c.if-is_negative_i32.true)
 
-usize_from_i32_requires : tie.Need-usize-from-i32-requires
-usize_from_i32_requires c κs = sym c.before.is_negative_i32.ensures ∙ c.if4.false
+usize_from_i32_requires : tie.Need-usize_from_i32-rows-requires
+usize_from_i32_requires c κs = sym c.before.is_negative_i32.ensures ∙ c.if-is_negative_i32.false
 
-returns-5 : tie.Need-returns-5
+returns-5 : tie.Need-returns-then-lines-rows
 returns-5 c =
     let s = c.before.before.before.before.before.before.before.before.before.before.before.before.before.before in
     let a = s.args in
-    let t = c.before.before.before.before.before.before.before.before.before.before.magnitude.ensures ∙ ap nat_abs (back w64 a.target s.ranges.target) in
+    let t = c.before.before.before.before.before.before.before.before.before.before.magnitude-size.ensures ∙ ap nat_abs (back w64 a.target s.ranges.target) in
     let e = back w32 a.counts.spills (search rules) in
-    flip_36 (edition_of a.edition) a.direction a.parent.now a.counts a.target a.staged_counts a.staged.now a.table_counts a.table.now a.head.now a.lines a.summary.now (sym c.before.before.before.before.before.before.before.before.flip_ok.ensures ∙ not-false _ c.before.before.before.before.before.before.before.if1.false) _ t c.before.before.before.before.before.before.if2.false (sym c.before.before.before.before.before.order_ok.ensures ∙ not-false _ c.before.before.before.before.if3.false) (ap is_negative (sym e) ∙ sym c.before.before.before.is_negative_i32.ensures ∙ c.before.before.if4.false) _ (c.before.usize_from_i32.ensures ∙ ap nat_abs e) c.if5.true
+    flip_36 (edition_of a.edition) a.direction a.parent.now a.counts a.target a.staged_counts a.staged.now a.table_counts a.table.now a.head.now a.lines a.summary.now (sym c.before.before.before.before.before.before.before.before.flip_ok.ensures ∙ c.before.before.before.before.before.before.before.if-not-flip_ok.false) _ t c.before.before.before.before.before.before.if-size-ge9223372036854775808.false (sym c.before.before.before.before.before.order_ok.ensures ∙ c.before.before.before.before.if-not-order_ok.false) (ap is_negative (sym e) ∙ sym c.before.before.before.is_negative_i32.ensures ∙ c.before.before.if-is_negative_i32.false) _ (c.before.usize_from_i32-rows.ensures ∙ ap nat_abs e) c.if-lines-rows.true
 
-is_spend_requires : tie.Need-is-spend-requires
+is_spend_requires : tie.Need-is_spend-requires
 is_spend_requires c κs = search rules
 
-seek_flip_requires : tie.Need-seek-flip-requires
+seek_flip_requires : tie.Need-seek_flip-requires
 seek_flip_requires c κs =
     let s = c.before.before.before.before.before.before.before.before.before.before.before.before.before.before.before in
     let a = s.args in
-    let f = flip_facts a.edition a.counts a.staged_counts a.staged.now a.table_counts a.table.now a.head.now (lists_pass (edition_of a.edition) a.direction a.parent.now a.counts a.target a.staged_counts a.staged.now a.table_counts a.table.now a.head.now a.lines a.summary.now (sym c.before.before.before.before.before.before.before.before.before.flip_ok.ensures ∙ not-false _ c.before.before.before.before.before.before.before.before.if1.false)) in
+    let f = flip_facts a.edition a.counts a.staged_counts a.staged.now a.table_counts a.table.now a.head.now (lists_pass (edition_of a.edition) a.direction a.parent.now a.counts a.target a.staged_counts a.staged.now a.table_counts a.table.now a.head.now a.lines a.summary.now (sym c.before.before.before.before.before.before.before.before.before.flip_ok.ensures ∙ c.before.before.before.before.before.before.before.before.if-not-flip_ok.false)) in
     let e = back w32 a.counts.spills (search rules) in
-    let n = ap is_negative (sym e) ∙ sym c.before.before.before.before.is_negative_i32.ensures ∙ c.before.before.before.if4.false in (
+    let n = ap is_negative (sym e) ∙ sym c.before.before.before.before.is_negative_i32.ensures ∙ c.before.before.before.if-is_negative_i32.false in (
       record { in_staged = f.bounds.within; in_table = f.table_bounds.within; apart = f.apart },
-      spills_below a.counts.spills n (search rules) _ (c.before.before.usize_from_i32.ensures ∙ ap nat_abs e),
-      omega (arith, lines_fit (edition_of a.edition) a.direction a.parent.now a.counts a.target a.staged_counts a.staged.now a.table_counts a.table.now a.head.now a.lines a.summary.now (sym c.before.before.before.before.before.before.before.before.before.flip_ok.ensures ∙ not-false _ c.before.before.before.before.before.before.before.before.if1.false), c.before.if5.false),
+      spills_below a.counts.spills n (search rules) _ (c.before.before.usize_from_i32-rows.ensures ∙ ap nat_abs e),
+      omega (arith, lines_fit (edition_of a.edition) a.direction a.parent.now a.counts a.target a.staged_counts a.staged.now a.table_counts a.table.now a.head.now a.lines a.summary.now (sym c.before.before.before.before.before.before.before.before.before.flip_ok.ensures ∙ c.before.before.before.before.before.before.before.before.if-not-flip_ok.false), c.before.if-lines-rows.false),
       omega (arith, f.few, f.long),
-      sym c.before.before.before.before.before.before.order_ok.ensures ∙ not-false _ c.before.before.before.before.before.if3.false,
+      sym c.before.before.before.before.before.before.order_ok.ensures ∙ c.before.before.before.before.before.if-not-order_ok.false,
     )
 
-returns-6 : tie.Need-returns-6
+returns-6 : tie.Need-returns
 returns-6 c =
     let s = c.before.before.before.before.before.before.before.before.before.before.before.before.before.before.before.before in
     let a = s.args in
-    let t = c.before.before.before.before.before.before.before.before.before.before.before.before.magnitude.ensures ∙ ap nat_abs (back w64 a.target s.ranges.target) in
+    let t = c.before.before.before.before.before.before.before.before.before.before.before.before.magnitude-size.ensures ∙ ap nat_abs (back w64 a.target s.ranges.target) in
     let e = back w32 a.counts.spills (search rules) in
-    flip_goes (edition_of a.edition) a.direction a.parent.now a.counts a.target a.staged_counts a.staged.now a.table_counts a.table.now a.head.now a.lines a.summary.now (sym c.before.before.before.before.before.before.before.before.before.before.flip_ok.ensures ∙ not-false _ c.before.before.before.before.before.before.before.before.before.if1.false) _ t c.before.before.before.before.before.before.before.before.if2.false (sym c.before.before.before.before.before.before.before.order_ok.ensures ∙ not-false _ c.before.before.before.before.before.before.if3.false) (ap is_negative (sym e) ∙ sym c.before.before.before.before.before.is_negative_i32.ensures ∙ c.before.before.before.before.if4.false) _ (c.before.before.before.usize_from_i32.ensures ∙ ap nat_abs e) c.before.before.if5.false _ c.before.is_spend.ensures _ c.seek_flip.ensures
+    flip_goes (edition_of a.edition) a.direction a.parent.now a.counts a.target a.staged_counts a.staged.now a.table_counts a.table.now a.head.now a.lines a.summary.now (sym c.before.before.before.before.before.before.before.before.before.before.flip_ok.ensures ∙ c.before.before.before.before.before.before.before.before.before.if-not-flip_ok.false) _ t c.before.before.before.before.before.before.before.before.if-size-ge9223372036854775808.false (sym c.before.before.before.before.before.before.before.order_ok.ensures ∙ c.before.before.before.before.before.before.if-not-order_ok.false) (ap is_negative (sym e) ∙ sym c.before.before.before.before.before.is_negative_i32.ensures ∙ c.before.before.before.before.if-is_negative_i32.false) _ (c.before.before.before.usize_from_i32-rows.ensures ∙ ap nat_abs e) c.before.before.if-lines-rows.false _ c.before.is_spend.ensures _ c.seek_flip.ensures
 
 pub missing_for_flip_with_summary_spec : {M : Type 1} → statement M
 missing_for_flip_with_summary_spec =

@@ -7,50 +7,50 @@ use borrow.Author.Rules.{rules}
 use Rattle.missing_with_summary.proofs.seek_flip.Statement.{statement}
 use Rattle.missing_with_summary.proofs.seek_flip.Tie as tie
 
-flip_position_requires : tie.Need-flip-position-requires
+flip_position_requires : tie.Need-flip_position-position-requires
 flip_position_requires c κs = search rules
 
-enum_told : tie.Need-enum-told
+enum_told : tie.Need-enum_told-1
 enum_told c = search rules
 
-enum_told_2 : tie.Need-enum-told-2
+enum_told_2 : tie.Need-enum_told-in-Seen
 enum_told_2 c = search rules
 
-array_share_prefix_none : tie.Need-array-share-prefix-none
+array_share_prefix_none : tie.Need-slice_bounds-none-end
 array_share_prefix_none c = search rules
 
-slice_aggregate_seek_lines : tie.Need-slice-aggregate-seek-lines
+slice_aggregate_seek_lines : tie.Need-slice_bounds-seek_lines-end
 slice_aggregate_seek_lines c = search rules
 
-seek_lines_requires : tie.Need-seek-lines-requires
+seek_lines_requires : tie.Need-seek_lines-requires
 seek_lines_requires c κs = search rules
 
-enum_told_3 : tie.Need-enum-told-3
+enum_told_3 : tie.Need-enum_told-in-Absent
 enum_told_3 c = search rules
 
-array_share_prefix_none_2 : tie.Need-array-share-prefix-none-2
+array_share_prefix_none_2 : tie.Need-slice_bounds-none-end-in-Absent
 array_share_prefix_none_2 c = search rules
 
-slice_aggregate_seek_lines_2 : tie.Need-slice-aggregate-seek-lines-2
+slice_aggregate_seek_lines_2 : tie.Need-slice_bounds-seek_lines-end-in-Absent
 slice_aggregate_seek_lines_2 c = search rules
 
-seek_lines_requires_2 : tie.Need-seek-lines-requires-2
+seek_lines_requires_2 : tie.Need-seek_lines-requires-in-Absent
 seek_lines_requires_2 c κs = search rules
 
-returns : tie.Need-returns
+returns : tie.Need-returns-in-At
 returns c =
-    let a = c.before.before.before.before.before.before.args in
-    head_has (edition_of a.edition) (sources a.parent.now a.staged.now a.staged_count a.table.now a.table_count) (in_lines_reads (edition_of a.edition) (sources a.parent.now a.staged.now a.staged_count a.table.now a.table_count) a.summary.now a.target a.spend a.spills) _ _ c.before.before.flip_position.ensures _ c.enum_told.given.1
+    let a = c.before.before.before.before.before.args in
+    head_has (edition_of a.edition) (sources a.parent.now a.staged.now a.staged_count a.table.now a.table_count) (in_lines_reads (edition_of a.edition) (sources a.parent.now a.staged.now a.staged_count a.table.now a.table_count) a.summary.now a.target a.spend a.spills) _ _ c.before.flip_position-position.ensures _ c.in-At.is
 
-returns-2 : tie.Need-returns-2
+returns-2 : tie.Need-returns-in-Seen
 returns-2 c =
-    let a = c.before.before.before.before.before.before.before.before.args in
-    head_seen (edition_of a.edition) (sources a.parent.now a.staged.now a.staged_count a.table.now a.table_count) (in_lines_reads (edition_of a.edition) (sources a.parent.now a.staged.now a.staged_count a.table.now a.table_count) a.summary.now a.target a.spend a.spills) _ _ c.before.before.before.before.flip_position.ensures c.before.before.enum_told2.given.1 _ c.seek_lines.ensures
+    let a = c.before.before.before.before.before.before.before.args in
+    head_seen (edition_of a.edition) (sources a.parent.now a.staged.now a.staged_count a.table.now a.table_count) (in_lines_reads (edition_of a.edition) (sources a.parent.now a.staged.now a.staged_count a.table.now a.table_count) a.summary.now a.target a.spend a.spills) _ _ c.before.before.before.flip_position-position.ensures c.before.before.in-Seen.is _ c.seek_lines.ensures
 
-returns-3 : tie.Need-returns-3
+returns-3 : tie.Need-returns-in-Absent
 returns-3 c =
-    let a = c.before.before.before.before.before.before.before.before.args in
-    head_absent (edition_of a.edition) (sources a.parent.now a.staged.now a.staged_count a.table.now a.table_count) (in_lines_reads (edition_of a.edition) (sources a.parent.now a.staged.now a.staged_count a.table.now a.table_count) a.summary.now a.target a.spend a.spills) _ _ c.before.before.before.before.flip_position.ensures c.before.before.enum_told3.given.1 _ c.seek_lines2.ensures
+    let a = c.before.before.before.before.before.before.before.args in
+    head_absent (edition_of a.edition) (sources a.parent.now a.staged.now a.staged_count a.table.now a.table_count) (in_lines_reads (edition_of a.edition) (sources a.parent.now a.staged.now a.staged_count a.table.now a.table_count) a.summary.now a.target a.spend a.spills) _ _ c.before.before.before.flip_position-position.ensures c.before.before.in-Absent.is _ c.seek_lines-in-Absent.ensures
 
 pub seek_flip_spec : {M : Type 1} → statement M
 seek_flip_spec =

@@ -5,10 +5,10 @@ use borrow.Author.Rules.{rules}
 use Rattle.ranking.proofs.rank_noted.Statement.{statement}
 use Rattle.ranking.proofs.rank_noted.Tie as tie
 
-slice_aggregate_note_table : tie.Need-slice-aggregate-note-table
+slice_aggregate_note_table : tie.Need-slice_bounds-note_table-end
 slice_aggregate_note_table c = search rules
 
-note_table_requires : tie.Need-note-table-requires
+note_table_requires : tie.Need-note_table-requires
 note_table_requires c κs =
     let s = c.before.before.before.before.before.before.before in
     let a = s.args in
@@ -16,10 +16,10 @@ note_table_requires c κs =
     let y = address_of a.other_edition a.other_counts a.other_hash.now a.other_ids.now a.other_amounts.now a.other_boxes.now a.other_txs.now a.other_staged.now a.other_table.now in
     (rows_ready x s.requires.0.buffers).in_table
 
-slice_aggregate_note_table_2 : tie.Need-slice-aggregate-note-table-2
+slice_aggregate_note_table_2 : tie.Need-slice_bounds-note_table-end-2
 slice_aggregate_note_table_2 c = search rules
 
-note_table_requires_2 : tie.Need-note-table-requires-2
+note_table_requires_2 : tie.Need-note_table-requires-2
 note_table_requires_2 c κs =
     let s = c.before.before.before.before.before.before.before.before.before.before in
     let a = s.args in
@@ -27,13 +27,13 @@ note_table_requires_2 c κs =
     let y = address_of a.other_edition a.other_counts a.other_hash.now a.other_ids.now a.other_amounts.now a.other_boxes.now a.other_txs.now a.other_staged.now a.other_table.now in
     (rows_ready y s.requires.1.buffers).in_table
 
-slice_aggregate_check_and_compare : tie.Need-slice-aggregate-check-and-compare
+slice_aggregate_check_and_compare : tie.Need-slice_bounds-check_and_compare-end
 slice_aggregate_check_and_compare c = search rules
 
-slice_aggregate_check_and_compare_2 : tie.Need-slice-aggregate-check-and-compare-2
+slice_aggregate_check_and_compare_2 : tie.Need-slice_bounds-check_and_compare-end-2
 slice_aggregate_check_and_compare_2 c = search rules
 
-check_and_compare_requires : tie.Need-check-and-compare-requires
+check_and_compare_requires : tie.Need-check_and_compare-requires
 check_and_compare_requires c κs = search rules
 
 returns : tie.Need-returns
