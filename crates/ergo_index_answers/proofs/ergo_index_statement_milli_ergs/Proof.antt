@@ -7,7 +7,7 @@ use borrow.Author.Rules.{rules}
 use Rattle.ergo_index_answers.proofs.ergo_index_statement_milli_ergs.Statement.{statement}
 use Rattle.ergo_index_answers.proofs.ergo_index_statement_milli_ergs.Tie as tie
 
-statement_milli_ergs_requires : tie.Need-statement-milli-ergs-requires
+statement_milli_ergs_requires : tie.Need-statement_milli_ergs-requires
 statement_milli_ergs_requires c κs = search rules
 
 returns : tie.Need-returns

@@ -6,29 +6,29 @@ use Rattle.ergo_index_answers.proofs.ergo_index_tolerate_secondary_drift.Stateme
 }
 use Rattle.ergo_index_answers.proofs.ergo_index_tolerate_secondary_drift.Tie as tie
 
-answer_of_requires : tie.Need-answer-of-requires
+answer_of_requires : tie.Need-answer_of-answer-requires
 answer_of_requires c κs = search rules
 
-tolerate_secondary_drift_requires : tie.Need-tolerate-secondary-drift-requires
+tolerate_secondary_drift_requires : tie.Need-tolerate_secondary_drift-kept-requires
 tolerate_secondary_drift_requires c κs = search rules
 
-enum_told : tie.Need-enum-told
+enum_told : tie.Need-enum_told-1
 enum_told c = search rules
 
-enum_told_2 : tie.Need-enum-told-2
+enum_told_2 : tie.Need-enum_told-in-Skipped
 enum_told_2 c = search rules
 
-enum_known_kept : tie.Need-enum-known-kept
+enum_known_kept : tie.Need-enum_known-kept
 enum_known_kept c = search rules
 
-returns : tie.Need-returns
-returns c = drift_flipped c.before.before.before.before.args.flip _ c.before.before.before.answer_of.ensures _ c.before.before.tolerate_secondary_drift.ensures c.before.before.before.before.args.skipped.now c.enum_told.given.1
+returns : tie.Need-returns-in-Flipped
+returns c = drift_flipped c.before.before.before.args.flip _ c.before.before.answer_of-answer.ensures _ c.before.tolerate_secondary_drift-kept.ensures c.before.before.before.args.skipped.now c.in-Flipped.is
 
-returns-2 : tie.Need-returns-2
-returns-2 c = drift_skipped c.before.before.before.before.args.flip _ c.before.before.before.answer_of.ensures _ c.before.before.tolerate_secondary_drift.ensures c.before.before.before.before.args.skipped.now c.enum_told2.given.1
+returns-2 : tie.Need-returns-in-Skipped
+returns-2 c = drift_skipped c.before.before.before.args.flip _ c.before.before.answer_of-answer.ensures _ c.before.tolerate_secondary_drift-kept.ensures c.before.before.before.args.skipped.now c.in-Skipped.is
 
-returns-3 : tie.Need-returns-3
-returns-3 c = drift_refused c.before.before.before.before.before.args.flip _ c.before.before.before.before.answer_of.ensures _ c.before.before.before.tolerate_secondary_drift.ensures c.before.before.before.before.before.args.skipped.now _ c.before.kept.given.1
+returns-3 : tie.Need-returns-in-Refused
+returns-3 c = drift_refused c.before.before.before.args.flip _ c.before.before.answer_of-answer.ensures _ c.before.tolerate_secondary_drift-kept.ensures c.before.before.before.args.skipped.now _ c.in-Refused.is
 
 pub ergo_index_tolerate_secondary_drift_spec : {M : Type 1} → statement M
 ergo_index_tolerate_secondary_drift_spec =

@@ -6,35 +6,35 @@ use borrow.Author.Rules.{rules}
 use Rattle.ergo_index_summary.proofs.ergo_index_summarize_boxes.Statement.{statement}
 use Rattle.ergo_index_summary.proofs.ergo_index_summarize_boxes.Tie as tie
 
-named_edition_requires : tie.Need-named-edition-requires
+named_edition_requires : tie.Need-named_edition-requires
 named_edition_requires c κs = search rules
 
-summarize_boxes_requires : tie.Need-summarize-boxes-requires
+summarize_boxes_requires : tie.Need-summarize_boxes-summarized-requires
 summarize_boxes_requires c κs = search rules
 
-enum_told : tie.Need-enum-told
+enum_told : tie.Need-enum_told-1
 enum_told c = search rules
 
-enum_known_summarized : tie.Need-enum-known-summarized
+enum_known_summarized : tie.Need-enum_known-summarized
 enum_known_summarized c = search rules
 
-same_length : tie.Need-same-length
+same_length : tie.Need-shape_of-summary-in-Done
 same_length c = search rules
 
-returns : tie.Need-returns
+returns : tie.Need-returns-in-Done
 returns c =
-    let s = c.before.before.before.before.before.before.before.before.before.before in
-    let e = rw (c.before.before.before.before.before.before.named_edition.ensures, back w32 s.args.spills s.ranges.spills) at c.before.before.before.before.summarize_boxes.ensures in
-    made_done _ _ _ e c.enum_told.given.1
+    let s = c.before.before.before.before.before.before.before.before.before in
+    let e = rw (c.before.before.before.before.before.named_edition.ensures, back w32 s.args.spills s.ranges.spills) at c.before.before.before.summarize_boxes-summarized.ensures in
+    made_done _ _ _ e c.in-Done.is
 
-same_length_2 : tie.Need-same-length-2
+same_length_2 : tie.Need-shape_of-summary-in-Refused
 same_length_2 c = search rules
 
-returns-2 : tie.Need-returns-2
+returns-2 : tie.Need-returns-in-Refused
 returns-2 c =
-    let s = c.before.before.before.before.before.before.before.before.before.before.before in
-    let e = rw (c.before.before.before.before.before.before.before.named_edition.ensures, back w32 s.args.spills s.ranges.spills) at c.before.before.before.before.before.summarize_boxes.ensures in
-    made_refused _ _ _ e _ c.before.summarized.given.1
+    let s = c.before.before.before.before.before.before.before.before.before in
+    let e = rw (c.before.before.before.before.before.named_edition.ensures, back w32 s.args.spills s.ranges.spills) at c.before.before.before.summarize_boxes-summarized.ensures in
+    made_refused _ _ _ e _ c.in-Refused.is
 
 pub ergo_index_summarize_boxes_spec : {M : Type 1} → statement M
 ergo_index_summarize_boxes_spec =

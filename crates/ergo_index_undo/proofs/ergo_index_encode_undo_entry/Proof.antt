@@ -6,26 +6,26 @@ use Rattle.ergo_index_undo.proofs.ergo_index_encode_undo_entry.Statement.{
 }
 use Rattle.ergo_index_undo.proofs.ergo_index_encode_undo_entry.Tie as tie
 
-encode_requires : tie.Need-encode-requires
+encode_requires : tie.Need-encode-encoded-requires
 encode_requires c κs = search rules
 
-enum_known_encoded : tie.Need-enum-known-encoded
+enum_known_encoded : tie.Need-enum_known-encoded
 enum_known_encoded c = search rules
 
-enum_known_encoded_2 : tie.Need-enum-known-encoded-2
+enum_known_encoded_2 : tie.Need-enum_known-encoded-in-Refused-1
 enum_known_encoded_2 c = search rules
 
-same_length : tie.Need-same-length
-same_length c = c.before.before.before.before.out.given
+same_length : tie.Need-shape_of-out-in-Written
+same_length c = c.before.before.out-1.given
 
-returns : tie.Need-returns
-returns c = encode_done _ _ _ c.before.before.before.before.before.encode.ensures c.before.before.before.before.before.before.before.before.before.args.written.now _ c.before.encoded.given.1
+returns : tie.Need-returns-in-Written
+returns c = encode_done _ _ _ c.before.before.before.encode-encoded.ensures c.before.before.before.before.before.before.before.args.written.now _ c.in-Written.is
 
-same_length_2 : tie.Need-same-length-2
-same_length_2 c = c.before.before.before.before.out.given
+same_length_2 : tie.Need-shape_of-out-in-Refused
+same_length_2 c = c.before.before.out-1.given
 
-returns-2 : tie.Need-returns-2
-returns-2 c = encode_refused _ _ _ c.before.before.before.before.before.encode.ensures c.before.before.before.before.before.before.before.before.before.args.written.now _ c.before.encoded2.given.1
+returns-2 : tie.Need-returns-in-Refused
+returns-2 c = encode_refused _ _ _ c.before.before.before.encode-encoded.ensures c.before.before.before.before.before.before.before.args.written.now _ c.in-Refused.is
 
 pub ergo_index_encode_undo_entry_spec : {M : Type 1} → statement M
 ergo_index_encode_undo_entry_spec =
