@@ -18,7 +18,6 @@ use Rattle.call_input.specs.declared.Place.{Place}
 use Rattle.call_input.specs.Place.{at_start, after_read}
 use Rattle.call_input.specs.Waiting.{waiting, Fed}
 use Rattle.call_input.proofs.ReadLaws.{clamped_within}
-use Rattle.call_runs.specs.Made.{made}
 use Rattle.call_runs.specs.Delivered.{Delivered, Open}
 use Rattle.call_runs.proofs.DeliveredLaws.{none_delivered, made_delivered, more_delivered, open_finished}
 use Rattle.call_session.specs.Session.{Front, Stands, Onward, Keeps, Makes, Ends}
