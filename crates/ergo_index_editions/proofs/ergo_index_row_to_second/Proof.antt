@@ -7,19 +7,19 @@ use borrow.Author.Rules.{rules}
 use Rattle.ergo_index_editions.proofs.ergo_index_row_to_second.Statement.{statement}
 use Rattle.ergo_index_editions.proofs.ergo_index_row_to_second.Tie as tie
 
-row_to_second_requires : tie.Need-row-to-second-requires
+row_to_second_requires : tie.Need-row_to_second-wrote-requires
 row_to_second_requires c κs = search rules
 
 moved_requires : tie.Need-moved-requires
 moved_requires c κs = search rules
 
-same_length : tie.Need-same-length
+same_length : tie.Need-shape_of-out
 same_length c = search rules
 
 returns : tie.Need-returns
 returns c =
     let s = c.before.before.before.before.before.before.before.before in
-    let e = rw (back w32 s.args.number s.ranges.number) at c.before.before.before.before.row_to_second.ensures in
+    let e = rw (back w32 s.args.number s.ranges.number) at c.before.before.before.before.row_to_second-wrote.ensures in
     c.moved.ensures _ ∙ write_told _ _ _ e s.args.written.now
 
 pub ergo_index_row_to_second_spec : {M : Type 1} → statement M

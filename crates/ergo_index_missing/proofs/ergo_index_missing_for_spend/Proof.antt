@@ -5,7 +5,7 @@ use borrow.Author.Rules.{rules}
 use Rattle.ergo_index_missing.proofs.ergo_index_missing_for_spend.Statement.{statement}
 use Rattle.ergo_index_missing.proofs.ergo_index_missing_for_spend.Tie as tie
 
-named_edition_requires : tie.Need-named-edition-requires
+named_edition_requires : tie.Need-named_edition-requires
 named_edition_requires c κs = search rules
 
 flip_requires : tie.Need-flip-requires

@@ -12,7 +12,7 @@ use borrow.Author.Rules.{rules}
 use Rattle.ergo_index_missing.proofs.flip.Statement.{statement}
 use Rattle.ergo_index_missing.proofs.flip.Tie as tie
 
-missing_for_flip_requires : tie.Need-missing-for-flip-requires
+missing_for_flip_requires : tie.Need-missing_for_flip-missing-requires
 missing_for_flip_requires c κs = search rules
 
 told_requires : tie.Need-told-requires
@@ -20,13 +20,13 @@ told_requires c κs =
     let s = c.before.before.before.before.before in
     let a = s.args in
     let E = edition_of a.edition in
-    numbered E Box _ _ a.spills s.ranges.spills (flip_reads_below E a.parent.now (counts_of a.len a.spills) (list_of a.staged_count a.staged_capacity) a.staged.now (list_of a.table_count a.table_capacity) a.table.now a.head.now a.direction a.target) _ (rw (back w32 a.spills s.ranges.spills, back w64 a.target s.ranges.target) at c.before.before.missing_for_flip.ensures)
+    numbered E Box _ _ a.spills s.ranges.spills (flip_reads_below E a.parent.now (counts_of a.len a.spills) (list_of a.staged_count a.staged_capacity) a.staged.now (list_of a.table_count a.table_capacity) a.table.now a.head.now a.direction a.target) _ (rw (back w32 a.spills s.ranges.spills, back w64 a.target s.ranges.target) at c.before.before.missing_for_flip-missing.ensures)
 
 returns : tie.Need-returns
 returns c =
     let s = c.before.before.before.before.before.before in
     let a = s.args in
-    c.told.ensures ∙ ap (missing_by Box a.parent.now a.number.now a.key.now) (rw (back w32 a.spills s.ranges.spills, back w64 a.target s.ranges.target) at c.before.before.before.missing_for_flip.ensures)
+    c.told.ensures ∙ ap (missing_by Box a.parent.now a.number.now a.key.now) (rw (back w32 a.spills s.ranges.spills, back w64 a.target s.ranges.target) at c.before.before.before.missing_for_flip-missing.ensures)
 
 pub flip_spec : {M : Type 1} → statement M
 flip_spec = tie.close (tie.spec missing_for_flip_requires told_requires returns)

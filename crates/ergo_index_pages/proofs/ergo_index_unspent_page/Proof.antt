@@ -5,10 +5,10 @@ use borrow.Author.Rules.{rules}
 use Rattle.ergo_index_pages.proofs.ergo_index_unspent_page.Statement.{statement}
 use Rattle.ergo_index_pages.proofs.ergo_index_unspent_page.Tie as tie
 
-ergo_index_unspent_page_in_edition_requires : tie.Need-ergo-index-unspent-page-in-edition-requires
+ergo_index_unspent_page_in_edition_requires : tie.Need-ergo_index_unspent_page_in_edition-requires
 ergo_index_unspent_page_in_edition_requires c κs = search rules
 
-same_length : tie.Need-same-length
+same_length : tie.Need-shape_of-page
 same_length c = search rules
 
 returns : tie.Need-returns

@@ -5,23 +5,23 @@ use borrow.Author.Rules.{rules}
 use Rattle.ergo_index_ranking.proofs.number_of.Statement.{statement}
 use Rattle.ergo_index_ranking.proofs.number_of.Tie as tie
 
-enum_told : tie.Need-enum-told
+enum_told : tie.Need-enum_told-1
 enum_told c = search rules
 
-enum_told_2 : tie.Need-enum-told-2
+enum_told_2 : tie.Need-enum_told-in-Equal
 enum_told_2 c = search rules
 
-enum_told_3 : tie.Need-enum-told-3
+enum_told_3 : tie.Need-enum_told-in-Greater
 enum_told_3 c = search rules
 
-returns : tie.Need-returns
-returns c = ap order_number (sym c.enum_told.given.1)
+returns : tie.Need-returns-in-Less
+returns c = ap order_number (sym c.in-Less.is)
 
-returns-2 : tie.Need-returns-2
-returns-2 c = ap order_number (sym c.enum_told2.given.1)
+returns-2 : tie.Need-returns-in-Equal
+returns-2 c = ap order_number (sym c.in-Equal.is)
 
-returns-3 : tie.Need-returns-3
-returns-3 c = ap order_number (sym c.enum_told3.given.1)
+returns-3 : tie.Need-returns-in-Greater
+returns-3 c = ap order_number (sym c.in-Greater.is)
 
 pub number_of_spec : {M : Type 1} → statement M
 number_of_spec =

@@ -7,24 +7,24 @@ use borrow.Author.Rules.{rules}
 use Rattle.ergo_index_ranking.proofs.told.Statement.{statement}
 use Rattle.ergo_index_ranking.proofs.told.Tie as tie
 
-enum_known_ranked : tie.Need-enum-known-ranked
+enum_known_ranked : tie.Need-enum_known-ranked
 enum_known_ranked c = search rules
 
-number_of_requires : tie.Need-number-of-requires
+number_of_requires : tie.Need-number_of-number-requires
 number_of_requires c κs = search rules
 
-enum_known_ranked_2 : tie.Need-enum-known-ranked-2
+enum_known_ranked_2 : tie.Need-enum_known-ranked-in-Refused-1
 enum_known_ranked_2 c = search rules
 
-returns : tie.Need-returns
+returns : tie.Need-returns-in-Ranks
 returns c =
-    let a = c.before.before.before.before.args in
-    told_ranks a.ranked a.order.now _ c.before.before.ranked.given.1 _ (back w32 c.number_of_lem.result (search rules) ∙ c.number_of_lem.ensures)
+    let a = c.before.before.args in
+    told_ranks a.ranked a.order.now _ c.before.in-Ranks.is _ (back w32 c.number_of-number.result (search rules) ∙ c.number_of-number.ensures)
 
-returns-2 : tie.Need-returns-2
+returns-2 : tie.Need-returns-in-Refused
 returns-2 c =
-    let a = c.before.before.before.args in
-    told_refused a.ranked a.order.now _ c.before.ranked2.given.1
+    let a = c.before.args in
+    told_refused a.ranked a.order.now _ c.in-Refused.is
 
 pub told_spec : {M : Type 1} → statement M
 told_spec =

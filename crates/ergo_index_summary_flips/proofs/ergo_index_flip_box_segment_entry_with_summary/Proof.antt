@@ -5,19 +5,19 @@ use borrow.Author.Rules.{rules}
 use Rattle.ergo_index_summary_flips.proofs.ergo_index_flip_box_segment_entry_with_summary.Statement.{statement}
 use Rattle.ergo_index_summary_flips.proofs.ergo_index_flip_box_segment_entry_with_summary.Tie as tie
 
-named_edition_requires : tie.Need-named-edition-requires
+named_edition_requires : tie.Need-named_edition-requires
 named_edition_requires c κs = search rules
 
 flip_requires : tie.Need-flip-requires
 flip_requires c κs = search rules
 
-same_length : tie.Need-same-length
+same_length : tie.Need-shape_of-head
 same_length c = search rules
 
-same_length_2 : tie.Need-same-length-2
+same_length_2 : tie.Need-shape_of-staged
 same_length_2 c = search rules
 
-same_length_3 : tie.Need-same-length-3
+same_length_3 : tie.Need-shape_of-summary
 same_length_3 c = search rules
 
 returns : tie.Need-returns

@@ -7,26 +7,26 @@ use borrow.Author.Rules.{rules}
 use Rattle.ergo_index_summary_flips.proofs.flip.Statement.{statement}
 use Rattle.ergo_index_summary_flips.proofs.flip.Tie as tie
 
-flip_entry_requires : tie.Need-flip-entry-requires
+flip_entry_requires : tie.Need-flip_entry-flipped-requires
 flip_entry_requires c κs = search rules
 
-flip_told_requires : tie.Need-flip-told-requires
+flip_told_requires : tie.Need-flip_told-requires
 flip_told_requires c κs = search rules
 
-same_length : tie.Need-same-length
+same_length : tie.Need-shape_of-head
 same_length c = search rules
 
-same_length_2 : tie.Need-same-length-2
+same_length_2 : tie.Need-shape_of-staged
 same_length_2 c = search rules
 
-same_length_3 : tie.Need-same-length-3
+same_length_3 : tie.Need-shape_of-summary
 same_length_3 c = search rules
 
 returns : tie.Need-returns
 returns c =
     let s = c.before.before.before.before.before.before.before.before.before.before.before.before.before.before.before in
     let a = s.args in
-    let e = rw (back w32 a.spills s.ranges.spills, back w64 a.target s.ranges.target) at c.before.before.before.before.before.before.before.flip_entry.ensures in
+    let e = rw (back w32 a.spills s.ranges.spills, back w64 a.target s.ranges.target) at c.before.before.before.before.before.before.before.flip_entry-flipped.ensures in
     told_beside (flip_export a.staged_count.now) _ _ _ e _ (c.flip_told.ensures _ _)
 
 pub flip_spec : {M : Type 1} → statement M

@@ -6,31 +6,31 @@ use borrow.Author.Rules.{rules}
 use Rattle.ergo_index_summary_moves.proofs.ergo_index_pop_box_entry_with_summary.Statement.{statement}
 use Rattle.ergo_index_summary_moves.proofs.ergo_index_pop_box_entry_with_summary.Tie as tie
 
-named_edition_requires : tie.Need-named-edition-requires
+named_edition_requires : tie.Need-named_edition-requires
 named_edition_requires c κs = search rules
 
-pop_entry_requires : tie.Need-pop-entry-requires
+pop_entry_requires : tie.Need-pop_entry-popped-requires
 pop_entry_requires c κs = search rules
 
-pop_told_requires : tie.Need-pop-told-requires
+pop_told_requires : tie.Need-pop_told-requires
 pop_told_requires c κs = search rules
 
-same_length : tie.Need-same-length
+same_length : tie.Need-shape_of-head
 same_length c = search rules
 
-same_length_2 : tie.Need-same-length-2
+same_length_2 : tie.Need-shape_of-staged
 same_length_2 c = search rules
 
-same_length_3 : tie.Need-same-length-3
+same_length_3 : tie.Need-shape_of-deleted
 same_length_3 c = search rules
 
-same_length_4 : tie.Need-same-length-4
+same_length_4 : tie.Need-shape_of-summary
 same_length_4 c = search rules
 
 returns : tie.Need-returns
 returns c =
     let a = c.before.before.before.before.before.before.before.before.before.before.before.before.before.before.before.before.before.before.before.before.before.before.before.before.before.before.before.args in
-    let e = rw (c.before.before.before.before.before.before.before.before.before.before.before.before.before.before.before.before.before.before.named_edition.ensures, back w32 a.spills.now (search (rules, c.before.before.before.before.before.before.before.before.before.before.before.before.before.before.before.before.before.before.before.before.before.t24.given))) at c.before.before.before.before.before.before.before.before.before.before.before.before.before.pop_entry.ensures in
+    let e = rw (c.before.before.before.before.before.before.before.before.before.before.before.before.before.before.before.before.before.before.named_edition.ensures, back w32 a.spills.now (search (rules, c.before.before.before.before.before.before.before.before.before.before.before.before.before.before.before.before.before.before.before.before.before.counts-1.given))) at c.before.before.before.before.before.before.before.before.before.before.before.before.before.pop_entry-popped.ensures in
     pop_beside a.number.now a.len.now a.spills.now a.staged_count.now a.deleted_count.now _ _ _ _ _ _ e _ _ _ _ _ _ c.pop_told.ensures
 
 pub ergo_index_pop_box_entry_with_summary_spec : {M : Type 1} → statement M
