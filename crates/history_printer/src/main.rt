@@ -8,7 +8,7 @@ ghost use Rattle.history_growth.specs.Listing.{histories, bytes_of};
 use index_types::Wrote;
 use short_histories::HISTORIES_LENGTH;
 use std::io;
-use std::io::{BufWriter, Write};
+use std::io::Write;
 
 fn wide(x: u8) -> usize
     ensures { result ≤ 255 }
@@ -66,11 +66,7 @@ fn print_histories<W: Write>(to: &mut W, list: &[u8], end: usize) -> io::Result<
 fn main(rt: HostRuntime) -> io::Result<()> {
     let mut out = [0u8; HISTORIES_LENGTH];
     match short_histories::list_histories(&mut out) {
-        Wrote::Next(end) => {
-            let mut to = BufWriter::new(rt.alloc(), rt.stdout())?;
-            print_histories(&mut to, &out, end)?;
-            to.flush()
-        }
+        Wrote::Next(end) => print_histories(&mut rt.stdout(), &out, end),
         Wrote::Refused(_) => rt.eprintln("history_printer: the output is too short (32)"),
     }
 }

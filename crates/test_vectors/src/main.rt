@@ -9,7 +9,7 @@ ghost use Rattle.std.specs.Prelude.{◌<◌, ◌≤◌, length, IfOk};
 use index_types::RowEdition;
 use segment_id::Kind;
 use std::io;
-use std::io::{BufWriter, Read, Write};
+use std::io::{Read, Write};
 use vector_balances::Change;
 use vector_calls::Call;
 use vector_codecs::{keys, prunes, reads, undos, writes};
@@ -130,7 +130,5 @@ fn read_full<R: Read>(from: &mut R, buf: &mut [u8]) -> io::Result<usize>
 fn main(rt: HostRuntime) -> io::Result<()> {
     let mut input = [0u8; 393216];
     let n = read_full(&mut rt.stdin(), &mut input)?;
-    let mut to = BufWriter::new(rt.alloc(), rt.stdout())?;
-    records(&mut to, &input[..n])?;
-    to.flush()
+    records(&mut rt.stdout(), &input[..n])
 }

@@ -9,7 +9,7 @@ ghost use Rattle.undo_entries.specs.Entry.{encoded_of, encoded, refused_with, de
 use refusal::Answer;
 
 // The state before a block: whether a header preceded it and which, and the numbers of transactions and boxes.
-#[derive(Drop)]
+#[derive(Clone, Copy)]
 pub struct UndoEntry {
     pub known: bool,
     pub header: [u8; 32],
@@ -24,7 +24,7 @@ pub enum Encoded {
 }
 
 // An answer, and the entry; a refusal gives the empty one.
-#[derive(Drop)]
+#[derive(Clone, Copy)]
 pub struct Decoded {
     pub answer: Answer,
     pub entry: UndoEntry,
