@@ -6,7 +6,7 @@ use balance::Balance;
 use refusal::Answer;
 
 // An address: its hash, whether it has a balance, the balance (all zero where it has none), how many transactions and boxes, and the spill counts.
-#[derive(Drop)]
+#[derive(Clone, Copy)]
 pub struct IndexedAddress {
     pub hash: [u8; 32],
     pub has_balance: bool,
@@ -18,7 +18,7 @@ pub struct IndexedAddress {
 }
 
 // What a reader answers; after a refusal the address is all zero.
-#[derive(Drop)]
+#[derive(Clone, Copy)]
 pub struct AddressRead {
     pub answer: Answer,
     pub address: IndexedAddress,

@@ -10,7 +10,7 @@ use refusal::Answer;
 use signed::Checked;
 
 // The id at place i is `ids[32 * i..32 * i + 32]`, its amount `amounts[i]`; the first `count` places are in use.
-#[derive(Drop)]
+#[derive(Clone, Copy)]
 pub struct Balance {
     pub ids: [u8; TOKEN_ID_BYTES],
     pub amounts: [i64; TOKEN_LIMIT],
@@ -19,7 +19,7 @@ pub struct Balance {
 }
 
 // A refusal comes with the balance as it was. The balance stands first: so an answer is written with two copies fewer.
-#[derive(Drop)]
+#[derive(Clone, Copy)]
 pub struct Outcome {
     pub balance: Balance,
     pub answer: Answer,

@@ -26,12 +26,7 @@ fn subtracted(held: Balance, nanos: i64, ids: &[u8], amounts: &[i64], count: usi
 pub fn add_box(held: &mut Balance, nanos: i64, ids: &[u8], amounts: &[i64], count: usize) -> Answer
     ensures { left result held.new ≡ add_box held.old nanos ids.now amounts.now count }
 {
-    let old = Balance {
-        ids: held.ids,
-        amounts: held.amounts,
-        count: held.count,
-        nanos: held.nanos,
-    };
+    let old = *held;
     let more = added(old, nanos, ids, amounts, count);
     *held = more.balance;
     more.answer
@@ -47,12 +42,7 @@ pub fn subtract_box(
 ) -> Answer
     ensures { left result held.new ≡ subtract_box held.old nanos ids.now amounts.now count }
 {
-    let old = Balance {
-        ids: held.ids,
-        amounts: held.amounts,
-        count: held.count,
-        nanos: held.nanos,
-    };
+    let old = *held;
     let rest = subtracted(old, nanos, ids, amounts, count);
     *held = rest.balance;
     rest.answer

@@ -24,7 +24,7 @@ fn change_held(
 ) -> Counted
     requires { (count ≤ token_limit) × (n * 32 ≤ length ids.now) × (n ≤ length amounts.now) }
     ensures { Kept result table.old sums.old table.new sums.new
-        (change_tokens adding ids.entry.now amounts.now 0 n (record { ids = table.old; amounts = sums.old; count = count })) }
+        (change_tokens adding ids.now amounts.now 0 n (record { ids = table.old; amounts = sums.old; count = count })) }
 {
     kept_tokens::change_kept(adding, table, sums, count, ids, amounts, n)
 }

@@ -29,10 +29,10 @@ fn change_tokens(
 ) -> Counted
     requires { (i + token_id_bytes ≤ length ids.old) × (a + token_limit ≤ length numbers.old) × (held ≤ token_limit)
         × (n * 32 ≤ length box_ids.now) × (n ≤ length box_amounts.now) }
-    ensures { left result ids.exit.now numbers.new
-        ≡ placed i a ids.entry.now numbers.old
+    ensures { left result ids.new numbers.new
+        ≡ placed i a ids.old numbers.old
         (change_tokens adding box_ids.now box_amounts.now 0 n
-        (record { ids = mid_of i token_id_bytes ids.entry.now; amounts = mid_of a token_limit numbers.old; count = held })) }
+        (record { ids = mid_of i token_id_bytes ids.old; amounts = mid_of a token_limit numbers.old; count = held })) }
 {
     let j = i + TOKEN_ID_BYTES;
     let e = a + TOKEN_LIMIT;

@@ -57,7 +57,7 @@ fn change_copies(
 ) -> Counted
     requires { (length table.old ≡ token_id_bytes) × (length sums.old ≡ token_limit) × (count ≤ token_limit) × (n * 32 ≤ length ids.now) × (n ≤ length amounts.now) }
     ensures { Kept result table.old sums.old table.new sums.new
-        (change_tokens adding ids.entry.now amounts.now 0 n (record { ids = table.old; amounts = sums.old; count = count })) }
+        (change_tokens adding ids.now amounts.now 0 n (record { ids = table.old; amounts = sums.old; count = count })) }
 {
     let mut new_table = [0u8; TOKEN_ID_BYTES];
     let mut new_sums = [0i64; TOKEN_LIMIT];
@@ -93,7 +93,7 @@ pub fn change_kept(
 ) -> Counted
     requires { (length table.old ≡ token_id_bytes) × (length sums.old ≡ token_limit) × (count ≤ token_limit) × (n * 32 ≤ length ids.now) × (n ≤ length amounts.now) }
     ensures { Kept result table.old sums.old table.new sums.new
-        (change_tokens adding ids.entry.now amounts.now 0 n (record { ids = table.old; amounts = sums.old; count = count })) }
+        (change_tokens adding ids.now amounts.now 0 n (record { ids = table.old; amounts = sums.old; count = count })) }
 {
     if none_refused(adding, sums, count, amounts, n) {
         token_changes::change_tokens(adding, table, sums, count, ids, amounts, n)

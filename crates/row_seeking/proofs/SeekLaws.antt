@@ -35,14 +35,14 @@ nope z = let e : ⊥ = omega arith in absurd e
 
 -- ---- the place of a row
 
-module _ (v : RowEdition) (kind : Kind) (parent staged : List ℕ) (m : ℕ) (table : List ℕ) (t number : ℕ) (key : List ℕ) (Named_by : key ≡ row_key parent kind (pos number))
+module _ (v : RowEdition) (kind : Kind) (parent staged : List ℕ) (m : ℕ) (table : List ℕ) (t number : ℕ) (key : List ℕ) (named_by : key ≡ row_key parent kind (pos number))
     (p : Place) (e : p ≡ locate_key (record_size v) key m staged t table) where
   abbrev at_place : Place → Missing
   at_place q = told (cond (is_missing q) (need number) nothing)
 
   by_place : (r : Missing) → r ≡ at_place p → r ≡ among (edition_of v) kind (sources parent staged m table t) (number ∷ [])
   unfolding place_at first_missing
-  by_place r q = q ∙ ap at_place (e ∙ ap (λ (k : List ℕ). locate_key (record_size v) k m staged t table) Named_by)
+  by_place r q = q ∙ ap at_place (e ∙ ap (λ (k : List ℕ). locate_key (record_size v) k m staged t table) named_by)
 
   pub asked_staged : (i : ℕ) → p ≡ place.Staged i → Nothing ≡ among (edition_of v) kind (sources parent staged m table t) (number ∷ [])
   asked_staged i d = by_place Nothing (rw d)

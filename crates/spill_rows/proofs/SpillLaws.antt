@@ -41,11 +41,11 @@ module _ (size : ℕ) (key staged : List ℕ) (m : ℕ) (table : List ℕ) (n : 
       by_found Nothing (At j) q d = let a : j ≡ i = cc in found_in key size n table i (At j) q (ap At a)
       by_found Nothing Nothing q d = let z : ◌≡◌ {A = ℕ} 0 1 = cc in absurd (omega arith)
 
-module _ (v : RowEdition) (kind : Kind) (parent staged : List ℕ) (m : ℕ) (table : List ℕ) (n number : ℕ) (key : List ℕ) (Named_by : key ≡ row_key parent kind (pos number))
+module _ (v : RowEdition) (kind : Kind) (parent staged : List ℕ) (m : ℕ) (table : List ℕ) (n number : ℕ) (key : List ℕ) (named_by : key ≡ row_key parent kind (pos number))
     (p : Place) (e : p ≡ locate_key (record_size v) key m staged n table) where
   place_is : place_at (edition_of v) kind (sources parent staged m table n) number ≡ p
   unfolding place_at
-  place_is = ap (λ (k : List ℕ). locate_key (record_size v) k m staged n table) (sym Named_by) ∙ sym e
+  place_is = ap (λ (k : List ℕ). locate_key (record_size v) k m staged n table) (sym named_by) ∙ sym e
 
   module _ (r : SpillRead) (out : List ℤ) where
     -- the row of a staged spill, or of a record of the table

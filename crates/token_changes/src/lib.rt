@@ -30,7 +30,7 @@ fn add_token(
     at: usize,
 ) -> Counted
     requires { (length table.old ≡ token_id_bytes) × (length sums.old ≡ token_limit) × (count ≤ token_limit) × (j * 32 + 32 ≤ length ids.now) × (at ≡ place_of (id_at ids.now j) table.old count) }
-    ensures { left_in result table.new sums.new ≡ add_token (record { ids = table.old; amounts = sums.old; count = count }) (id_at ids.entry.now j) amount }
+    ensures { left_in result table.new sums.new ≡ add_token (record { ids = table.old; amounts = sums.old; count = count }) (id_at ids.now j) amount }
 {
     if at < count {
         let old = sums[at];
@@ -61,7 +61,7 @@ fn subtract_token(
     at: usize,
 ) -> Counted
     requires { (length table.old ≡ token_id_bytes) × (length sums.old ≡ token_limit) × (count ≤ token_limit) × (j * 32 + 32 ≤ length ids.now) × (at ≡ place_of (id_at ids.now j) table.old count) }
-    ensures { left_in result table.new sums.new ≡ subtract_token (record { ids = table.old; amounts = sums.old; count = count }) (id_at ids.entry.now j) amount }
+    ensures { left_in result table.new sums.new ≡ subtract_token (record { ids = table.old; amounts = sums.old; count = count }) (id_at ids.now j) amount }
 {
     if at < count {
         let old = sums[at];
@@ -92,7 +92,7 @@ fn change_token(
     amount: i64,
 ) -> Counted
     requires { (length table.old ≡ token_id_bytes) × (length sums.old ≡ token_limit) × (count ≤ token_limit) × (j * 32 + 32 ≤ length ids.now) }
-    ensures { left_in result table.new sums.new ≡ change_token adding (record { ids = table.old; amounts = sums.old; count = count }) (id_at ids.entry.now j) amount }
+    ensures { left_in result table.new sums.new ≡ change_token adding (record { ids = table.old; amounts = sums.old; count = count }) (id_at ids.now j) amount }
 {
     let at = token_ids::find(table, count, ids, j);
     if adding {
@@ -113,7 +113,7 @@ pub fn change_tokens(
     n: usize,
 ) -> Counted
     requires { (length table.old ≡ token_id_bytes) × (length sums.old ≡ token_limit) × (count ≤ token_limit) × (n * 32 ≤ length ids.now) × (n ≤ length amounts.now) }
-    ensures { left_in result table.new sums.new ≡ change_tokens adding ids.entry.now amounts.now 0 n (record { ids = table.old; amounts = sums.old; count = count }) }
+    ensures { left_in result table.new sums.new ≡ change_tokens adding ids.now amounts.now 0 n (record { ids = table.old; amounts = sums.old; count = count }) }
 {
     let mut held = count;
     let mut j = 0;

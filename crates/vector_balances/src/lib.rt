@@ -19,7 +19,7 @@ pub enum Change {
 }
 
 // A balance, and the position behind it.
-#[derive(Drop)]
+#[derive(Clone, Copy)]
 pub struct Held {
     pub balance: Balance,
     pub next: usize,

@@ -71,29 +71,29 @@ onto_below sum scale b (Value v n) = ap (λ (x : ℕ). Value x n) (omega (arith,
 onto_below sum scale b (Refused r) = refl
 
 module _ (s : List ℕ) (i sum scale : ℕ) where
-  pub loop-cut : (f : ℕ) → length s ≤ i → onto sum scale (dec f (drop i s) i) ≡ Refused 1
+  pub loop_cut : (f : ℕ) → length s ≤ i → onto sum scale (dec f (drop i s) i) ≡ Refused 1
   unfolding dec
-  loop-cut f h = rw (drop_of_length-le s h)
+  loop_cut f h = rw (drop_of_length-le s h)
 
   module _ (b : ℕ) (h : i < length s) (e : b ≡ get_or s i 0) where
     cut : drop i s ≡ b ∷ drop (i + 1) s
     cut = rw (add-one i, e, drop-cons s i 0 h)
 
-    pub loop-last : (f : ℕ) → 0 < f → b < 128 → onto sum scale (dec f (drop i s) i) ≡ Value (sum + scale * b) (i + 1)
+    pub loop_last : (f : ℕ) → 0 < f → b < 128 → onto sum scale (dec f (drop i s) i) ≡ Value (sum + scale * b) (i + 1)
     unfolding dec
-    loop-last zero z k = absurd (omega arith)
-    loop-last (suc f) z k = rw (cut, lt-ltb b 128 k)
+    loop_last zero z k = absurd (omega arith)
+    loop_last (suc f) z k = rw (cut, lt-ltb b 128 k)
 
-    pub loop-more : (f : ℕ) → 0 < f → 128 ≤ b
+    pub loop_more : (f : ℕ) → 0 < f → 128 ≤ b
         → onto sum scale (dec f (drop i s) i) ≡ onto (sum + scale * (b % 128)) (scale * 128) (dec (f - 1) (drop (i + 1) s) (i + 1))
     unfolding dec
-    loop-more zero z k = absurd (omega arith)
-    loop-more (suc f) z k = rw (cut, le-ltb b 128 k, sub-one (suc f)) (onto_below sum scale b (dec f (drop (i + 1) s) (i + 1)))
+    loop_more zero z k = absurd (omega arith)
+    loop_more (suc f) z k = rw (cut, le-ltb b 128 k, sub-one (suc f)) (onto_below sum scale b (dec f (drop (i + 1) s) (i + 1)))
 
-    pub loop-tenth : (f : ℕ) → f ≡ 0 → b < 2 → onto sum scale (dec f (drop i s) i) ≡ Value (sum + scale * b) (i + 1)
+    pub loop_tenth : (f : ℕ) → f ≡ 0 → b < 2 → onto sum scale (dec f (drop i s) i) ≡ Value (sum + scale * b) (i + 1)
     unfolding dec
-    loop-tenth f z k = rw (z, cut, lt-ltb b 2 k)
+    loop_tenth f z k = rw (z, cut, lt-ltb b 2 k)
 
-    pub loop-over : (f : ℕ) → f ≡ 0 → 2 ≤ b → onto sum scale (dec f (drop i s) i) ≡ Refused 2
+    pub loop_over : (f : ℕ) → f ≡ 0 → 2 ≤ b → onto sum scale (dec f (drop i s) i) ≡ Refused 2
     unfolding dec
-    loop-over f z k = rw (z, cut, le-ltb b 2 k)
+    loop_over f z k = rw (z, cut, le-ltb b 2 k)

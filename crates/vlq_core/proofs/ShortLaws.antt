@@ -10,7 +10,7 @@ use borrow.Author.Tests.{ne_eqb}
 use Rattle.vlq_core.specs.declared.Got.TheVariants.{Value}
 use Rattle.vlq_core.specs.declared.Short.{Short}
 use Rattle.vlq_core.specs.Reading.{dec, read_any, padded, read_at, short_of}
-use Rattle.vlq_core.proofs.LoopLaws.{onto, onto_start, loop-last, loop-more}
+use Rattle.vlq_core.proofs.LoopLaws.{onto, onto_start, loop_last, loop_more}
 use Rattle.vlq_core.proofs.ReadLaws.{any_64, short_form, read_short}
 
 -- the bytes a, b, c, d from position `at` on; each but the last has its top bit set
@@ -23,28 +23,28 @@ module _ (s : List ℕ) (at : ℕ) (h : at + 4 ≤ length s) (a : ℕ) (ea : a �
   moved f sum scale i j e = ap (λ (k : ℕ). onto sum scale (dec f (drop k s) k)) e
 
   any_1 : a < 128 → Value a (at + 1) ≡ read_any 64 s at
-  any_1 k = ap (λ (x : ℕ). Value x (at + 1)) (omega arith) ∙ sym (loop-last s at 0 1 a (omega arith) ea 9 (omega arith) k) ∙ after_0
+  any_1 k = ap (λ (x : ℕ). Value x (at + 1)) (omega arith) ∙ sym (loop_last s at 0 1 a (omega arith) ea 9 (omega arith) k) ∙ after_0
 
   module _ (ka : 128 ≤ a) (b : ℕ) (eb : b ≡ get_or s (at + 1) 0) where
     after_1 : onto (0 + 1 * (a % 128)) (1 * 128) (dec 8 (drop (at + 1) s) (at + 1)) ≡ read_any 64 s at
-    after_1 = sym (loop-more s at 0 1 a (omega arith) ea 9 (omega arith) ka) ∙ after_0
+    after_1 = sym (loop_more s at 0 1 a (omega arith) ea 9 (omega arith) ka) ∙ after_0
 
     any_2 : b < 128 → Value (a % 128 + 128 * b) (at + 2) ≡ read_any 64 s at
-    any_2 k = ap₂ Value (omega arith) (omega arith) ∙ sym (loop-last s (at + 1) _ _ b (omega arith) eb 8 (omega arith) k) ∙ after_1
+    any_2 k = ap₂ Value (omega arith) (omega arith) ∙ sym (loop_last s (at + 1) _ _ b (omega arith) eb 8 (omega arith) k) ∙ after_1
 
     module _ (kb : 128 ≤ b) (c : ℕ) (ec : c ≡ get_or s (at + 2) 0) where
       after_2 : onto (0 + 1 * (a % 128) + 1 * 128 * (b % 128)) (1 * 128 * 128) (dec 7 (drop (at + 2) s) (at + 2)) ≡ read_any 64 s at
-      after_2 = moved 7 _ _ (at + 2) (at + 1 + 1) (omega arith) ∙ sym (loop-more s (at + 1) _ _ b (omega arith) eb 8 (omega arith) kb) ∙ after_1
+      after_2 = moved 7 _ _ (at + 2) (at + 1 + 1) (omega arith) ∙ sym (loop_more s (at + 1) _ _ b (omega arith) eb 8 (omega arith) kb) ∙ after_1
 
       any_3 : c < 128 → Value (a % 128 + 128 * (b % 128) + 16384 * c) (at + 3) ≡ read_any 64 s at
-      any_3 k = ap₂ Value (omega arith) (omega arith) ∙ sym (loop-last s (at + 2) _ _ c (omega arith) ec 7 (omega arith) k) ∙ after_2
+      any_3 k = ap₂ Value (omega arith) (omega arith) ∙ sym (loop_last s (at + 2) _ _ c (omega arith) ec 7 (omega arith) k) ∙ after_2
 
       module _ (kc : 128 ≤ c) (d : ℕ) (ed : d ≡ get_or s (at + 3) 0) where
         after_3 : onto (0 + 1 * (a % 128) + 1 * 128 * (b % 128) + 1 * 128 * 128 * (c % 128)) (1 * 128 * 128 * 128) (dec 6 (drop (at + 3) s) (at + 3)) ≡ read_any 64 s at
-        after_3 = moved 6 _ _ (at + 3) (at + 2 + 1) (omega arith) ∙ sym (loop-more s (at + 2) _ _ c (omega arith) ec 7 (omega arith) kc) ∙ after_2
+        after_3 = moved 6 _ _ (at + 3) (at + 2 + 1) (omega arith) ∙ sym (loop_more s (at + 2) _ _ c (omega arith) ec 7 (omega arith) kc) ∙ after_2
 
         any_4 : d < 128 → Value (a % 128 + 128 * (b % 128) + 16384 * (c % 128) + 2097152 * d) (at + 4) ≡ read_any 64 s at
-        any_4 k = ap₂ Value (omega arith) (omega arith) ∙ sym (loop-last s (at + 3) _ _ d (omega arith) ed 6 (omega arith) k) ∙ after_3
+        any_4 k = ap₂ Value (omega arith) (omega arith) ∙ sym (loop_last s (at + 3) _ _ d (omega arith) ed 6 (omega arith) k) ∙ after_3
 
 -- the same in the shortest form
 module _ (s : List ℕ) (at : ℕ) (h : at + 4 ≤ length s) (a : ℕ) (ea : a ≡ get_or s at 0) where

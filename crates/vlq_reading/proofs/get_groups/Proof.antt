@@ -2,7 +2,7 @@
 use mathlib.Core.Path.{◌≡◌, sym, ◌∙◌}
 use lib.ListN.{drop}
 use Rattle.vlq_core.specs.Reading.{dec}
-use Rattle.vlq_core.proofs.LoopLaws.{Scaled, scaled_start, scaled_step, fits_product, fits_sum, fits_scale, fits_last, onto, onto_start, loop-cut, loop-last, loop-more, loop-tenth, loop-over}
+use Rattle.vlq_core.proofs.LoopLaws.{Scaled, scaled_start, scaled_step, fits_product, fits_sum, fits_scale, fits_last, onto, onto_start, loop_cut, loop_last, loop_more, loop_tenth, loop_over}
 use borrow.Author.Rules.{rules}
 use native.Mathlib.Omega.{arith}
 use Rattle.vlq_reading.proofs.get_groups.Statement.{statement}
@@ -18,7 +18,7 @@ loop-holds : tie.Need-loop-more-init invariant_loop decreases_loop
 loop-holds c = (scaled_start, onto_start _)
 
 returns : tie.Need-returns-then-src-i invariant_loop decreases_loop
-returns c = let l = c.before.before.loop-more in sym (l.invariant.1 ∙ loop-cut _ _ _ _ _ c.if-src-i.true)
+returns c = let l = c.before.before.loop-more in sym (l.invariant.1 ∙ loop_cut _ _ _ _ _ c.if-src-i.true)
 
 shared_slice_read_wide : tie.Need-bounds-src-i invariant_loop decreases_loop
 shared_slice_read_wide c = search rules
@@ -36,7 +36,7 @@ add_t15 : tie.Need-overflow_add-result-then-b-lt128 invariant_loop decreases_loo
 add_t15 c = search rules
 
 returns-2 : tie.Need-returns-then-b-lt128 invariant_loop decreases_loop
-returns-2 c = let l = c.before.before.before.before.before.loop-more in sym (l.invariant.1 ∙ loop-last _ _ _ _ _ c.before.before.before.if-src-i.false c.before.wide-b.ensures _ c.before.before.before.before.loop-more-test.true c.if-b-lt128.true)
+returns-2 c = let l = c.before.before.before.before.before.loop-more in sym (l.invariant.1 ∙ loop_last _ _ _ _ _ c.before.before.before.if-src-i.false c.before.wide-b.ensures _ c.before.before.before.before.loop-more-test.true c.if-b-lt128.true)
 
 mul_sum : tie.Need-overflow_mul-sum invariant_loop decreases_loop
 mul_sum c = fits_product _ _ _ c.before.before.before.before.before.loop-more.invariant.0 _ c.before.before.before.before.loop-more-test.true (omega arith)
@@ -58,10 +58,10 @@ loop-less c = search rules
 
 loop-again : tie.Need-loop-more-preserved invariant_loop decreases_loop
 loop-again c = let l = c.before.before.before.before.before.loop-more in let t = c.before.before.before.before.loop-more-test.true in
-    (scaled_step _ _ _ l.invariant.0 _ t, l.invariant.1 ∙ loop-more _ _ _ _ _ c.before.before.before.if-src-i.false c.before.wide-b.ensures _ t c.if-b-lt128.false)
+    (scaled_step _ _ _ l.invariant.0 _ t, l.invariant.1 ∙ loop_more _ _ _ _ _ c.before.before.before.if-src-i.false c.before.wide-b.ensures _ t c.if-b-lt128.false)
 
 returns-3 : tie.Need-returns-then-src-i-2 invariant_loop decreases_loop
-returns-3 c = let l = c.before.before.loop-more in sym (l.invariant.1 ∙ loop-cut _ _ _ _ _ c.if-src-i-2.true)
+returns-3 c = let l = c.before.before.loop-more in sym (l.invariant.1 ∙ loop_cut _ _ _ _ _ c.if-src-i-2.true)
 
 shared_slice_read_wide_2 : tie.Need-bounds-src-i-2 invariant_loop decreases_loop
 shared_slice_read_wide_2 c = search rules
@@ -79,10 +79,10 @@ add_t24 : tie.Need-overflow_add-result-then-b-lt2-2 invariant_loop decreases_loo
 add_t24 c = search rules
 
 returns-4 : tie.Need-returns-then-b-lt2 invariant_loop decreases_loop
-returns-4 c = let l = c.before.before.before.before.before.loop-more in sym (l.invariant.1 ∙ loop-tenth _ _ _ _ _ c.before.before.before.if-src-i-2.false c.before.wide-b-2.ensures _ (omega arith) c.if-b-lt2.true)
+returns-4 c = let l = c.before.before.before.before.before.loop-more in sym (l.invariant.1 ∙ loop_tenth _ _ _ _ _ c.before.before.before.if-src-i-2.false c.before.wide-b-2.ensures _ (omega arith) c.if-b-lt2.true)
 
 returns-5 : tie.Need-returns invariant_loop decreases_loop
-returns-5 c = let l = c.before.before.before.before.before.loop-more in sym (l.invariant.1 ∙ loop-over _ _ _ _ _ c.before.before.before.if-src-i-2.false c.before.wide-b-2.ensures _ (omega arith) c.if-b-lt2.false)
+returns-5 c = let l = c.before.before.before.before.before.loop-more in sym (l.invariant.1 ∙ loop_over _ _ _ _ _ c.before.before.before.if-src-i-2.false c.before.wide-b-2.ensures _ (omega arith) c.if-b-lt2.false)
 
 pub get_groups_spec : {M : Type 1} → statement M
 get_groups_spec =
