@@ -13,8 +13,7 @@ use mir.Syntax.{w32, w64}
 use mir.Val.{SFits}
 use Rattle.stores.specs.Stores.{write}
 use Rattle.signed.specs.Sign.{is_negative}
-use Rattle.refusal.specs.declared.Answer.TheVariants.{Accepted}
-use Rattle.index_types.specs.declared.Wrote.TheVariants.{Next}
+use Rattle.std.specs.Prelude.{Ok}
 use Rattle.vlq_core.specs.Writing.{Written, put_bytes}
 use Rattle.vlq_core.proofs.UniqueLaws.{Bytes}
 use Rattle.segment_core.specs.Row.{row_bytes}
@@ -54,10 +53,10 @@ balance_back has bal = record_laws.kept_balance has bal.nanos (take (bal.count *
 module _ (hash : List ℕ) (has : Bool) (bal : Balance) (ts : List ℤ) (n : ℕ) (bs : List ℤ) (m : ℕ) (b t : ℤ) (out : List ℕ) (at : ℕ) where
   -- an accepted call gives back the hash, the flag, the balance, the lists and the spill counts, which are 0 or more
   pub round_trip : Typed hash bal ts bs b t → is_negative b ≡ false → is_negative t ≡ false
-      → (next : ℕ) → (write_address hash has bal.nanos bal.ids bal.amounts bal.count ts n bs m b t out at).answer ≡ Next next
+      → (next : ℕ) → (write_address hash has bal.nanos bal.ids bal.amounts bal.count ts n bs m b t out at).answer ≡ Ok next
       → (xs ys : List ℤ) → 512 ≤ length xs → 512 ≤ length ys
       → read_address (take (next - at) (drop at (write_address hash has bal.nanos bal.ids bal.amounts bal.count ts n bs m b t out at).out)) xs ys
-      ≡ loading (record { answer = Accepted; address = address_of hash has (balance_back has bal) (take n ts) (take m bs) b t })
+      ≡ loading (record { answer = Ok tt; address = address_of hash has (balance_back has bal) (take n ts) (take m bs) b t })
       (write 0 (padded (take n ts)) xs) (write 0 (padded (take m bs)) ys)
   unfolding write_address
   round_trip f p q next e xs ys i j =
@@ -92,14 +91,14 @@ module _ (hash : List ℕ) (has : Bool) (bal : Balance) (ts : List ℤ) (n : ℕ
 -- ---- what was read
 
 abbrev Accepts : List ℕ → List ℤ → List ℤ → Type 0
-Accepts s l m = (read_address s l m).answer.answer ≡ Accepted
+Accepts s l m = (read_address s l m).answer.answer ≡ Ok tt
 
 -- an accepted call has passed the tests of 25
 passed_on : (s : List ℕ) (l m : List ℤ) → Accepts s l m → (512 ≤ length l) × (512 ≤ length m) × (read_address s l m ≡ load_address s l m)
 unfolding read_address
 passed_on s l m e = by_tests (leb (length s) 15675) (leb 512 (length l)) (leb 512 (length m)) refl refl e
   where
-    by_tests : (p q r : Bool) → leb 512 (length l) ≡ q → leb 512 (length m) ≡ r → (cond (p && (q && r)) (load_address s l m) (loading (refused_with 25) l m)).answer.answer ≡ Accepted
+    by_tests : (p q r : Bool) → leb 512 (length l) ≡ q → leb 512 (length m) ≡ r → (cond (p && (q && r)) (load_address s l m) (loading (refused_with 25) l m)).answer.answer ≡ Ok tt
         → (512 ≤ length l) × (512 ≤ length m) × (cond (p && (q && r)) (load_address s l m) (loading (refused_with 25) l m) ≡ load_address s l m)
     by_tests true true true a b e = (leb-true 512 (length l) a, leb-true 512 (length m) b, refl)
     by_tests true true false a b e = let x : ◌≡◌ {A = ℕ} 0 1 = cc in absurd (omega arith)

@@ -12,8 +12,8 @@ use mir.Syntax.{w32, w64}
 use mir.Val.{SFits}
 use Rattle.vlq_core.specs.Zigzag.{zig}
 use Rattle.vlq_core.specs.Groups.{enc}
-use Rattle.vlq_core.specs.declared.Got.{Got}
-use Rattle.vlq_core.specs.declared.Got.TheVariants as got
+use Rattle.std.specs.Prelude.{Ok, Err}
+use Rattle.vlq_core.specs.Answers.{Got}
 use Rattle.vlq_core.specs.Reading.{read_at, signed_of}
 use Rattle.vlq_core.proofs.GroupLaws.{number_length}
 use Rattle.vlq_core.proofs.BackLaws.{signed_back}
@@ -98,12 +98,12 @@ tokens_back (z ∷ zs) ids k f s p q at e d =
 -- ---- the token count, and a balance
 
 count_back : (k : ℕ) → k ≤ 128 → (s p q : List ℕ) (at : ℕ) → s ≡ p ++ (enc (zig (pos k)) ++ q) → length p ≡ at → k * 33 ≤ length q
-    → count_at s at ≡ got.Value k (at + length (enc (zig (pos k))))
+    → count_at s at ≡ Ok (k, at + length (enc (zig (pos k))))
 unfolding count_at
 count_back k h s p q at e d room =
     let c : List ℕ = enc (zig (pos k)) in
-    let r : signed_of (count_of s) got.Refused (read_at 32 s at) ≡ count_of s (pos k) (at + length c)
-    = ap (λ (l : List ℕ). signed_of (count_of s) got.Refused (read_at 32 l at)) e ∙ signed_back (count_of s) got.Refused w32 (pos k) p q at d (omega arith) (record { sfits = omega arith }) in
+    let r : signed_of (count_of s) Err (read_at 32 s at) ≡ count_of s (pos k) (at + length c)
+    = ap (λ (l : List ℕ). signed_of (count_of s) Err (read_at 32 l at)) e ∙ signed_back (count_of s) Err w32 (pos k) p q at d (omega arith) (record { sfits = omega arith }) in
     let t : length s ≡ length p + (length c + length q) = ap length e ∙ length-append p (c ++ q) ∙ ap (λ (n : ℕ). length p + n) (length-append c q) in
     let g : k ≤ (length s - (at + length c)) / 33 = omega arith in
     r ∙ rw (le-ltb ((length s - (at + length c)) / 33) k g, le-ltb 128 k h)

@@ -10,27 +10,24 @@ use lib.ListN.{length, take, get_or, replicate, length-replicate}
 use lib.Seq.{sets}
 use borrow.Author.Tests.{lt-ltb, le-ltb, le-leb, lt-leb, ne_eqb}
 use Rattle.stores.proofs.PutLaws.{sets_front}
-use Rattle.vlq_core.specs.declared.Got.{Got}
-use Rattle.vlq_core.specs.declared.Got.TheVariants as got
-use Rattle.index_types.specs.declared.Long.TheVariants as long
+use Rattle.std.specs.Prelude.{Ok, Err}
+use Rattle.vlq_core.specs.Answers.{Got}
 use Rattle.vlq_core.specs.Reading.{read_at, signed_of, long_of}
 use Rattle.vlq_core.proofs.ReadLaws.{long_number, long_refused}
-use Rattle.segment_core.specs.declared.Part.{Part}
-use Rattle.segment_core.specs.declared.Part.TheVariants as part
+use Rattle.segment_core.specs.Answers.{Part}
 use Rattle.index_types.specs.declared.Loaded.{Loaded}
 use Rattle.index_types.specs.declared.Loaded.TheVariants as loaded
 use Rattle.segment_core.specs.Reading.{Seg, seg, no_seg, segment_at, ended}
 use Rattle.segment_core.specs.Loading as segment_loading
 use Rattle.segment_core.proofs.ListLaws.{drop_replicate}
-use Rattle.refusal.specs.declared.Answer.TheVariants.{Accepted}
 use Rattle.address_core.specs.declared.AddressRead.{AddressRead}
-use Rattle.address_core.specs.declared.Flagged.{Flagged}
-use Rattle.address_core.specs.declared.Flagged.TheVariants.{Held, Refused}
+use Rattle.address_core.specs.Answers.{Flagged}
 use Rattle.address_core.specs.Reading.{Tokens, tokens, no_tokens, tokens_at, tokens_from, count_at, Balanced, balanced, no_balance, with_nanos, balance_at, flagged_at}
 use Rattle.address_core.specs.Loading.{loading, balance_of, refused_with, load_segment, load_balance, load_address, read_address}
 use Rattle.address_core.specs.Internal.{TokensInto, BalanceInto}
 use Rattle.address_core.proofs.TokenLaws.{Counted, counted}
 use Rattle.address_core.proofs.CountLaws.{count_most}
+use Rattle.index_types.proofs.AnswerLaws.{pair_same, four_same}
 
 -- ---- a balance
 
@@ -38,46 +35,47 @@ module _ (s : List ℕ) (at : ℕ) (ids₀ : List ℕ) (zs₀ : List ℤ) (ids :
   tokens_behind : ℤ → ℕ → Balanced
   tokens_behind z n = with_nanos z (tokens_from s (count_at s n))
 
-  pub nanos_bad : (x : ℕ) → long_of (read_at 64 s at) ≡ long.Refused x → BalanceInto (balance_at s at) ids₀ zs₀ (Refused x) ids zs
+  pub nanos_bad : (x : ℕ) → long_of (read_at 64 s at) ≡ Err x → BalanceInto (balance_at s at) ids₀ zs₀ (Err x) ids zs
   unfolding balance_at tokens_behind
   nanos_bad x e = rw (long_refused tokens_behind no_balance (read_at 64 s at) x e) refl
 
-  module _ (z : ℤ) (p : ℕ) (e : long_of (read_at 64 s at) ≡ long.Number z p) (g : Got) (f : g ≡ count_at s p) where
+  module _ (z : ℤ) (p : ℕ) (e : long_of (read_at 64 s at) ≡ Ok (z, p)) (g : Got) (f : g ≡ count_at s p) where
     behind : balance_at s at ≡ with_nanos z (tokens_from s g)
     unfolding balance_at tokens_behind
     behind = long_number tokens_behind no_balance (read_at 64 s at) z p e ∙ ap (λ (h : Got). with_nanos z (tokens_from s h)) (sym f)
 
-    pub number_bad : (x : ℕ) → g ≡ got.Refused x → BalanceInto (balance_at s at) ids₀ zs₀ (Refused x) ids zs
+    pub number_bad : (x : ℕ) → g ≡ Err x → BalanceInto (balance_at s at) ids₀ zs₀ (Err x) ids zs
     number_bad x d = rw (behind, d) refl
 
     -- r is what the reader of the tokens answered, x what a local holds of the nanoErgs z
-    module _ (k n : ℕ) (d : g ≡ got.Value k n) (r : Part) (t : TokensInto k (tokens_at k s n) 0 ids₀ zs₀ r ids zs) where
-      pub tokens_refused : (x : ℕ) → r ≡ part.Refused x → BalanceInto (balance_at s at) ids₀ zs₀ (Refused x) ids zs
+    module _ (k n : ℕ) (d : g ≡ Ok (k, n)) (r : Part) (t : TokensInto k (tokens_at k s n) 0 ids₀ zs₀ r ids zs) where
+      pub tokens_refused : (x : ℕ) → r ≡ Err x → BalanceInto (balance_at s at) ids₀ zs₀ (Err x) ids zs
       tokens_refused x q = rw (behind, d) (by_tokens (tokens_at k s n) t)
         where
-          by_tokens : (ts : Tokens) → TokensInto k ts 0 ids₀ zs₀ r ids zs → BalanceInto (with_nanos z ts) ids₀ zs₀ (Refused x) ids zs
+          by_tokens : (ts : Tokens) → TokensInto k ts 0 ids₀ zs₀ r ids zs → BalanceInto (with_nanos z ts) ids₀ zs₀ (Err x) ids zs
           by_tokens (tokens is vs m) u = let y : ◌≡◌ {A = ℕ} 0 1 = cc in absurd (omega arith)
-          by_tokens (no_tokens y) u = let w : x ≡ y = cc in ap Refused w
+          by_tokens (no_tokens y) u = let w : x ≡ y = cc in ap Err w
 
-      pub tokens_listed : (x : ℤ) → x ≡ z → (j m : ℕ) → r ≡ part.Listed j m → BalanceInto (balance_at s at) ids₀ zs₀ (Held true x j m) ids zs
+      pub tokens_listed : (x : ℤ) → x ≡ z → (j m : ℕ) → r ≡ Ok (j, m) → BalanceInto (balance_at s at) ids₀ zs₀ (Ok (true, x, j, m)) ids zs
       tokens_listed x i j m q = rw (behind, d, i) (by_tokens (tokens_at k s n) (counted k s n) t)
         where
-          by_tokens : (ts : Tokens) → Counted k ts → TokensInto k ts 0 ids₀ zs₀ r ids zs → BalanceInto (with_nanos z ts) ids₀ zs₀ (Held true z j m) ids zs
+          by_tokens : (ts : Tokens) → Counted k ts → TokensInto k ts 0 ids₀ zs₀ r ids zs → BalanceInto (with_nanos z ts) ids₀ zs₀ (Ok (true, z, j, m)) ids zs
           by_tokens (tokens is vs o) w u =
-              let a : j ≡ k = cc in
-              let b : m ≡ o = cc in
+              let y = pair_same (sym q ∙ u.0) in
+              let a : j ≡ k = y.0 in
+              let b : m ≡ o = y.1 in
               (rw (a, b, w.0), u.1, u.2)
           by_tokens (no_tokens y) w u = let v : ◌≡◌ {A = ℕ} 0 1 = cc in absurd (omega arith)
 
 -- ---- the flag
 
 module _ (s : List ℕ) (at : ℕ) (ids₀ : List ℕ) (zs₀ : List ℤ) where
-  pub flag_cut : length s ≤ at → (ids : List ℕ) (zs : List ℤ) → BalanceInto (flagged_at s at) ids₀ zs₀ (Refused 1) ids zs
+  pub flag_cut : length s ≤ at → (ids : List ℕ) (zs : List ℤ) → BalanceInto (flagged_at s at) ids₀ zs₀ (Err 1) ids zs
   unfolding flagged_at
   flag_cut h ids zs = rw (le-ltb at (length s) h) refl
 
   module _ (h : at < length s) where
-    pub flag_0 : get_or s at 0 ≡ 0 → BalanceInto (flagged_at s at) ids₀ zs₀ (Held false (pos 0) 0 (at + 1)) ids₀ zs₀
+    pub flag_0 : get_or s at 0 ≡ 0 → BalanceInto (flagged_at s at) ids₀ zs₀ (Ok (false, pos 0, 0, at + 1)) ids₀ zs₀
     unfolding flagged_at
     flag_0 e = rw (lt-ltb at (length s) h, e) (refl, refl, refl)
 
@@ -85,7 +83,7 @@ module _ (s : List ℕ) (at : ℕ) (ids₀ : List ℕ) (zs₀ : List ℤ) where
     unfolding flagged_at
     flag_1 e r ids zs p = rw (lt-ltb at (length s) h, e) p
 
-    pub flag_7 : (get_or s at 0 ≡ 0 → ⊥) → (get_or s at 0 ≡ 1 → ⊥) → (ids : List ℕ) (zs : List ℤ) → BalanceInto (flagged_at s at) ids₀ zs₀ (Refused 7) ids zs
+    pub flag_7 : (get_or s at 0 ≡ 0 → ⊥) → (get_or s at 0 ≡ 1 → ⊥) → (ids : List ℕ) (zs : List ℤ) → BalanceInto (flagged_at s at) ids₀ zs₀ (Err 7) ids zs
     unfolding flagged_at
     flag_7 e f ids zs = rw (lt-ltb at (length s) h, ne_eqb (get_or s at 0) 0 e, ne_eqb (get_or s at 0) 1 f) refl
 
@@ -104,12 +102,12 @@ balance_fits s at = by_nanos (read_at 64 s at)
     by_tokens z k h (no_tokens r) c = tt
 
     by_count : (z : ℤ) (n : ℕ) (g : Got) → count_at s n ≡ g → Fits (with_nanos z (tokens_from s g))
-    by_count z n (got.Value k m) e = by_tokens z k (count_most s n k m e) (tokens_at k s m) (counted k s m)
-    by_count z n (got.Refused r) e = tt
+    by_count z n (Ok (k, m)) e = by_tokens z k (count_most s n k m e) (tokens_at k s m) (counted k s m)
+    by_count z n (Err r) e = tt
 
     by_nanos : (g : Got) → Fits (signed_of (λ z n. with_nanos z (tokens_from s (count_at s n))) no_balance g)
-    by_nanos (got.Value v n) = by_count _ n (count_at s n) refl
-    by_nanos (got.Refused r) = tt
+    by_nanos (Ok (v, n)) = by_count _ n (count_at s n) refl
+    by_nanos (Err r) = tt
 
 flagged_fits : (s : List ℕ) (at : ℕ) → Fits (flagged_at s at)
 unfolding flagged_at
@@ -135,13 +133,17 @@ padded : {A : Type 0} (m : ℕ) (a : A) (l : List A) → length l ≤ m → sets
 padded {A} m a l h = sets_front l (replicate m a) (rw length-replicate h) ∙ ap (λ (k : List A). l ++ k) (drop_replicate m (length l) a)
 
 module _ (s : List ℕ) (at : ℕ) (r : Flagged) (ids : List ℕ) (zs : List ℤ) (p : BalanceInto (flagged_at s at) (replicate 4096 0) (replicate 128 (pos 0)) r ids zs) where
-  pub found : (has : Bool) (nanos : ℤ) (count n : ℕ) → r ≡ Held has nanos count n → Found s at has nanos count n ids zs
+  pub found : (has : Bool) (nanos : ℤ) (count n : ℕ) → r ≡ Ok (has, nanos, count, n) → Found s at has nanos count n ids zs
   found has nanos count n e = by_answer (flagged_at s at) refl (flagged_fits s at) p
     where
       by_answer : (b : Balanced) → flagged_at s at ≡ b → Fits b → BalanceInto b (replicate 4096 0) (replicate 128 (pos 0)) r ids zs → Found s at has nanos count n ids zs
       by_answer (balanced has' nanos' is vs m) f g q =
+          let y = four_same (sym q.0 ∙ e) in
+          let y₀ : has' ≡ has = y.0 in
+          let y₁ : nanos' ≡ nanos = y.1 in
+          let y₃ : m ≡ n = y.3 in
           let a : balanced has' nanos' is vs m ≡ balanced has nanos is vs n = cc in
-          let b : count ≡ length vs = cc in
+          let b : count ≡ length vs = sym y.2 in
           record {
             keys = is;
             amounts = vs;
@@ -152,7 +154,7 @@ module _ (s : List ℕ) (at : ℕ) (r : Flagged) (ids : List ℕ) (zs : List ℤ
           }
       by_answer (no_balance x) f g q = let y : ◌≡◌ {A = ℕ} 0 1 = cc in absurd (omega arith)
 
-  pub not_found : (x : ℕ) → r ≡ Refused x → flagged_at s at ≡ no_balance x
+  pub not_found : (x : ℕ) → r ≡ Err x → flagged_at s at ≡ no_balance x
   not_found x e = by_answer (flagged_at s at) refl p
     where
       by_answer : (b : Balanced) → flagged_at s at ≡ b → BalanceInto b (replicate 4096 0) (replicate 128 (pos 0)) r ids zs → b ≡ no_balance x
@@ -164,7 +166,7 @@ module _ (s : List ℕ) (at : ℕ) (r : Flagged) (ids : List ℕ) (zs : List ℤ
 -- an accepted answer, its address given by what the locals of the reader hold
 abbrev pub answer_with : (hash : List ℕ) → Bool → (ids : List ℕ) → List ℤ → (count : ℕ) → (nanos : ℤ) → (txs boxes : ℕ) → (b t : ℤ) → AddressRead
 answer_with hash has ids zs count nanos j k b t = record {
-  answer = Accepted;
+  answer = Ok tt;
   address = record {
     hash = hash;
     has_balance = has;

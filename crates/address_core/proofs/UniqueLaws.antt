@@ -11,12 +11,11 @@ use lib.ListN.{length, take, drop, get_or, replicate, length-append}
 use lib.Seq.{take_all, take_at, drop_at, take-append_seam, drop-cons}
 use borrow.Author.Tests.{le-leb, leb-true, ltb-true, eqb-true}
 use Rattle.stores.specs.Stores.{write}
-use Rattle.refusal.specs.declared.Answer.{Answer}
-use Rattle.refusal.specs.declared.Answer.TheVariants.{Accepted, Refused}
+use Rattle.std.specs.Prelude.{Ok, Err}
+use Rattle.refusal.specs.Answers.{Answer}
 use Rattle.vlq_core.specs.Zigzag.{zig, zag}
 use Rattle.vlq_core.specs.Groups.{enc}
-use Rattle.vlq_core.specs.declared.Got.{Got}
-use Rattle.vlq_core.specs.declared.Got.TheVariants as got
+use Rattle.vlq_core.specs.Answers.{Got}
 use Rattle.vlq_core.specs.Reading.{read_at, signed_of}
 use Rattle.vlq_core.proofs.UniqueLaws.{Bytes}
 use Rattle.segment_core.specs.Row.{row_bytes}
@@ -54,8 +53,8 @@ module _ (s : List ℕ) (all : Bytes s) where
   token_span at = by_room (leb (at + 32) (length s))
     where
       by_number : (g : Got) → read_at 64 s (at + 32) ≡ g → TokenSpan at (signed_of (token (take 32 (drop at s))) no_token g)
-      by_number (got.Value v n) e = both s all at (at + 32) n (take 32 (drop at s)) (enc (zig (zag v))) (cut at 32) (number s all 64 (at + 32) v n e)
-      by_number (got.Refused r) e = tt
+      by_number (Ok (v, n)) e = both s all at (at + 32) n (take 32 (drop at s)) (enc (zig (zag v))) (cut at 32) (number s all 64 (at + 32) v n e)
+      by_number (Err r) e = tt
 
       by_room : (t : Bool) → TokenSpan at (cond t (signed_of (token (take 32 (drop at s))) no_token (read_at 64 s (at + 32))) (no_token 1))
       by_room true = by_number (read_at 64 s (at + 32)) refl
@@ -79,14 +78,14 @@ module _ (s : List ℕ) (all : Bytes s) where
       by_token (no_token r) w p rest = tt
 
   abbrev CountSpan : ℕ → Got → Type 0
-  CountSpan at (got.Value k n) = Span s all at n (enc (zig (pos k)))
-  CountSpan at (got.Refused r) = Unit {0}
+  CountSpan at (Ok (k, n)) = Span s all at n (enc (zig (pos k)))
+  CountSpan at (Err r) = Unit {0}
 
   count_span : (at : ℕ) → CountSpan at (count_at s at)
   unfolding count_at
   count_span at = by_answer (read_at 32 s at) refl
     where
-      by_tests : (p q : Bool) (k n : ℕ) → Span s all at n (enc (zig (pos k))) → CountSpan at (cond p (got.Refused 5) (cond q (got.Refused 24) (got.Value k n)))
+      by_tests : (p q : Bool) (k n : ℕ) → Span s all at n (enc (zig (pos k))) → CountSpan at (cond p (Err 5) (cond q (Err 24) (Ok (k, n))))
       by_tests true q k n x = tt
       by_tests false true k n x = tt
       by_tests false false k n x = x
@@ -95,9 +94,9 @@ module _ (s : List ℕ) (all : Bytes s) where
       by_sign (pos k) n x = by_tests (ltb ((length s - n) / 33) k) (ltb 128 k) k n x
       by_sign (negsuc k) n x = tt
 
-      by_answer : (g : Got) → read_at 32 s at ≡ g → CountSpan at (signed_of (count_of s) got.Refused g)
-      by_answer (got.Value v n) e = by_sign (zag v) n (number s all 32 at v n e)
-      by_answer (got.Refused r) e = tt
+      by_answer : (g : Got) → read_at 32 s at ≡ g → CountSpan at (signed_of (count_of s) Err g)
+      by_answer (Ok (v, n)) e = by_sign (zag v) n (number s all 32 at v n e)
+      by_answer (Err r) e = tt
 
   -- ---- a balance, and its flag
 
@@ -129,12 +128,12 @@ module _ (s : List ℕ) (all : Bytes s) where
       by_tokens z m k n p q h (no_tokens r) c x = tt
 
       by_count : (z : ℤ) (m : ℕ) → Span s all at m (enc (zig z)) → (g : Got) → count_at s m ≡ g → CountSpan m g → BalanceSpan at (with_nanos z (tokens_from s g))
-      by_count z m p (got.Value k n) e q = by_tokens z m k n p q (count_most s m k n e) (tokens_at k s n) (counted k s n) (tokens_span k n)
-      by_count z m p (got.Refused r) e q = tt
+      by_count z m p (Ok (k, n)) e q = by_tokens z m k n p q (count_most s m k n e) (tokens_at k s n) (counted k s n) (tokens_span k n)
+      by_count z m p (Err r) e q = tt
 
       by_nanos : (g : Got) → read_at 64 s at ≡ g → BalanceSpan at (signed_of (λ z n. with_nanos z (tokens_from s (count_at s n))) no_balance g)
-      by_nanos (got.Value v n) e = by_count (zag v) n (number s all 64 at v n e) (count_at s n) refl (count_span n)
-      by_nanos (got.Refused r) e = tt
+      by_nanos (Ok (v, n)) e = by_count (zag v) n (number s all 64 at v n e) (count_at s n) refl (count_span n)
+      by_nanos (Err r) e = tt
 
   abbrev pub FlaggedSpan : ℕ → Balanced → Type 0
   FlaggedSpan at (balanced has nanos ids zs n) = Held at n ids zs (flagged_bytes has nanos ids zs)
@@ -185,7 +184,7 @@ pub record Again (s : List ℕ) (w : AddressLoading) : Type 0 where
   pub taken : buffers_ok w.answer.address.txs (length w.txs) w.answer.address.boxes (length w.boxes) w.answer.address.balance.count ≡ true
 
 module _ (s : List ℕ) (all : Bytes s) (l m : List ℤ) (i : 512 ≤ length l) (j : 512 ≤ length m) where
-  pub again : (load_address s l m).answer.answer ≡ Accepted → Again s (load_address s l m)
+  pub again : (load_address s l m).answer.answer ≡ (Ok tt) → Again s (load_address s l m)
   unfolding load_address address_bytes buffers_ok
   again h = by_size (leb 32 (length s)) refl h
     where
@@ -197,7 +196,7 @@ module _ (s : List ℕ) (all : Bytes s) (l m : List ℤ) (i : 512 ≤ length l) 
           sym (take_all (length s - 0) s (omega arith)) ∙ p.is
 
       by_segment : (has : Bool) (nanos : ℤ) (ids : List ℕ) (zs : List ℤ) (n : ℕ) → Held s all 32 n ids zs (flagged_bytes has nanos ids zs) → (g : Seg) → LastSpan s all n g
-          → (load_segment (take 32 s) has (balance_of nanos ids zs) l m g).answer.answer ≡ Accepted → Again s (load_segment (take 32 s) has (balance_of nanos ids zs) l m g)
+          → (load_segment (take 32 s) has (balance_of nanos ids zs) l m g).answer.answer ≡ (Ok tt) → Again s (load_segment (take 32 s) has (balance_of nanos ids zs) l m g)
       by_segment has nanos ids zs n f (seg ts bs b t k) r h =
           let row : List ℕ = row_bytes ts bs b t in
           let ids' : List ℕ = ids ++ replicate (4096 - length ids) 0 in
@@ -212,11 +211,11 @@ module _ (s : List ℕ) (all : Bytes s) (l m : List ℤ) (i : 512 ≤ length l) 
           }
       by_segment has nanos ids zs n f (no_seg x) r h = let y : ◌≡◌ {A = ℕ} 0 1 = cc in absurd (omega arith)
 
-      by_balance : (b : Balanced) → FlaggedSpan s all 32 b → (load_balance s l m b).answer.answer ≡ Accepted → Again s (load_balance s l m b)
+      by_balance : (b : Balanced) → FlaggedSpan s all 32 b → (load_balance s l m b).answer.answer ≡ (Ok tt) → Again s (load_balance s l m b)
       by_balance (balanced has nanos ids zs n) f h = by_segment has nanos ids zs n f (ended true (length s) (segment_at s n)) (last_span s all n) h
       by_balance (no_balance x) f h = let y : ◌≡◌ {A = ℕ} 0 1 = cc in absurd (omega arith)
 
-      by_size : (x : Bool) → leb 32 (length s) ≡ x → (cond x (load_balance s l m (flagged_at s 32)) (loading (refused_with 1) l m)).answer.answer ≡ Accepted
+      by_size : (x : Bool) → leb 32 (length s) ≡ x → (cond x (load_balance s l m (flagged_at s 32)) (loading (refused_with 1) l m)).answer.answer ≡ Ok tt
           → Again s (cond x (load_balance s l m (flagged_at s 32)) (loading (refused_with 1) l m))
       by_size true e h = by_balance (flagged_at s 32) (flagged_span s all 32) h
       by_size false e h = let y : ◌≡◌ {A = ℕ} 0 1 = cc in absurd (omega arith)

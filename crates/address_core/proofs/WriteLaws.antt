@@ -8,7 +8,7 @@ use lib.Dec.{leb}
 use lib.IntN.{ℤ}
 use lib.ListN.{length, take}
 use borrow.Author.Tests.{leb-true}
-use Rattle.index_types.specs.declared.Wrote.TheVariants.{Next, Refused}
+use Rattle.std.specs.Prelude.{Ok, Err}
 use Rattle.vlq_core.specs.Writing.{written, put_bytes}
 use Rattle.segment_core.specs.Row.{row_bytes}
 use Rattle.segment.specs.Calls.{held}
@@ -46,7 +46,7 @@ module _ (n len m len' count : ℕ) where
       by_tests false q t a b c e = let x : ◌≡◌ {A = ℕ} 0 1 = cc in absurd (omega arith)
 
 module _ (hash : List ℕ) (has : Bool) (nanos : ℤ) (ids : List ℕ) (amounts : List ℤ) (k : ℕ) (ts : List ℤ) (n : ℕ) (bs : List ℤ) (m : ℕ) (b t : ℤ) (l : List ℕ) (at : ℕ) where
-  pub write_25 : buffers_ok n (length ts) m (length bs) k ≡ false → written (Refused 25) l ≡ write_address hash has nanos ids amounts k ts n bs m b t l at
+  pub write_25 : buffers_ok n (length ts) m (length bs) k ≡ false → written (Err 25) l ≡ write_address hash has nanos ids amounts k ts n bs m b t l at
   unfolding write_address
   write_25 h = rw h
 
@@ -56,11 +56,11 @@ module _ (hash : List ℕ) (has : Bool) (nanos : ℤ) (ids : List ℕ) (amounts 
   write_on h = rw h
 
   -- what was accepted has passed the tests of 25
-  pub write_passed : (next : ℕ) → (write_address hash has nanos ids amounts k ts n bs m b t l at).answer ≡ Next next → Passed n (length ts) m (length bs) k
+  pub write_passed : (next : ℕ) → (write_address hash has nanos ids amounts k ts n bs m b t l at).answer ≡ Ok next → Passed n (length ts) m (length bs) k
   unfolding write_address
   write_passed next e = by_test (buffers_ok n (length ts) m (length bs) k) refl e
     where
-      by_test : (p : Bool) → buffers_ok n (length ts) m (length bs) k ≡ p → (cond p (put_bytes (address_bytes hash has nanos ids (take k amounts) (row_bytes (take n ts) (take m bs) b t)) l at) (written (Refused 25) l)).answer ≡ Next next → Passed n (length ts) m (length bs) k
+      by_test : (p : Bool) → buffers_ok n (length ts) m (length bs) k ≡ p → (cond p (put_bytes (address_bytes hash has nanos ids (take k amounts) (row_bytes (take n ts) (take m bs) b t)) l at) (written (Err 25) l)).answer ≡ Ok next → Passed n (length ts) m (length bs) k
       by_test true h e = passed n (length ts) m (length bs) k h
       by_test false h e = let x : ◌≡◌ {A = ℕ} 0 1 = cc in absurd (omega arith)
 

@@ -4,3 +4,4 @@ pub mod Writing
 pub mod Reading
 pub mod Loading
 pub mod Internal
+pub mod Answers

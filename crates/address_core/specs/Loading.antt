@@ -1,12 +1,11 @@
 -- What the reader of an address record answers and leaves in the borrowed lists (document 01): "a list put into a head or lent list is followed by zeros
 -- to its capacity"; "Bytes past a capacity .. stay"; "A refusal returns its number only and changes nothing."
 -- 25 comes first: a record above 15,675 bytes, a borrowed list shorter than 512.
-use Rattle.std.specs.Prelude.{ℕ, ◌-◌, Bool, true, false, cond, ◌&&◌, List, [], ◌++◌, leb, ℤ, pos, length, take, replicate}
+use Rattle.std.specs.Prelude.{ℕ, ◌-◌, Bool, true, false, cond, ◌&&◌, List, [], ◌++◌, leb, ℤ, pos, length, take, replicate, Ok, Err}
 use Rattle.index_types.specs.Limits.{segment_threshold, token_limit, token_id_bytes}
 use Rattle.stores.specs.Stores.{write}
 use Rattle.segment_core.specs.Reading.{Seg, seg, no_seg, segment_at, ended}
 use Rattle.segment_core.specs.Loading.{padded}
-use Rattle.refusal.specs.declared.Answer.TheVariants.{Accepted, Refused}
 use Rattle.balance.specs.declared.Balance.{Balance}
 use Rattle.address_core.specs.declared.IndexedAddress.{IndexedAddress}
 use Rattle.address_core.specs.declared.AddressRead.{AddressRead}
@@ -35,11 +34,11 @@ address_of h has bal ts bs b t =
 -- the answer of a refusal; its address is all zero
 abbrev pub refused_with : ℕ → AddressRead
 refused_with r =
-    record { answer = Refused r; address = address_of (replicate 32 0) false (balance_of (pos 0) [] []) [] [] (pos 0) (pos 0) }
+    record { answer = Err r; address = address_of (replicate 32 0) false (balance_of (pos 0) [] []) [] [] (pos 0) (pos 0) }
 
 -- the segment behind the balance, put into the lists l and m
 abbrev pub load_segment : List ℕ → Bool → Balance → List ℤ → List ℤ → Seg → AddressLoading
-load_segment h has bal l m (seg ts bs b t n) = loading (record { answer = Accepted; address = address_of h has bal ts bs b t }) (write 0 (padded ts) l) (write 0 (padded bs) m)
+load_segment h has bal l m (seg ts bs b t n) = loading (record { answer = Ok tt; address = address_of h has bal ts bs b t }) (write 0 (padded ts) l) (write 0 (padded bs) m)
 load_segment h has bal l m (no_seg r) = loading (refused_with r) l m
 
 abbrev pub load_balance : List ℕ → List ℤ → List ℤ → Balanced → AddressLoading

@@ -2,10 +2,9 @@
 -- bytes left, rounded down), 24. A read record must end its row (8, added)."
 -- Refusals: 1 bytes end inside a field; 2 as a coded number; 3 negative count; 5 count above a 33rd of the bytes left; 24 above 128 tokens; 7 flag not 00 or 01;
 -- then those of the segment.
-use Rattle.std.specs.Prelude.{ℕ, zero, suc, ◌+◌, ◌-◌, ◌/◌, Bool, true, false, cond, List, [], ◌∷◌, ◌++◌, leb, ltb, eqb, ℤ, pos, negsuc, length, take, drop, get_or}
+use Rattle.std.specs.Prelude.{ℕ, zero, suc, ◌+◌, ◌-◌, ◌/◌, Bool, true, false, cond, List, [], ◌∷◌, ◌++◌, leb, ltb, eqb, ℤ, pos, negsuc, length, take, drop, get_or, Ok, Err}
 use Rattle.index_types.specs.Limits.{token_limit}
-use Rattle.vlq_core.specs.declared.Got.{Got}
-use Rattle.vlq_core.specs.declared.Got.TheVariants.{Value, Refused}
+use Rattle.vlq_core.specs.Answers.{Got}
 use Rattle.vlq_core.specs.Reading.{read_at, signed_of}
 
 -- ---- a token: its id, its amount and the position after them; or the refusal
@@ -40,15 +39,15 @@ tokens_at (suc k) s at = token_then (λ id z n. cons_token id z (tokens_at k s n
 -- ---- the token count: 3, then 5, which counts the bytes of s behind the count, then 24
 
 abbrev pub count_of : List ℕ → ℤ → ℕ → Got
-count_of s (pos k) n = cond (ltb ((length s - n) / 33) k) (Refused 5) (cond (ltb token_limit k) (Refused 24) (Value k n))
-count_of s (negsuc k) n = Refused 3
+count_of s (pos k) n = cond (ltb ((length s - n) / 33) k) (Err 5) (cond (ltb token_limit k) (Err 24) (Ok (k, n)))
+count_of s (negsuc k) n = Err 3
 
 unfoldable pub count_at : List ℕ → ℕ → Got
-count_at s at = signed_of (count_of s) Refused (read_at 32 s at)
+count_at s at = signed_of (count_of s) Err (read_at 32 s at)
 
 abbrev pub tokens_from : List ℕ → Got → Tokens
-tokens_from s (Value k n) = tokens_at k s n
-tokens_from s (Refused r) = no_tokens r
+tokens_from s (Ok (k, n)) = tokens_at k s n
+tokens_from s (Err r) = no_tokens r
 
 -- ---- the flag and the balance: whether there is one, nanoErgs, ids, amounts and the position after it; or the refusal
 

@@ -1,8 +1,7 @@
 -- Writing an address record (document 01, "Where a call is turned back"): 25 for a list above 512 or above what is borrowed and for a balance count above 128,
 -- then 32 where the output is too short.
-use Rattle.std.specs.Prelude.{ℕ, Bool, cond, ◌&&◌, List, leb, ℤ, length, take}
+use Rattle.std.specs.Prelude.{ℕ, Bool, cond, ◌&&◌, List, leb, ℤ, length, take, Err}
 use Rattle.index_types.specs.Limits.{token_limit}
-use Rattle.index_types.specs.declared.Wrote.TheVariants.{Refused}
 use Rattle.vlq_core.specs.Writing.{Written, written, put_bytes}
 use Rattle.segment_core.specs.Row.{row_bytes}
 use Rattle.segment.specs.Calls.{held}
@@ -18,4 +17,4 @@ unfoldable pub write_address : (hash : List ℕ) (has : Bool) (nanos : ℤ) (ids
 write_address hash has nanos ids amounts k ts n bs m b t l at =
     cond (buffers_ok n (length ts) m (length bs) k)
     (put_bytes (address_bytes hash has nanos ids (take k amounts) (row_bytes (take n ts) (take m bs) b t)) l at)
-    (written (Refused 25) l)
+    (written (Err 25) l)

@@ -25,8 +25,4 @@ pub struct AddressRead {
 }
 
 // Whether there is a balance, its nanoErgs and token count, and the position after it; or the refusal code.
-#[derive(Clone, Copy)]
-pub enum Flagged {
-    Held(bool, i64, usize, usize),
-    Refused(u8),
-}
+pub type Flagged = Result<(bool, i64, usize, usize), u8>;

@@ -17,8 +17,8 @@ use Rattle.records.proofs.CheckLaws.{bounds_test, bounds_of}
 use Rattle.buffer_core.specs.Edition.{record_size, row_limit_of}
 use Rattle.buffer_core.specs.Spills.{head_ok}
 use Rattle.balance_laws.specs.Calls.{tokens_from}
-use Rattle.spill_rows.specs.declared.Read.{Read}
-use Rattle.spill_rows.specs.declared.Read.TheVariants.{Good, Faulty}
+use Rattle.std.specs.Prelude.{Ok, Err}
+use Rattle.spill_rows.specs.Answers.{Read}
 use Rattle.index_types.specs.declared.Order.{Order}
 use Rattle.index_types.specs.declared.Order.TheVariants.{Less, Equal, Greater}
 use Rattle.address_order.specs.Order.{or_else, of_signed, of_lists, of_tokens, ascending, of_held}
@@ -54,10 +54,10 @@ module _ (v : RowEdition) (c : AddressCounts) (boxes txs : List ℤ) (staged tab
     unfolding address_ok
     ok_table k r l = rw (e, sym f ∙ g, sym h ∙ i, sym j ∙ k) l
 
-pub fault_first : (code : ℕ) (x y : Read) → Faulty code ≡ x → Faulty code ≡ first_fault x y
+pub fault_first : (code : ℕ) (x y : Read) → Err code ≡ x → Err code ≡ first_fault x y
 fault_first code x y e = ap (λ u. first_fault u y) e
 
-pub fault_second : (x y r : Read) → Good ≡ x → r ≡ y → r ≡ first_fault x y
+pub fault_second : (x y r : Read) → (Ok tt) ≡ x → r ≡ y → r ≡ first_fault x y
 fault_second x y r e q = q ∙ ap (λ u. first_fault u y) e
 
 module _ (h : Bool) (m : ℤ) (ids : List ℕ) (amounts : List ℤ) (n : ℕ) (h' : Bool) (m' : ℤ) (ids' : List ℕ) (amounts' : List ℤ) (n' : ℕ) where

@@ -1,7 +1,7 @@
 -- How two addresses rank (document 02, U14). An address is borrowed with its own staged spills and table: "A negative count or a row that a pop would refuse
 -- gets the pop's number, box side first, spill 0 up, the first address read wholly before the second. Turned away: 41 when a token id stands twice in either
 -- balance, tested after 25."
-use Rattle.std.specs.Prelude.{ℕ, Bool, cond, not, ◌&&◌, ◌||◌, List, leb, ℤ, take}
+use Rattle.std.specs.Prelude.{ℕ, Bool, cond, not, ◌&&◌, ◌||◌, List, leb, ℤ, take, Ok, Err}
 use Rattle.index_types.specs.Limits.{token_limit}
 use Rattle.index_types.specs.declared.RowEdition.{RowEdition}
 use Rattle.records.specs.Records.{keys}
@@ -14,8 +14,7 @@ use Rattle.balance_laws.specs.Calls.{tokens_from}
 use Rattle.address_order.specs.Order.{Held, none, some, Account, of_accounts}
 use Rattle.side_order.specs.Side.{side_of, numbers_in}
 use Rattle.index_types.specs.declared.AddressCounts.{AddressCounts}
-use Rattle.index_types.specs.declared.Ranked.{Ranked}
-use Rattle.index_types.specs.declared.Ranked.TheVariants.{Ranks, Refused}
+use Rattle.index_types.specs.Answers.{Ranked}
 
 -- an address as it is borrowed
 pub record Address : Type 0 where
@@ -66,7 +65,7 @@ account_in a = record { hash = a.hash; held = held_in a; boxes = numbers_in (box
 
 -- a side's refusal, or on
 abbrev pub unless_bad : RowRead → Ranked → Ranked
-unless_bad (bad code) rest = Refused code
+unless_bad (bad code) rest = Err code
 unless_bad (good zs) rest = rest
 
 abbrev pub passes : Address → Bool
@@ -74,7 +73,7 @@ passes a = address_ok a.edition a.counts a.boxes a.txs a.staged a.table
 
 -- "the first address read wholly before the second"
 unfoldable pub read_and_rank : Address → Address → Ranked
-read_and_rank a b = unless_bad (box_side a) (unless_bad (tx_side a) (unless_bad (box_side b) (unless_bad (tx_side b) (Ranks (of_accounts (account_in a) (account_in b))))))
+read_and_rank a b = unless_bad (box_side a) (unless_bad (tx_side a) (unless_bad (box_side b) (unless_bad (tx_side b) (Ok (of_accounts (account_in a) (account_in b))))))
 
 unfoldable pub rank_of : Address → Address → Ranked
-rank_of a b = cond (passes a && passes b) (cond (id_twice a.counts a.ids || id_twice b.counts b.ids) (Refused 41) (read_and_rank a b)) (Refused 25)
+rank_of a b = cond (passes a && passes b) (cond (id_twice a.counts a.ids || id_twice b.counts b.ids) (Err 41) (read_and_rank a b)) (Err 25)

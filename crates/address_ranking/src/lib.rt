@@ -95,20 +95,18 @@ pub fn check_address<'a>(
         table_count,
         hints,
     );
-    match boxes {
-        Read::Faulty(code) => Read::Faulty(code),
-        Read::Good => side_order::check_side(
-            edition,
-            Kind::Tx,
-            hash,
-            tx_spills,
-            staged,
-            staged_count,
-            table,
-            table_count,
-            hints,
-        ),
-    }
+    boxes?;
+    side_order::check_side(
+        edition,
+        Kind::Tx,
+        hash,
+        tx_spills,
+        staged,
+        staged_count,
+        table,
+        table_count,
+        hints,
+    )
 }
 
 // How two balances compare: none before one, then nanoErgs, then the tokens.

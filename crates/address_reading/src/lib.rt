@@ -10,8 +10,7 @@ ghost use Rattle.address_core.specs.Internal.{TokenInto, TokensInto, BalanceInto
 
 use address_core::{AddressRead, Flagged, IndexedAddress};
 use balance::Balance;
-use index_types::{Int, Loaded, Long, TOKEN_ID_BYTES, TOKEN_LIMIT};
-use refusal::Answer;
+use index_types::{Loaded, TOKEN_ID_BYTES, TOKEN_LIMIT};
 use segment_core::Part;
 use vlq_core::Got;
 
@@ -21,16 +20,16 @@ fn read_token(row: &[u8], at: usize, place: usize, ids: &mut [u8], amounts: &mut
     ensures { TokenInto (token_at row.now at) place ids.old amounts.old result ids.new amounts.new }
 {
     if !vlq_core::has_room(row.len(), at, 32) {
-        return Part::Refused(refusal::BYTES_END);
+        return Err(refusal::BYTES_END);
     }
     let end = at + 32;
     match vlq_reading::get_i64(row, end) {
-        Long::Number(z, next) => {
+        Ok((z, next)) => {
             stores::put_bytes(&row[at..end], ids, place * 32);
             amounts[place] = z;
-            Part::Listed(1, next)
+            Ok((1, next))
         }
-        Long::Refused(code) => Part::Refused(code),
+        Err(code) => Err(code),
     }
 }
 
@@ -40,19 +39,17 @@ fn read_tokens(row: &[u8], at: usize, k: usize, ids: &mut [u8], amounts: &mut [i
     ensures { TokensInto k (tokens_at k row.now at) 0 ids.old amounts.old result ids.new amounts.new }
 {
     let mut next = at;
-    let mut i = 0;
-    while i < k {
+    for i in 0..k {
         match read_token(row, next, i, ids, amounts) {
-            Part::Listed(_, n) => {
+            Ok((_, n)) => {
                 next = n;
             }
-            Part::Refused(code) => {
-                return Part::Refused(code);
+            Err(code) => {
+                return Err(code);
             }
         }
-        i = i + 1;
     }
-    Part::Listed(k, next)
+    Ok((k, next))
 }
 
 // The token count at a position, checked: not negative, within a 33rd of the bytes left, within 128.
@@ -60,20 +57,20 @@ fn read_count(row: &[u8], at: usize) -> Got
     ensures { result ≡ count_at row.now at }
 {
     match vlq_reading::get_i32(row, at) {
-        Int::Number(n, next) => {
+        Ok((n, next)) => {
             if signed::is_negative_i32(n) {
-                return Got::Refused(refusal::NEGATIVE_LENGTH);
+                return Err(refusal::NEGATIVE_LENGTH);
             }
             let k = signed::usize_from_i32(n);
             if (row.len() - next) / 33 < k {
-                return Got::Refused(refusal::LENGTH_ABOVE_BYTES_LEFT);
+                return Err(refusal::LENGTH_ABOVE_BYTES_LEFT);
             }
             if TOKEN_LIMIT < k {
-                return Got::Refused(refusal::TOO_MANY_TOKENS);
+                return Err(refusal::TOO_MANY_TOKENS);
             }
-            Got::Value(k as u64, next)
+            Ok((k as u64, next))
         }
-        Int::Refused(code) => Got::Refused(code),
+        Err(code) => Err(code),
     }
 }
 
@@ -82,16 +79,10 @@ fn read_balance(row: &[u8], at: usize, ids: &mut [u8], amounts: &mut [i64]) -> F
     requires { (token_id_bytes ≤ length ids.old) × (token_limit ≤ length amounts.old) }
     ensures { BalanceInto (balance_at row.now at) ids.old amounts.old result ids.new amounts.new }
 {
-    match vlq_reading::get_i64(row, at) {
-        Long::Number(nanos, p) => match read_count(row, p) {
-            Got::Value(k, n) => match read_tokens(row, n, k as usize, ids, amounts) {
-                Part::Listed(count, next) => Flagged::Held(true, nanos, count, next),
-                Part::Refused(code) => Flagged::Refused(code),
-            },
-            Got::Refused(code) => Flagged::Refused(code),
-        },
-        Long::Refused(code) => Flagged::Refused(code),
-    }
+    let (nanos, p) = vlq_reading::get_i64(row, at)?;
+    let (k, n) = read_count(row, p)?;
+    let (count, next) = read_tokens(row, n, k as usize, ids, amounts)?;
+    Ok((true, nanos, count, next))
 }
 
 // The flag at a position, and the balance behind it if it is set.
@@ -100,16 +91,16 @@ fn read_flagged(row: &[u8], at: usize, ids: &mut [u8], amounts: &mut [i64]) -> F
     ensures { BalanceInto (flagged_at row.now at) ids.old amounts.old result ids.new amounts.new }
 {
     if row.len() <= at {
-        return Flagged::Refused(refusal::BYTES_END);
+        return Err(refusal::BYTES_END);
     }
     let flag = row[at];
     if flag == 0 {
-        return Flagged::Held(false, 0, 0, at + 1);
+        return Ok((false, 0, 0, at + 1));
     }
     if flag == 1 {
         return read_balance(row, at + 1, ids, amounts);
     }
-    Flagged::Refused(refusal::BAD_FLAG)
+    Err(refusal::BAD_FLAG)
 }
 
 // The hash at the front of a record.
@@ -127,7 +118,7 @@ pub fn refused(code: u8) -> AddressRead
     ensures { result ≡ refused_with code }
 {
     AddressRead {
-        answer: Answer::Refused(code),
+        answer: Err(code),
         address: IndexedAddress {
             hash: [0u8; 32],
             has_balance: false,
@@ -157,8 +148,8 @@ pub fn read_address(row: &[u8], txs: &mut [i64], boxes: &mut [i64]) -> AddressRe
     let mut ids = [0u8; TOKEN_ID_BYTES];
     let mut amounts = [0i64; TOKEN_LIMIT];
     match read_flagged(row, 32, &mut ids, &mut amounts) {
-        Flagged::Refused(code) => refused(code),
-        Flagged::Held(has_balance, nanos, count, next) => {
+        Err(code) => refused(code),
+        Ok((has_balance, nanos, count, next)) => {
             match segment_loading::read_last_segment(row, next, txs, boxes) {
                 Loaded::Refused(code) => refused(code),
                 Loaded::Read {
@@ -168,7 +159,7 @@ pub fn read_address(row: &[u8], txs: &mut [i64], boxes: &mut [i64]) -> AddressRe
                     tx_segment_count,
                     next: _,
                 } => AddressRead {
-                    answer: Answer::Accepted,
+                    answer: Ok(()),
                     address: IndexedAddress {
                         hash,
                         has_balance,

@@ -30,10 +30,8 @@ fn emit_tokens(ids: &[u8], amounts: &[i64], n: usize, out: &mut [u8], at: usize)
     ensures { Put (tokens_bytes ids.now (take n amounts.now)) out.old at result out.new }
 {
     let mut o = at;
-    let mut i = 0;
-    while i < n {
-        o = emit_token(ids, i, amounts[i], out, o);
-        i = i + 1;
+    for (i, amount) in amounts[..n].iter().enumerate() {
+        o = emit_token(ids, i, *amount, out, o);
     }
     o
 }
@@ -148,14 +146,14 @@ pub fn write_address(
         ≡ write_address hash.now has nanos ids.now amounts.now count txs.now n_txs boxes.now n_boxes box_count tx_count out.old at }
 {
     if !buffers_ok(n_txs, txs.len(), n_boxes, boxes.len(), count) {
-        return Wrote::Refused(refusal::BUFFERS);
+        return Err(refusal::BUFFERS);
     }
     let part = flagged_len(has, nanos, amounts, count);
     let row = segment_writing::segment_len(txs, n_txs, boxes, n_boxes, box_count, tx_count);
     if !vlq_core::has_room(out.len(), at, 32 + part + row) {
-        return Wrote::Refused(refusal::OUTPUT_TOO_SHORT);
+        return Err(refusal::OUTPUT_TOO_SHORT);
     }
-    Wrote::Next(emit_address(
+    Ok(emit_address(
         hash, has, nanos, ids, amounts, count, txs, n_txs, boxes, n_boxes, box_count, tx_count,
         out, at,
     ))

@@ -35,7 +35,7 @@ pub fn append_entry(
             staged,
         );
     }
-    Appended::Refused(refusal::BUFFERS)
+    Err(refusal::BUFFERS)
 }
 
 // A box number goes to the end of the head of boxes; a full head becomes the next row first.

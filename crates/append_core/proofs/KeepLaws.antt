@@ -19,7 +19,7 @@ use Rattle.segment_id.specs.declared.Kind.{Kind}
 use Rattle.segment_id.proofs.KeyLaws.{row_key_length}
 use Rattle.index_types.specs.declared.HeadCounts.{HeadCounts}
 use Rattle.index_types.specs.declared.RowEdition.{RowEdition}
-use Rattle.index_types.specs.declared.Appended.TheVariants.{Done, Refused}
+use Rattle.std.specs.Prelude.{Ok, Err}
 use Rattle.buffer_core.specs.Edition.{edition_of, record_size, row_limit_of, header, spill_bytes}
 use Rattle.buffer_core.specs.Spills.{head_ok}
 use Rattle.buffer_core.specs.Append.{Appending, appending, counts_of, one_number, counts_with, bytes_with, spilled, spill_of, append_core, append_ok}
@@ -28,6 +28,7 @@ use Rattle.buffer_core.proofs.SizeLaws.{sizes, limit_most}
 use Rattle.buffer_core.proofs.BackLaws.{within}
 use Rattle.append_stage.proofs.RowLaws.{head_row_most}
 use Rattle.append_core.specs.Internal.{AppendReady}
+use Rattle.index_types.proofs.AnswerLaws.{pair_same}
 
 -- ---- the test as facts, and back
 
@@ -57,14 +58,14 @@ module _ (v : RowEdition) (h : HeadCounts) (c : ListCounts) (head : List ℤ) (s
 
 -- where the answer gives counts, they pass with the lists at exit
 abbrev pub AppendKept : RowEdition → Appending → Type 0
-AppendKept v o = (h : HeadCounts) (c : ListCounts) → o.answer ≡ Done h c → append_ok (edition_of v) h c o.head o.staged ≡ true
+AppendKept v o = (h : HeadCounts) (c : ListCounts) → o.answer ≡ Ok (h, c) → append_ok (edition_of v) h c o.head o.staged ≡ true
 
-kept_refused : (v : RowEdition) (code : ℕ) (head : List ℤ) (staged : List ℕ) → AppendKept v (appending (Refused code) head staged)
+kept_refused : (v : RowEdition) (code : ℕ) (head : List ℤ) (staged : List ℕ) → AppendKept v (appending (Err code) head staged)
 kept_refused v code head staged h c e = let z : ◌≡◌ {A = ℕ} 0 1 = cc in absurd (omega arith)
 
 kept_done : (v : RowEdition) (h : HeadCounts) (c : ListCounts) (head : List ℤ) (staged : List ℕ) → append_ok (edition_of v) h c head staged ≡ true
-    → AppendKept v (appending (Done h c) head staged)
-kept_done v h c head staged t h' c' e = let p : h ≡ h' = cc in let q : c ≡ c' = cc in rw (← p, ← q) t
+    → AppendKept v (appending (Ok (h, c)) head staged)
+kept_done v h c head staged t h' c' e = let p = pair_same e in rw (← p.0, ← p.1) t
 
 module _ (v : RowEdition) (kind : Kind) (parent : List ℕ) (named : length parent ≡ 32) (number : ℤ) (h : HeadCounts) (c : ListCounts) (head : List ℤ) (staged : List ℕ)
     (ok : AppendOk v h c head staged) where
@@ -98,7 +99,7 @@ module _ (v : RowEdition) (kind : Kind) (parent : List ℕ) (named : length pare
       by_tests (leb 2147483647 spills) refl (full_for (record_size v) c (row_key parent kind (pos spills)) staged) refl
     where
       by_tests : (a : Bool) → leb 2147483647 spills ≡ a → (f : Bool) → full_for (record_size v) c (row_key parent kind (pos spills)) staged ≡ f
-          → AppendKept v (cond a (appending (Refused 18) head staged) (cond f (appending (Refused 16) head staged)
+          → AppendKept v (cond a (appending (Err 18) head staged) (cond f (appending (Err 16) head staged)
           (spilled (edition_of v) kind (row_key parent kind (pos spills)) parent spills number c head staged)))
       by_tests true d f e = kept_refused v 18 head staged
       by_tests false d true e = kept_refused v 16 head staged
@@ -110,8 +111,8 @@ module _ (v : RowEdition) (kind : Kind) (parent : List ℕ) (named : length pare
   core_kept = by_tests (is_negative h.spills) (is_negative number) (ltb h.len 512) refl
     where
       by_tests : (a b u : Bool) → ltb h.len 512 ≡ u
-          → AppendKept v (cond a (appending (Refused 11) head staged) (cond b (appending (Refused 17) head staged)
-          (cond u (appending (Done (counts_of (h.len + 1) h.spills) c) (set head h.len number) staged)
+          → AppendKept v (cond a (appending (Err 11) head staged) (cond b (appending (Err 17) head staged)
+          (cond u (appending (Ok (counts_of (h.len + 1) h.spills, c)) (set head h.len number) staged)
           (spill_of (edition_of v) kind parent (nat_abs h.spills) number c head staged))))
       by_tests true b u e = kept_refused v 11 head staged
       by_tests false true u e = kept_refused v 17 head staged

@@ -27,20 +27,20 @@ pub fn append(
     let len = counts.len;
     let spills = counts.spills;
     if signed::is_negative_i32(spills) {
-        return Appended::Refused(refusal::NEGATIVE_SPILL_COUNT);
+        return Err(refusal::NEGATIVE_SPILL_COUNT);
     }
     if signed::is_negative(number) {
-        return Appended::Refused(refusal::NEGATIVE_NUMBER);
+        return Err(refusal::NEGATIVE_NUMBER);
     }
     if len < SEGMENT_THRESHOLD {
         append_spill::put_number(head, len, number);
-        return Appended::Done(
+        return Ok((
             HeadCounts {
                 len: len + 1,
                 spills,
             },
             staged_counts,
-        );
+        ));
     }
     append_spill::spill(
         edition,

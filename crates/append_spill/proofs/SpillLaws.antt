@@ -16,7 +16,7 @@ use Rattle.records.specs.Changes.{count_after, with_count, put_record, full_for}
 use Rattle.segment_id.specs.Key.{row_key}
 use Rattle.segment_id.specs.declared.Kind.{Kind}
 use Rattle.index_types.specs.declared.RowEdition.{RowEdition}
-use Rattle.index_types.specs.declared.Appended.TheVariants.{Done, Refused}
+use Rattle.std.specs.Prelude.{Ok, Err}
 use Rattle.buffer_core.specs.Edition.{edition_of, record_size, header, spill_bytes}
 use Rattle.buffer_core.specs.Append.{appending, counts_of, one_number, spilled, spill_of}
 
@@ -31,12 +31,12 @@ one_written number head h₁ h₂ k e f =
 -- ---- the ways out of a spill
 
 module _ (v : RowEdition) (kind : Kind) (parent : List ℕ) (spills : ℕ) (number : ℤ) (c : ListCounts) (head : List ℤ) (staged : List ℕ) where
-  pub spill_18 : 2147483647 ≤ spills → appending (Refused 18) head staged ≡ spill_of (edition_of v) kind parent spills number c head staged
+  pub spill_18 : 2147483647 ≤ spills → appending (Err 18) head staged ≡ spill_of (edition_of v) kind parent spills number c head staged
   unfolding spill_of
   spill_18 h = rw (le-leb 2147483647 spills h)
 
   module _ (few : spills < 2147483647) (key : List ℕ) (e : key ≡ row_key parent kind (pos spills)) where
-    pub spill_16 : full_for (record_size v) c key staged ≡ true → appending (Refused 16) head staged ≡ spill_of (edition_of v) kind parent spills number c head staged
+    pub spill_16 : full_for (record_size v) c key staged ≡ true → appending (Err 16) head staged ≡ spill_of (edition_of v) kind parent spills number c head staged
     unfolding spill_of
     spill_16 f = rw (lt-leb 2147483647 spills few, ← e, f)
 
@@ -44,6 +44,6 @@ module _ (v : RowEdition) (kind : Kind) (parent : List ℕ) (spills : ℕ) (numb
         → n ≡ count_after (find_key key (keys (record_size v) c.count staged)) c.count
         → staged' ≡ put_record (record_size v) c.count key (record_of (record_size v) key (header v kind parent (pos spills) ++ spill_bytes kind (take 512 head))) staged
         → head' ≡ one_number number head → s ≡ pos (spills + 1)
-        → appending (Done (counts_of 1 s) (with_count n c)) head' staged' ≡ spill_of (edition_of v) kind parent spills number c head staged
+        → appending (Ok (counts_of 1 s, with_count n c)) head' staged' ≡ spill_of (edition_of v) kind parent spills number c head staged
     unfolding spill_of spilled
     spill_done f n s head' staged' p q r t = rw (lt-leb 2147483647 spills few, ← e, f, p, q, r, t)

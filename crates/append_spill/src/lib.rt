@@ -43,12 +43,12 @@ pub fn spill(
         ≡ spill_of (edition_of edition) kind parent.now spills number staged_counts head.old staged.old }
 {
     if SPILL_LIMIT <= spills {
-        return Appended::Refused(refusal::SPILL_COUNT_AT_LIMIT);
+        return Err(refusal::SPILL_COUNT_AT_LIMIT);
     }
     let size = buffer_core::record_size(edition);
     let key = spill_rows::spill_key(kind, parent, spills);
     if record_changes::full_for(staged, size, staged_counts, &key) {
-        return Appended::Refused(refusal::STAGING_FULL);
+        return Err(refusal::STAGING_FULL);
     }
     let count = append_stage::stage_row(
         edition,
@@ -62,7 +62,7 @@ pub fn spill(
     );
     put_first(head, number);
     let next = signed::i32_from_usize(spills + 1);
-    Appended::Done(
+    Ok((
         HeadCounts {
             len: 1,
             spills: next,
@@ -71,5 +71,5 @@ pub fn spill(
             count,
             capacity: staged_counts.capacity,
         },
-    )
+    ))
 }

@@ -9,8 +9,7 @@ use lib.Dec.{leb}
 use lib.IntN.{ℤ, pos, ◌-ℤ◌}
 use lib.Signed.{mag, lt_z}
 use borrow.Author.Tests.{le-leb, lt-leb, leb-true, leb-false}
-use Rattle.signed.specs.declared.Checked.{Checked}
-use Rattle.signed.specs.declared.Checked.TheVariants.{Is, Out}
+use Rattle.std.specs.Prelude.{Option, Some, None}
 use Rattle.signed.specs.Checked.{checked}
 use Rattle.signed.proofs.SignedLaws.{checked_fits}
 use Rattle.balance.specs.declared.Balance.{Balance}
@@ -55,17 +54,17 @@ module _ (count : ℕ) (ids : List ℕ) (amounts : List ℤ) (n : ℕ) where
 -- ---- the nanoErgs
 
 -- they are within 64 signed bits
-pub nanos_fit : (adding : Bool) (old nanos v : ℤ) → Is v ≡ nanos_after adding old nanos → mag v < 9223372036854775808
+pub nanos_fit : (adding : Bool) (old nanos v : ℤ) → Some v ≡ nanos_after adding old nanos → mag v < 9223372036854775808
 nanos_fit true old nanos v e = (checked_fits _ v (sym e)).1
 nanos_fit false old nanos v e = by_check (checked (old -ℤ nanos)) refl e
   where
-    by_check : (x : Checked) → checked (old -ℤ nanos) ≡ x → Is v ≡ stopped x → mag v < 9223372036854775808
-    by_check (Is w) q e = by_test (lt_z w (pos 0)) e
+    by_check : (x : Option ℤ) → checked (old -ℤ nanos) ≡ x → Some v ≡ stopped x → mag v < 9223372036854775808
+    by_check (Some w) q e = by_test (lt_z w (pos 0)) e
       where
-        by_test : (t : Bool) → Is v ≡ Is (cond t (pos 0) w) → mag v < 9223372036854775808
+        by_test : (t : Bool) → Some v ≡ Some (cond t (pos 0) w) → mag v < 9223372036854775808
         by_test true e = let z : v ≡ pos 0 = cc in rw z (omega arith)
         by_test false e = let z : v ≡ w = cc in rw z (checked_fits _ w q).1
-    by_check Out q e = let z : ◌≡◌ {A = ℕ} 0 1 = cc in absurd (omega arith)
+    by_check None q e = let z : ◌≡◌ {A = ℕ} 0 1 = cc in absurd (omega arith)
 
 -- ---- the ways out of a box, added or subtracted
 
@@ -75,12 +74,12 @@ module _ (adding : Bool) (b : Balance) (nanos : ℤ) (ids : List ℕ) (amounts :
   box_25 e = sym (rw e)
 
   module _ (ok : buffers_ok b.count ids amounts n ≡ true) where
-    pub box_23 : Out ≡ nanos_after adding b.nanos nanos → refused 23 b ≡ change_box adding b nanos ids amounts n
+    pub box_23 : None ≡ nanos_after adding b.nanos nanos → refused 23 b ≡ change_box adding b nanos ids amounts n
     unfolding change_box
     box_23 e = sym (rw (ok, ← e))
 
     -- the tokens decide
-    pub box_on : (v : ℤ) → Is v ≡ nanos_after adding b.nanos nanos → (x : Changed) → x ≡ change_tokens adding ids amounts 0 n (held_by b)
+    pub box_on : (v : ℤ) → Some v ≡ nanos_after adding b.nanos nanos → (x : Changed) → x ≡ change_tokens adding ids amounts 0 n (held_by b)
         → settled b v x ≡ change_box adding b nanos ids amounts n
     unfolding change_box
     box_on v e x q = sym (rw (ok, ← e, ← q))

@@ -1,10 +1,9 @@
 -- A balance in borrowed parts: what a change leaves in them.
-use Rattle.std.specs.Prelude.{ℕ, ◌<◌, ◌≡◌, List, get_or, ℤ, pos, nat_abs}
-use Rattle.refusal.specs.declared.Answer.{Answer}
+use Rattle.std.specs.Prelude.{ℕ, ◌<◌, ◌≡◌, List, get_or, ℤ, pos, nat_abs, Ok, Err}
+use Rattle.refusal.specs.Answers.{Answer}
 use Rattle.balance.specs.declared.Balance.{Balance}
 use Rattle.balance.specs.declared.Outcome.{Outcome}
-use Rattle.balance_tokens.specs.declared.Counted.{Counted}
-use Rattle.balance_tokens.specs.declared.Counted.TheVariants as counted
+use Rattle.balance_tokens.specs.Answers.{Counted}
 use Rattle.balance_tokens.specs.Tokens.{Changed, held, refused_by}
 
 -- a balance of ids and amounts, a count and nanoErgs
@@ -25,5 +24,5 @@ Passed (refused_by code) = ⊥
 
 -- a change of tokens in two borrowed arrays, which it leaves as ids' and amounts': what is held, or the refusal with both as they were
 abbrev pub Kept : Counted → List ℕ → List ℤ → List ℕ → List ℤ → Changed → Type 0
-Kept (counted.Count n) ids amounts ids' amounts' x = held (record { ids = ids'; amounts = amounts'; count = n }) ≡ x
-Kept (counted.Refused code) ids amounts ids' amounts' x = (refused_by code ≡ x) × (ids' ≡ ids) × (amounts' ≡ amounts)
+Kept (Ok n) ids amounts ids' amounts' x = held (record { ids = ids'; amounts = amounts'; count = n }) ≡ x
+Kept (Err code) ids amounts ids' amounts' x = (refused_by code ≡ x) × (ids' ≡ ids) × (amounts' ≡ amounts)

@@ -4,10 +4,8 @@
 ghost use Rattle.std.specs.Prelude.{◌≡◌};
 ghost use Rattle.balance.specs.Boxes.{buffers_ok, nanos_after, change_box, add_box, subtract_box};
 
-use balance_tokens::Counted;
 use index_types::{TOKEN_ID_BYTES, TOKEN_LIMIT};
 use refusal::Answer;
-use signed::Checked;
 
 // The id at place i is `ids[32 * i..32 * i + 32]`, its amount `amounts[i]`; the first `count` places are in use.
 #[derive(Clone, Copy)]
@@ -39,21 +37,15 @@ pub fn buffers_ok(count: usize, ids: &[u8], amounts: &[i64], n: usize) -> bool
 }
 
 // The nanoErgs after a box is added, or subtracted, where they stop at 0.
-pub fn change_nanos(adding: bool, old: i64, nanos: i64) -> Checked
+pub fn change_nanos(adding: bool, old: i64, nanos: i64) -> Option<i64>
     ensures { result ≡ nanos_after adding old nanos }
 {
     if adding {
         return signed::checked_add(old, nanos);
     }
     match signed::checked_sub(old, nanos) {
-        Checked::Is(rest) => {
-            if rest < 0 {
-                Checked::Is(0)
-            } else {
-                Checked::Is(rest)
-            }
-        }
-        Checked::Out => Checked::Out,
+        Some(rest) => { if rest < 0 { Some(0) } else { Some(rest) } }
+        None => None,
     }
 }
 
@@ -72,35 +64,35 @@ fn change_box(
     if !buffers_ok(held, ids, amounts, count) {
         return Outcome {
             balance,
-            answer: Answer::Refused(refusal::BUFFERS),
+            answer: Err(refusal::BUFFERS),
         };
     }
     let old = balance.nanos;
     match change_nanos(adding, old, nanos) {
-        Checked::Is(sum) => {
+        Some(sum) => {
             let mut table = balance.ids;
             let mut sums = balance.amounts;
             match token_changes::change_tokens(
                 adding, &mut table, &mut sums, held, ids, amounts, count,
             ) {
-                Counted::Count(n) => Outcome {
+                Ok(n) => Outcome {
                     balance: Balance {
                         ids: table,
                         amounts: sums,
                         count: n,
                         nanos: sum,
                     },
-                    answer: Answer::Accepted,
+                    answer: Ok(()),
                 },
-                Counted::Refused(code) => {
-                    let answer = Answer::Refused(code);
+                Err(code) => {
+                    let answer = Err(code);
                     Outcome { balance, answer }
                 }
             }
         }
-        Checked::Out => Outcome {
+        None => Outcome {
             balance,
-            answer: Answer::Refused(refusal::AMOUNT_OUT_OF_RANGE),
+            answer: Err(refusal::AMOUNT_OUT_OF_RANGE),
         },
     }
 }

@@ -1,5 +1,5 @@
 -- A balance by mutable reference (document 01, "Balance"): "`add_box` and `subtract_box` also take the balance by mutable reference, as the Rust does."
-use Rattle.refusal.specs.declared.Answer.{Answer}
+use Rattle.refusal.specs.Answers.{Answer}
 use Rattle.balance.specs.declared.Balance.{Balance}
 use Rattle.balance.specs.declared.Outcome.{Outcome}
 

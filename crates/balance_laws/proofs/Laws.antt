@@ -11,8 +11,7 @@ use lib.Signed.{mag, lt_z}
 use lib.ListN.{length, length-append}
 use lib.Dec.{ltb, leb}
 use borrow.Author.Tests.{le-leb, le-ltb}
-use Rattle.signed.specs.declared.Checked.{Checked}
-use Rattle.signed.specs.declared.Checked.TheVariants.{Is, Out}
+use Rattle.std.specs.Prelude.{Option, Some, None}
 use Rattle.signed.specs.Checked.{checked}
 use Rattle.balance.specs.declared.Balance.{Balance}
 use Rattle.balance.specs.declared.Outcome.{Outcome}
@@ -91,7 +90,7 @@ module _ (b : Balance) (I : Fits (held_by b)) (n : ℤ) (ts : Tokens) (t : Typed
   unfolding change_box
   on adds = rw passes
 
-  by_add : (x : ℤ) (u : Bool) → DoesB (result_of (outcome_of (box_by true b (ids_of ts) (amounts_of ts) (length ts) (cond u (Is x) Out))))
+  by_add : (x : ℤ) (u : Bool) → DoesB (result_of (outcome_of (box_by true b (ids_of ts) (amounts_of ts) (length ts) (cond u (Some x) None))))
       (cond u (then_do (Ba.add_tokens limit 128 (tokens_in b) ts) (λ l. done (bal x l))) (refused 23))
   by_add x true =
       settle b x (change_tokens true (ids_of ts) (amounts_of ts) 0 (length ts) (held_by b)) (Ba.add_tokens limit 128 (tokens_in b) ts)
@@ -109,7 +108,7 @@ module _ (b : Balance) (I : Fits (held_by b)) (n : ℤ) (ts : Tokens) (t : Typed
   stop_same (pos m) = rw (le-ltb m 0 (omega arith))
   stop_same (negsuc m) = refl
 
-  by_sub : (x : ℤ) (u : Bool) → DoesB (result_of (outcome_of (box_by false b (ids_of ts) (amounts_of ts) (length ts) (stopped (cond u (Is x) Out)))))
+  by_sub : (x : ℤ) (u : Bool) → DoesB (result_of (outcome_of (box_by false b (ids_of ts) (amounts_of ts) (length ts) (stopped (cond u (Some x) None)))))
       (cond u (then_do (Ba.subtract_tokens limit 128 (tokens_in b) ts) (λ l. done (bal (Ba.stop0 x) l))) (refused 23))
   by_sub x true =
       to_bal
@@ -134,9 +133,9 @@ pub change_leaves : (adds : Bool) (b : Balance) (n : ℤ) (ids : List ℕ) (amou
 unfolding change_box
 change_leaves adds b n ids amounts m = by_buffers (buffers_ok b.count ids amounts m)
   where
-    by_nanos : (x : Checked) → Leaves b (outcome_of (box_by adds b ids amounts m x))
-    by_nanos (Is v) = settled_leaves b v (change_tokens adds ids amounts 0 m (held_by b))
-    by_nanos Out = refl
+    by_nanos : (x : Option ℤ) → Leaves b (outcome_of (box_by adds b ids amounts m x))
+    by_nanos (Some v) = settled_leaves b v (change_tokens adds ids amounts 0 m (held_by b))
+    by_nanos None = refl
 
     by_buffers : (t : Bool) → Leaves b (outcome_of (cond t (box_by adds b ids amounts m (nanos_after adds b.nanos n)) (refused_box 25 b)))
     by_buffers true = by_nanos (nanos_after adds b.nanos n)

@@ -15,8 +15,7 @@ use lib.ListN.{length, get_or, take, drop, set, length-set, length-append}
 use lib.Seq.{take_at, drop_at, get_or_at}
 use lib.Dec.{ltb, leb}
 use borrow.Author.Tests.{lt-ltb, le-ltb, ltb-true, ltb-false, lt-leb}
-use Rattle.signed.specs.declared.Checked.{Checked}
-use Rattle.signed.specs.declared.Checked.TheVariants.{Is, Out}
+use Rattle.std.specs.Prelude.{Some, None}
 use Rattle.signed.specs.Checked.{checked}
 use Rattle.stores.specs.Stores.{write}
 use Rattle.stores.proofs.StoreLaws.{length_write}
@@ -83,7 +82,7 @@ module _ (h : Held) (I : Fits h) (key : List ℕ) (kl : length key ≡ 32) (v : 
     record { few = I.few; ids_in = I.ids_in; amounts_in = length-set h.amounts at x ∙ I.amounts_in },
   )
 
-  by_sum : at < h.count → (x : ℤ) (t : Bool) → Does (sum_at h at (cond t (Is x) Out)) (cond t (done (Ba.set_token l key x)) (refused 23))
+  by_sum : at < h.count → (x : ℤ) (t : Bool) → Does (sum_at h at (cond t (Some x) None)) (cond t (done (Ba.set_token l key x)) (refused 23))
   by_sum g x true = set_does g x
   by_sum g x false = refl
 
@@ -109,7 +108,7 @@ module _ (h : Held) (I : Fits h) (key : List ℕ) (kl : length key ≡ 32) (v : 
   by_place f true e =
       let g = ltb-true at h.count e in
       let x : ℤ = get_or h.amounts at (pos 0) +ℤ v in
-      to (sum_at h at (cond (ltb (mag x) limit) (Is x) Out)) (by_sum g x (ltb (mag x) limit))
+      to (sum_at h at (cond (ltb (mag x) limit) (Some x) None)) (by_sum g x (ltb (mag x) limit))
       (ap (λ (a : ℤ). cond (ltb (mag (a +ℤ v)) limit) (done (Ba.set_token l key (a +ℤ v))) (refused 23)) (sym (amt_at g))
       ∙ sym (ite_lt (mag (amount_in l key +ℤ v)) limit (dec_lt (mag (amount_in l key +ℤ v)) limit) adding (refused 23)
       ∙ ap (λ (x : Res Tokens). cond (ltb (mag (amount_in l key +ℤ v)) limit) x (refused 23)) (ite_yes (Ba.has_dec l key) _ _ (has g))))
@@ -142,7 +141,7 @@ module _ (h : Held) (I : Fits h) (key : List ℕ) (kl : length key ≡ 32) (v : 
   by_left g (negsuc n) = gone g
   by_left g (pos (suc n)) = rw (lt-leb (suc n) 0 (omega arith)) (set_does g (pos (suc n)))
 
-  by_difference : at < h.count → (x : ℤ) (t : Bool) → Does (difference_at h at (cond t (Is x) Out)) (cond t (done (Ba.shrink l key x)) (refused 23))
+  by_difference : at < h.count → (x : ℤ) (t : Bool) → Does (difference_at h at (cond t (Some x) None)) (cond t (done (Ba.shrink l key x)) (refused 23))
   by_difference g x true = by_left g x
   by_difference g x false = refl
 
@@ -152,7 +151,7 @@ module _ (h : Held) (I : Fits h) (key : List ℕ) (kl : length key ≡ 32) (v : 
   by_place_sub true e =
       let g = ltb-true at h.count e in
       let x : ℤ = get_or h.amounts at (pos 0) -ℤ v in
-      to (difference_at h at (cond (ltb (mag x) limit) (Is x) Out)) (by_difference g x (ltb (mag x) limit))
+      to (difference_at h at (cond (ltb (mag x) limit) (Some x) None)) (by_difference g x (ltb (mag x) limit))
       (ap (λ (a : ℤ). cond (ltb (mag (a -ℤ v)) limit) (done (Ba.shrink l key (a -ℤ v))) (refused 23)) (sym (amt_at g))
       ∙ sym (ite_yes (Ba.has_dec l key) _ _ (has g)
       ∙ ite_lt (mag (amount_in l key -ℤ v)) limit (dec_lt (mag (amount_in l key -ℤ v)) limit) (done (Ba.shrink l key (amount_in l key -ℤ v))) (refused 23)))

@@ -1,7 +1,6 @@
 -- The calls on a balance as the histories of the fork-undo theorem make them: a box's tokens are laid out as the calls borrow them.
-use Rattle.std.specs.Prelude.{List, [], ◌∷◌, ◌++◌, ℕ, zero, suc, ℤ, pos, length, get_or}
-use Rattle.refusal.specs.declared.Answer.{Answer}
-use Rattle.refusal.specs.declared.Answer.TheVariants.{Accepted, Refused}
+use Rattle.std.specs.Prelude.{List, [], ◌∷◌, ◌++◌, ℕ, zero, suc, ℤ, pos, length, get_or, Ok, Err}
+use Rattle.refusal.specs.Answers.{Answer}
 use Rattle.balance.specs.declared.Balance.{Balance}
 use Rattle.balance.specs.declared.Outcome.{Outcome}
 use Rattle.balance.specs.Tokens.{id_at}
@@ -20,8 +19,8 @@ amounts_of (x ∷ ts) = x.1 ∷ amounts_of ts
 
 -- the balance at exit, accepted or refused
 abbrev pub answered : Answer → Balance → Made Balance Balance
-answered Accepted b = accepted b
-answered (Refused code) b = refused_leaving code b
+answered (Ok tt) b = accepted b
+answered (Err code) b = refused_leaving code b
 
 abbrev pub outcome_of : Outcome → Made Balance Balance
 outcome_of o = answered o.answer o.balance

@@ -10,7 +10,6 @@ ghost use Rattle.balance.specs.Parts.{Kept, flat, outcome};
 use balance_tokens::Counted;
 use index_types::{TOKEN_ID_BYTES, TOKEN_LIMIT};
 use refusal::Answer;
-use signed::Checked;
 
 // Adds or subtracts the n tokens of a box; a refusal leaves the arrays as they were.
 fn change_held(
@@ -46,21 +45,21 @@ fn change_parts(
 {
     let held = *held_count;
     if !balance::buffers_ok(held, ids, amounts, count) {
-        return Answer::Refused(refusal::BUFFERS);
+        return Err(refusal::BUFFERS);
     }
     let old = *held_nanos;
     match balance::change_nanos(adding, old, nanos) {
-        Checked::Is(sum) => {
+        Some(sum) => {
             match change_held(adding, held_ids, held_amounts, held, ids, amounts, count) {
-                Counted::Count(n) => {
+                Ok(n) => {
                     *held_count = n;
                     *held_nanos = sum;
-                    Answer::Accepted
+                    Ok(())
                 }
-                Counted::Refused(code) => Answer::Refused(code),
+                Err(code) => Err(code),
             }
         }
-        Checked::Out => Answer::Refused(refusal::AMOUNT_OUT_OF_RANGE),
+        None => Err(refusal::AMOUNT_OUT_OF_RANGE),
     }
 }
 

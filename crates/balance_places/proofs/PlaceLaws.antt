@@ -8,8 +8,8 @@ use lib.ListN.{length, take, drop, set, get_or, take-append-drop, length-take, l
 use lib.Seq.{drop-drop}
 use borrow.Rule.Slice.PartMut.{mid_of, put_mid}
 use Rattle.stores.specs.Stores.{write}
-use Rattle.balance_tokens.specs.declared.Counted.{Counted}
-use Rattle.balance_tokens.specs.declared.Counted.TheVariants.{Count, Refused}
+use Rattle.std.specs.Prelude.{Ok, Err}
+use Rattle.balance_tokens.specs.Answers.{Counted}
 use Rattle.balance_tokens.specs.Tokens.{Changed, held, refused_by}
 use Rattle.balance.specs.declared.Balance.{Balance}
 use Rattle.balance.specs.declared.Outcome.{Outcome}
@@ -44,11 +44,11 @@ module _ {A : Type 0} where
 -- a change of tokens in two parts of two lists
 pub kept_placed : (r : Counted) (i a : ℕ) (ids : List ℕ) (numbers : List ℤ) (t' : List ℕ) (s' : List ℤ) (x : Changed) → length t' ≡ 4096 → length s' ≡ 128
     → Kept r (mid_of i 4096 ids) (mid_of a 128 numbers) t' s' x → left r (put_mid i 4096 ids t') (put_mid a 128 numbers s') ≡ placed i a ids numbers x
-kept_placed (Count m) i a ids numbers t' s' x p q e =
-    (λ k. left (Count m) (put_write i 4096 ids t' p k) (put_write a 128 numbers s' q k)) ∙ ap (placed i a ids numbers) e
-kept_placed (Refused code) i a ids numbers t' s' x p q e =
-    (λ k. left (Refused code) (put_mid i 4096 ids (e.1 k)) (put_mid a 128 numbers (e.2 k)))
-    ∙ (λ k. left (Refused code) (put_same i 4096 ids k) (put_same a 128 numbers k))
+kept_placed (Ok m) i a ids numbers t' s' x p q e =
+    (λ k. left (Ok m) (put_write i 4096 ids t' p k) (put_write a 128 numbers s' q k)) ∙ ap (placed i a ids numbers) e
+kept_placed (Err code) i a ids numbers t' s' x p q e =
+    (λ k. left (Err code) (put_mid i 4096 ids (e.1 k)) (put_mid a 128 numbers (e.2 k)))
+    ∙ (λ k. left (Err code) (put_same i 4096 ids k) (put_same a 128 numbers k))
     ∙ ap (placed i a ids numbers) e.0
 
 module _ (p : ℕ) (ids : List ℕ) (numbers : List ℤ) (lengths : List ℕ) where
@@ -67,29 +67,29 @@ module _ (p : ℕ) (ids : List ℕ) (numbers : List ℤ) (lengths : List ℕ) wh
             ∙ set_same numbers (p * 1153 + 1152) (pos 0) (omega arith)
 
     pub token_refused : (code : ℕ) (sum : ℤ) (ids' : List ℕ) (numbers' : List ℤ) (x : Changed)
-        → left (Refused code) ids' numbers' ≡ placed (p * 4128 + 32) (p * 1153 + 1024) ids numbers x
+        → left (Err code) ids' numbers' ≡ placed (p * 4128 + 32) (p * 1153 + 1024) ids numbers x
         → change_step (refused code) ids' numbers' lengths ≡ changed_by (settled b sum x) p ids numbers lengths
     token_refused code sum ids' numbers' (held h) e =
-        let c : Refused code ≡ Count h.count = ap (λ (l : Left). l.answer) e in
+        let c : Err code ≡ Ok h.count = ap (λ (l : Left). l.answer) e in
         let z : ◌≡◌ {A = ℕ} 0 1 = cc in
         absurd (omega arith)
     token_refused code sum ids' numbers' (refused_by k) e =
         let u : ids' ≡ ids = ap (λ (l : Left). l.ids) e in
         let v : numbers' ≡ numbers = ap (λ (l : Left). l.numbers) e in
-        let c : Refused code ≡ Refused k = ap (λ (l : Left). l.answer) e in
+        let c : Err code ≡ Err k = ap (λ (l : Left). l.answer) e in
         let w : code ≡ k = cc in
         (λ j. change_step (refused (w j)) (u j) (v j) lengths) ∙ unchanged k
 
   pub tokens_taken : (m : ℕ) (sum : ℤ) (ids' : List ℕ) (numbers' : List ℤ) (x : Changed)
-      → left (Count m) ids' numbers' ≡ placed (p * 4128 + 32) (p * 1153 + 1024) ids numbers x
+      → left (Ok m) ids' numbers' ≡ placed (p * 4128 + 32) (p * 1153 + 1024) ids numbers x
       → change_step accepted ids' (set numbers' (p * 1153 + 1152) sum) (set lengths (p * 3 + 2) m) ≡ changed_by (settled b sum x) p ids numbers lengths
   tokens_taken m sum ids' numbers' (held h) e =
       let u : ids' ≡ write (p * 4128 + 32) h.ids ids = ap (λ (l : Left). l.ids) e in
       let v : numbers' ≡ write (p * 1153 + 1024) h.amounts numbers = ap (λ (l : Left). l.numbers) e in
-      let c : Count m ≡ Count h.count = ap (λ (l : Left). l.answer) e in
+      let c : Ok m ≡ Ok h.count = ap (λ (l : Left). l.answer) e in
       let w : m ≡ h.count = cc in
       (λ j. change_step accepted (u j) (set (v j) (p * 1153 + 1152) sum) (set lengths (p * 3 + 2) (w j)))
   tokens_taken m sum ids' numbers' (refused_by k) e =
-      let c : Count m ≡ Refused k = ap (λ (l : Left). l.answer) e in
+      let c : Ok m ≡ Err k = ap (λ (l : Left). l.answer) e in
       let z : ◌≡◌ {A = ℕ} 0 1 = cc in
       absurd (omega arith)

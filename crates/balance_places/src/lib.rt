@@ -13,7 +13,6 @@ ghost use Rattle.balance_places.specs.Internal.{left, placed};
 use balance_tokens::Counted;
 use call_steps::{AMOUNTS_AT, NANOS_AT, PARENT_IDS, PARENT_NUMBERS, Said};
 use index_types::{TOKEN_ID_BYTES, TOKEN_LIMIT};
-use signed::Checked;
 
 // Adds or subtracts the n tokens of a box, where the ids held begin at i and the amounts at a.
 fn change_tokens(
@@ -72,18 +71,18 @@ pub fn change_box(
     let at = p * PARENT_NUMBERS + NANOS_AT;
     let old = numbers[at];
     match balance::change_nanos(adding, old, nanos) {
-        Checked::Is(sum) => {
+        Some(sum) => {
             let i = p * PARENT_IDS + 32;
             let a = p * PARENT_NUMBERS + AMOUNTS_AT;
             match change_tokens(adding, i, a, held, box_ids, box_amounts, n, ids, numbers) {
-                Counted::Count(m) => {
+                Ok(m) => {
                     numbers[at] = sum;
                     lengths[last] = m;
                     call_steps::says(0)
                 }
-                Counted::Refused(code) => call_steps::says(code),
+                Err(code) => call_steps::says(code),
             }
         }
-        Checked::Out => call_steps::says(refusal::AMOUNT_OUT_OF_RANGE),
+        None => call_steps::says(refusal::AMOUNT_OUT_OF_RANGE),
     }
 }

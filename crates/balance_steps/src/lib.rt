@@ -62,8 +62,8 @@ pub fn said_by(answer: Answer) -> Said
     ensures { result ≡ said_by answer }
 {
     match answer {
-        Answer::Accepted => call_steps::says(0),
-        Answer::Refused(code) => call_steps::says(code),
+        Ok(()) => call_steps::says(0),
+        Err(code) => call_steps::says(code),
     }
 }
 

@@ -10,8 +10,7 @@ use lib.Dec.{ltb}
 use lib.IntN.{ℤ, pos, ◌+ℤ◌, ◌-ℤ◌}
 use lib.Signed.{le_z}
 use borrow.Author.Tests.{ltb-true}
-use Rattle.signed.specs.declared.Checked.{Checked}
-use Rattle.signed.specs.declared.Checked.TheVariants.{Is, Out}
+use Rattle.std.specs.Prelude.{Option, Some, None}
 use Rattle.signed.specs.Checked.{checked}
 use Rattle.balance_tokens.specs.Tokens.{Held, Changed, held, refused_by, id_at, place_of, with_amount, with_token, without_token, sum_at, difference_at, add_token, subtract_token, change_token, and_then, change_tokens}
 
@@ -43,17 +42,17 @@ Few (held h) = h.count ≤ 128
 Few (refused_by code) = Unit {0}
 
 module _ (h : Held) (f : h.count ≤ 128) where
-  few_sum : (i : ℕ) (s : Checked) → Few (sum_at h i s)
-  few_sum i (Is v) = f
-  few_sum i Out = tt
+  few_sum : (i : ℕ) (s : Option ℤ) → Few (sum_at h i s)
+  few_sum i (Some v) = f
+  few_sum i None = tt
 
-  few_difference : (i : ℕ) (s : Checked) → Few (difference_at h i s)
-  few_difference i (Is v) = by_test (le_z v (pos 0))
+  few_difference : (i : ℕ) (s : Option ℤ) → Few (difference_at h i s)
+  few_difference i (Some v) = by_test (le_z v (pos 0))
     where
       by_test : (t : Bool) → Few (held (cond t (without_token h i) (with_amount h i v)))
       by_test true = omega arith
       by_test false = f
-  few_difference i Out = tt
+  few_difference i None = tt
 
   few_add : (key : List ℕ) (v : ℤ) → Few (add_token h key v)
   unfolding add_token

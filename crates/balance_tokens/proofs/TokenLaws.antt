@@ -6,14 +6,14 @@ use mathlib.Core.List.{List}
 use lib.ListN.{length, get_or, take, drop, replicate, length-replicate}
 use lib.IntN.{ℤ, pos, ◌+ℤ◌, ◌-ℤ◌}
 use borrow.Author.Tests.{lt-ltb, le-ltb}
-use Rattle.signed.specs.declared.Checked.{Checked}
+use Rattle.std.specs.Prelude.{Option}
 use Rattle.signed.specs.Checked.{checked}
 use Rattle.stores.specs.Stores.{write}
 use Rattle.stores.proofs.StoreLaws.{write_write, length_part}
 use Rattle.balance_tokens.specs.Tokens.{Held, held, refused_by, place_of, with_token, closed_up, sum_at, add_token, difference_at, subtract_token}
 
 module _ (h : Held) (key : List ℕ) (v : ℤ) (i : ℕ) (p : i ≡ place_of key h.ids h.count) where
-  pub add_known : (s : Checked) → i < h.count → s ≡ checked (get_or h.amounts i (pos 0) +ℤ v) → sum_at h i s ≡ add_token h key v
+  pub add_known : (s : Option ℤ) → i < h.count → s ≡ checked (get_or h.amounts i (pos 0) +ℤ v) → sum_at h i s ≡ add_token h key v
   unfolding add_token
   add_known s g q = sym (rw (sym p, lt-ltb _ _ g, sym q))
 
@@ -25,7 +25,7 @@ module _ (h : Held) (key : List ℕ) (v : ℤ) (i : ℕ) (p : i ≡ place_of key
   unfolding add_token
   add_full g k = sym (rw (sym p, le-ltb _ _ g, le-ltb _ _ k))
 
-  pub subtract_known : (s : Checked) → i < h.count → s ≡ checked (get_or h.amounts i (pos 0) -ℤ v) → difference_at h i s ≡ subtract_token h key v
+  pub subtract_known : (s : Option ℤ) → i < h.count → s ≡ checked (get_or h.amounts i (pos 0) -ℤ v) → difference_at h i s ≡ subtract_token h key v
   unfolding subtract_token
   subtract_known s g q = sym (rw (sym p, lt-ltb _ _ g, sym q))
 

@@ -1,15 +1,12 @@
 -- The tokens that a balance holds and what one token of a box does to them (document 01, "Balance", and its row of the table).
 -- Ids of 32 bytes stand one after the other, their amounts at the same places.
-use Rattle.std.specs.Prelude.{ℕ, zero, suc, ◌+◌, ◌*◌, ◌-◌, Bool, cond, List, ◌++◌, take, drop, get_or, set, replicate, ltb, ℤ, pos, ◌+ℤ◌, ◌-ℤ◌}
+use Rattle.std.specs.Prelude.{ℕ, zero, suc, ◌+◌, ◌*◌, ◌-◌, Bool, cond, List, ◌++◌, take, drop, get_or, set, replicate, ltb, ℤ, pos, ◌+ℤ◌, ◌-ℤ◌, Option, Some, None, Ok, Err}
 use Rattle.std.specs.Int.Signed.{le_z}
 use Rattle.index_types.specs.Limits.{token_limit}
-use Rattle.signed.specs.declared.Checked.{Checked}
-use Rattle.signed.specs.declared.Checked.TheVariants.{Is, Out}
 use Rattle.signed.specs.Checked.{checked}
 use Rattle.stores.specs.Stores.{write}
 use Rattle.stores.specs.Equal.{same_bytes}
-use Rattle.balance_tokens.specs.declared.Counted.{Counted}
-use Rattle.balance_tokens.specs.declared.Counted.TheVariants as counted
+use Rattle.balance_tokens.specs.Answers.{Counted}
 
 -- the id at place i
 abbrev pub id_at : List ℕ → ℕ → List ℕ
@@ -51,9 +48,9 @@ without_token h i =
     record { ids = closed_up 32 0 i h.count h.ids; amounts = closed_up 1 (pos 0) i h.count h.amounts; count = h.count - 1 }
 
 -- 23 where a sum leaves 64 signed bits
-abbrev pub sum_at : Held → ℕ → Checked → Changed
-sum_at h i (Is v) = held (with_amount h i v)
-sum_at h i Out = refused_by 23
+abbrev pub sum_at : Held → ℕ → Option ℤ → Changed
+sum_at h i (Some v) = held (with_amount h i v)
+sum_at h i None = refused_by 23
 
 -- a token added: to the place that holds its id, or as a new one; 24 for a 129th token
 abbrev pub add_at : Held → List ℕ → ℤ → ℕ → Changed
@@ -64,9 +61,9 @@ unfoldable pub add_token : Held → List ℕ → ℤ → Changed
 add_token h key v = add_at h key v (place_of key h.ids h.count)
 
 -- 23 where a difference leaves 64 signed bits; a token at 0 or below is dropped
-abbrev pub difference_at : Held → ℕ → Checked → Changed
-difference_at h i (Is v) = held (cond (le_z v (pos 0)) (without_token h i) (with_amount h i v))
-difference_at h i Out = refused_by 23
+abbrev pub difference_at : Held → ℕ → Option ℤ → Changed
+difference_at h i (Some v) = held (cond (le_z v (pos 0)) (without_token h i) (with_amount h i v))
+difference_at h i None = refused_by 23
 
 -- a token subtracted: from the place that holds its id; an unknown id is ignored
 abbrev pub subtract_at : Held → ℤ → ℕ → Changed
@@ -92,5 +89,5 @@ change_tokens adding ids amounts j (suc n) h =
 
 -- what a function answers that works in two borrowed arrays, which it leaves as ids and amounts; after a refusal they do not matter
 abbrev pub left_in : Counted → List ℕ → List ℤ → Changed
-left_in (counted.Count n) ids amounts = held (record { ids = ids; amounts = amounts; count = n })
-left_in (counted.Refused code) ids amounts = refused_by code
+left_in (Ok n) ids amounts = held (record { ids = ids; amounts = amounts; count = n })
+left_in (Err code) ids amounts = refused_by code

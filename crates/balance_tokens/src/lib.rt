@@ -3,8 +3,4 @@
 #![tactic(auto)]
 
 // How many tokens are held after a change, or its refusal code.
-#[derive(Clone, Copy)]
-pub enum Counted {
-    Count(usize),
-    Refused(u8),
-}
+pub type Counted = Result<usize, u8>;

@@ -1,7 +1,7 @@
 -- Laws of eight bytes: what was written is read back, and the turn of the loop that reads.
 use mathlib.Core.Path.{◌≡◌, refl, sym, ap, ◌∙◌}
 use mathlib.Core.List.{List, [], ◌∷◌, ◌++◌}
-use Prim.Native.Nat.{ℕ, zero, suc, ◌+◌, ◌-◌, ◌*◌, ◌/◌, ◌%◌, ◌<◌, ◌≤◌, ◌^◌}
+use Prim.Native.Nat.{ℕ, suc, ◌+◌, ◌*◌, ◌/◌, ◌%◌, ◌<◌, ◌≤◌, ◌^◌}
 use native.Mathlib.Numerals.{add-one}
 use native.Mathlib.Nat.{lt_of_lt_of_le, pow-suc, div-div-eq-div-mul, div-eq_of_lt, div-one}
 use native.Mathlib.Omega.{arith}
@@ -76,12 +76,15 @@ value_snoc n [] b = refl
 value_snoc n (x ∷ xs) b = value_snoc (n * 256 + x) xs b
 
 -- one byte more
+pub value_turn : (l : List ℕ) (i n : ℕ) → i < length l → n ≡ value_of 0 (take i l) → n * 256 + get_or l i 0 ≡ value_of 0 (take (i + 1) l)
+value_turn l i n h e =
+    sym (ap (λ (j : ℕ). value_of 0 (take j l)) (add-one i) ∙ ap (value_of 0) (take-suc l i 0 h) ∙ value_snoc 0 (take i l) (get_or l i 0)
+    ∙ ap (λ (m : ℕ). m * 256 + get_or l i 0) (sym e))
+
 pub value_step : (s : List ℕ) (at i n : ℕ) → at + i < length s → n ≡ value_of 0 (take i (drop at s)) → n * 256 + get_or s (at + i) 0 ≡ value_of 0 (take (i + 1) (drop at s))
 value_step s at i n h e =
     let k : i < length (drop at s) = rw length-drop (omega arith) in
-    sym (ap (λ (j : ℕ). value_of 0 (take j (drop at s))) (add-one i) ∙ ap (value_of 0) (take-suc (drop at s) i 0 k)
-    ∙ value_snoc 0 (take i (drop at s)) (get_or (drop at s) i 0)
-    ∙ ap (λ (m : ℕ). m * 256 + get_or (drop at s) i 0) (sym e) ∙ ap (λ (b : ℕ). n * 256 + b) (get_or-drop at s i 0))
+    ap (λ (b : ℕ). n * 256 + b) (sym (get_or-drop at s i 0)) ∙ value_turn (drop at s) i n k e
 
 -- i bytes hold a number below 2 ^ (8 i): there is room for one byte more before the eighth
 pub value_room : (i n : ℕ) → i < 8 → n < 2 ^ (8 * i) → n < 72057594037927936

@@ -12,15 +12,15 @@ fn wide(x: u8) -> u64
 }
 
 // The number in the eight bytes at a position.
+#[tactic(auto, using(crate::proofs::ByteLaws::value_turn, crate::proofs::ByteLaws::value_grown), unfolding(crate::specs::BigEndian::value_of, crate::specs::BigEndian::value_at))]
 pub fn get_u64(s: &[u8], at: usize) -> u64
     requires { at + 8 ≤ length s.now }
     ensures { result ≡ value_at s.now at }
 {
+    let end = at + 8;
     let mut n: u64 = 0;
-    let mut i = 0;
-    while i < 8 {
-        n = n * 256 + wide(s[at + i]);
-        i += 1;
+    for &b in &s[at..end] {
+        n = n * 256 + wide(b);
     }
     n
 }

@@ -1,13 +1,13 @@
 -- Laws of data blocks: padding the last one, and the states between blocks.
-use Prim.Native.Nat.{ℕ, zero, suc, ◌+◌, ◌-◌, ◌*◌, ◌/◌, ◌%◌, ◌^◌, ◌<◌, ◌≤◌}
+use Prim.Native.Nat.{ℕ, zero, suc, ◌+◌, ◌-◌, ◌*◌, ◌/◌, ◌^◌, ◌≤◌}
 use mathlib.Core.Path.{◌≡◌, refl, ap, ◌∙◌}
 use mathlib.Core.Bool.{true, false}
 use mathlib.Core.List.{List, [], ◌∷◌, ◌++◌}
 use native.Mathlib.Nat.{zero-add}
 use native.Mathlib.Numerals.{add-one}
 use native.Mathlib.Omega.{arith}
-use lib.ListN.{get_or, length, take, drop, set, replicate, length-drop}
-use lib.Seq.{take_all, get_or-drop, paste-suc}
+use lib.ListN.{get_or, length, take, drop, replicate, length-append, length-drop, length-replicate}
+use lib.Seq.{take_all, get_or-drop}
 use Rattle.blake2b_spec.specs.Blake2b.{tabulate, le32, le64, compress, block, absorbed, before_last, final}
 
 -- ---- the copy of a list's rest over zeros
@@ -23,23 +23,14 @@ append_zeros [] zs z k = z k
 append_zeros (x ∷ xs) zs z zero = refl
 append_zeros (x ∷ xs) zs z (suc k) = append_zeros xs zs z k
 
--- d with the first i of s copied over it
-abbrev pub copied : List ℕ → List ℕ → ℕ → List ℕ
-copied d s i = take i s ++ drop i d
-
--- a turn of the loop that copies, and its end
-pub copy_turn : (d s p : List ℕ) (i b : ℕ) → i < length d → i < length s → p ≡ copied d s i → b ≡ get_or s i 0 → set p i b ≡ copied d s (i + 1)
-copy_turn d s p i b hd hs e eb =
-    let q : 0 + i < length d = omega arith in
-    rw (e, eb, add-one i) (rw (zero-add i, zero-add (suc i)) at (paste-suc d 0 s i 0 q hs))
-
-pub copy_end : (m : ℕ) (s p : List ℕ) (at i : ℕ) → length s ≤ at + i → p ≡ copied (replicate m 0) (drop at s) i → (k : ℕ) → get_or p k 0 ≡ get_or s (at + k) 0
-copy_end m s p at i h e k =
-    let full : take i (drop at s) ≡ drop at s = take_all i (drop at s) (simp length-drop (omega arith)) in
-    let zs : List ℕ = drop i (replicate m 0) in
-    let none : (k : ℕ) → get_or zs k 0 ≡ 0 = λ k. get_or-drop i (replicate m 0) k 0 ∙ zeros_at m _ in
-    let whole : p ≡ drop at s ++ zs = e ∙ ap (λ (l : List ℕ). l ++ zs) full in
-    ap (λ (l : List ℕ). get_or l k 0) whole ∙ append_zeros (drop at s) zs none k ∙ get_or-drop at s k 0
+-- q, the rest of s, in front of as many zeros as make m bytes
+pub copied_rest : (m : ℕ) (s q : List ℕ) (at : ℕ) → at ≤ length s → length s - at ≤ m → q ≡ take (length s - at) (drop at s)
+    → (m ≡ length (q ++ drop (length s - at) (replicate m 0))) × ((k : ℕ) → get_or (q ++ drop (length s - at) (replicate m 0)) k 0 ≡ get_or s (at + k) 0)
+copied_rest m s q at h g e =
+    let zs : List ℕ = drop (length s - at) (replicate m 0) in
+    let none : (k : ℕ) → get_or zs k 0 ≡ 0 = λ k. get_or-drop (length s - at) (replicate m 0) k 0 ∙ zeros_at m _ in
+    let all : q ≡ drop at s = e ∙ take_all (length s - at) (drop at s) (omega (arith, length-drop at s)) in
+    rw all (simp (length-append, length-drop, length-replicate) (omega arith), λ k. append_zeros (drop at s) zs none k ∙ get_or-drop at s k 0)
 
 -- ---- a block of the copy
 
@@ -63,21 +54,13 @@ block_padded p s at e = λ j. tabulate (λ i. (ap (le64 p) (zero-add (i * 8)) �
 
 -- ---- the states between blocks
 
--- a full block that is not the last
-pub absorbed_turn : (nn : ℕ) (s h b r : List ℕ) (at : ℕ) → at % 128 ≡ 0 → h ≡ absorbed nn s (at / 128) → b ≡ block s at → r ≡ compress h b (at + 128) false → r ≡ absorbed nn s ((at + 128) / 128)
+-- block k, which is full and not the last
+pub absorbed_turn : (nn : ℕ) (s h b r : List ℕ) (k : ℕ) → h ≡ absorbed nn s k → b ≡ block s (k * 128) → r ≡ compress h b ((k + 1) * 128) false → r ≡ absorbed nn s (k + 1)
 unfolding absorbed
-absorbed_turn nn s h b r at z eh eb er =
-    let k : ℕ = at / 128 in
-    let q : (at + 128) / 128 ≡ suc k = omega arith in
-    let e1 : at ≡ k * 128 = omega arith in
-    let e2 : at + 128 ≡ (k + 1) * 128 = omega arith in
-    rw q (er ∙ (λ i. compress (eh i) ((eb ∙ ap (block s) e1) i) (e2 i) false))
+absorbed_turn nn s h b r k eh eb er = rw add-one (er ∙ (λ i. compress (eh i) (eb i) ((k + 1) * 128) false))
 
 -- the last block
-pub final_block : (nn : ℕ) (s h b r : List ℕ) (at : ℕ) → at % 128 ≡ 0 → at ≤ length s - 1 → length s - at ≤ 128 → h ≡ absorbed nn s (at / 128) → b ≡ block s at → r ≡ compress h b (length s) true → r ≡ final nn s
+pub final_block : (nn : ℕ) (s h b r : List ℕ) (k : ℕ) → k ≡ (length s - 1) / 128 → h ≡ absorbed nn s k → b ≡ block s (k * 128) → r ≡ compress h b (length s) true → r ≡ final nn s
 unfolding final before_last
-final_block nn s h b r at z low last eh eb er =
-    let k : ℕ = (length s - 1) / 128 in
-    let e0 : at / 128 ≡ k = omega arith in
-    let e1 : at ≡ k * 128 = omega arith in
-    er ∙ (λ i. compress ((eh ∙ ap (absorbed nn s) e0) i) ((eb ∙ ap (block s) e1) i) (length s) true)
+final_block nn s h b r k e eh eb er =
+    er ∙ (λ i. compress ((eh ∙ ap (absorbed nn s) e) i) ((eb ∙ ap (λ (n : ℕ). block s (n * 128)) e) i) (length s) true)

@@ -48,11 +48,7 @@ fn padded(s: &[u8], at: usize) -> [u8; 128]
 {
     let mut p = [0u8; 128];
     let n = s.len() - at;
-    let mut i = 0;
-    while i < n {
-        p[i] = s[at + i];
-        i += 1;
-    }
+    p[..n].copy_from_slice(&s[at..]);
     p
 }
 

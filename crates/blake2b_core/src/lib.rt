@@ -44,14 +44,13 @@ pub fn state(s: &[u8], nn: u64) -> [u64; 8]
     let sigma = SIGMA;
     let n = s.len();
     let mut h = start(nn);
-    let mut at = 0;
-    while 128 < n - at {
-        let m = blocks::block(s, at);
-        at += 128;
-        let next = blake2b_compression::compress(&h, &m, &sigma, at as u64, false);
-        h = next;
+    let full = n.saturating_sub(1) / 128;
+    for i in 0..full {
+        let m = blocks::block(s, i * 128);
+        let read = (i + 1) * 128;
+        h = blake2b_compression::compress(&h, &m, &sigma, read as u64, false);
     }
-    let m = blocks::last_block(s, at);
+    let m = blocks::last_block(s, full * 128);
     blake2b_compression::compress(&h, &m, &sigma, n as u64, true)
 }
 
@@ -68,10 +67,8 @@ fn bytes_into(h: &[u64; 8], out: &mut [u8])
     requires { length out.old ≤ 64 }
     ensures { out.new ≡ spec.tabulate (spec.byte_at h.now) (length out.old) }
 {
-    let mut i: usize = 0;
-    while i < out.len() {
-        out[i] = byte_of(h[i / 8], ((i % 8) * 8) as u64);
-        i += 1;
+    for (i, byte) in out.iter_mut().enumerate() {
+        *byte = byte_of(h[i / 8], ((i % 8) * 8) as u64);
     }
 }
 

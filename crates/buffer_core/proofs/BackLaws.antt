@@ -10,7 +10,7 @@ use lib.Seq.{take-append-le, drop_at, get_or-drop, take_all}
 use borrow.Author.Tests.{eq-eqb}
 use Rattle.records.proofs.KeyLaws.{same_eq}
 use Rattle.vlq_core.specs.Groups.{enc}
-use Rattle.vlq_core.specs.declared.Got.TheVariants.{Value}
+use Rattle.std.specs.Prelude.{Ok}
 use Rattle.vlq_core.specs.Reading.{read_at}
 use Rattle.vlq_core.proofs.BackLaws.{read_back}
 use Rattle.vlq_core.proofs.GroupLaws.{enc_length}
@@ -53,12 +53,12 @@ module _ (k : Kind) (p : List ℕ) (long : length p ≡ 32) (n : ℕ) (low : n <
     front : whole Two ≡ (p ++ (kind_byte k ∷ [])) ++ (enc (2 * n) ++ body)
     front = append_assoc p (kind_byte k ∷ enc (2 * n)) body ∙ sym (append_assoc p (kind_byte k ∷ []) (enc (2 * n) ++ body))
 
-    begins : (v : RowEdition) → body_at v (whole v) ≡ Value (number v) (start v)
+    begins : (v : RowEdition) → body_at v (whole v) ≡ Ok (number v, start v)
     begins One = refl
     begins Two =
         ap (λ (s : List ℕ). read_at 32 s number_at) front
         ∙ read_back 32 (2 * n) (p ++ (kind_byte k ∷ [])) body number_at (length-append p (kind_byte k ∷ []) ∙ omega arith) (omega arith) (omega arith)
-        ∙ ap (Value (2 * n)) (sym two_start)
+        ∙ ap (λ x. Ok (2 * n, x)) (sym two_start)
 
     told : (v : RowEdition) → says v k p (pos n) (whole v) (number v) ≡ true
     told One = refl

@@ -3,8 +3,7 @@ use Prim.Native.Nat.{ℕ}
 use mathlib.Core.Path.{◌≡◌, refl}
 use mathlib.Core.Bool.{Bool, true, ◌&&◌}
 use mathlib.Core.List.{List}
-use Rattle.records.specs.declared.Found.{Found}
-use Rattle.records.specs.declared.Found.TheVariants.{At, Nothing}
+use Rattle.std.specs.Prelude.{Option, Some, None}
 use Rattle.index_types.specs.declared.ListCounts.{ListCounts}
 use Rattle.records.specs.Records.{keys}
 use Rattle.records.specs.Find.{find_key}
@@ -46,6 +45,6 @@ pub without_ok : (size limit : ℕ) (key : List ℕ) (c : ListCounts) (l : List 
     → RecordsOk size limit (count_without (find_key key (keys size c.count l)) c) (bytes_without size (find_key key (keys size c.count l)) c l)
 without_ok size limit key c l ok = by_found (find_key key (keys size c.count l)) refl
   where
-    by_found : (f : Found) → f ≡ find_key key (keys size c.count l) → RecordsOk size limit (count_without f c) (bytes_without size f c l)
-    by_found (At i) e = records_ok_after_remove size limit i c l (found_in key size c.count l i (At i) e refl) ok
-    by_found Nothing e = ok
+    by_found : (f : Option ℕ) → f ≡ find_key key (keys size c.count l) → RecordsOk size limit (count_without f c) (bytes_without size f c l)
+    by_found (Some i) e = records_ok_after_remove size limit i c l (found_in key size c.count l i (Some i) e refl) ok
+    by_found None e = ok

@@ -13,8 +13,8 @@ use Rattle.signed.specs.Sign.{is_negative}
 use Rattle.entries.specs.Order.{order_ok}
 use Rattle.entries.specs.Unspent.{unspent_newest_first, stretch, page_places}
 use Rattle.entries.proofs.UnspentLaws.{pages, pages_whole}
-use Rattle.index_types.specs.declared.Paged.{Paged}
-use Rattle.index_types.specs.declared.Paged.TheVariants.{Numbers, Refused}
+use Rattle.std.specs.Prelude.{Ok, Err}
+use Rattle.index_types.specs.Answers.{Paged}
 use Rattle.buffer_core.specs.Edition.{Edition, good}
 use Rattle.buffer_core.specs.Spills.{Sources}
 use Rattle.buffer_core.specs.Rows.{rows_up}
@@ -29,7 +29,7 @@ pub record Entries (E : Edition) (w : Sources) (spills : ℤ) (zs rows : List �
 
 -- the page of a list of entries
 abbrev pub page_from : (entries : List ℤ) (offset n : ℕ) → List ℤ → Paging
-page_from entries offset n out = cond (ltb page_places n) (paging (Refused 33) out) (put_page (stretch offset n (unspent_newest_first entries)) out)
+page_from entries offset n out = cond (ltb page_places n) (paging (Err 33) out) (put_page (stretch offset n (unspent_newest_first entries)) out)
 
 pub page_of_entries : (E : Edition) (w : Sources) (spills : ℤ) (zs rows : List ℤ) → Entries E w spills zs rows
     → (offset n : ℕ) (out : List ℤ) → page_core E w spills zs offset n out ≡ page_from (rows ++ zs) offset n out
@@ -47,8 +47,8 @@ page_same E E' w w' spills spills' zs zs' rows rows' x x' e offset n out =
 
 -- the numbers that a call gave
 abbrev pub given_by : Paged → List ℤ → List ℤ
-given_by (Numbers m) page = take m page
-given_by (Refused code) page = []
+given_by (Ok m) page = take m page
+given_by (Err code) page = []
 
 abbrev pub given : Paging → List ℤ
 given p = given_by p.answer p.page

@@ -13,11 +13,8 @@ use Rattle.records.specs.Changes.{full_for}
 use Rattle.segment_id.specs.declared.Kind.{Kind}
 use Rattle.index_types.specs.declared.HeadCounts.{HeadCounts}
 use Rattle.buffer_core.specs.declared.Direction.{Direction}
-use Rattle.index_types.specs.declared.Appended.TheVariants as appended
-use Rattle.index_types.specs.declared.Popped.TheVariants as popped
-use Rattle.index_types.specs.declared.Flipped.{Flipped}
-use Rattle.index_types.specs.declared.Flipped.TheVariants as flipped
-use Rattle.index_types.specs.declared.Flushed.TheVariants as flushed
+use Rattle.std.specs.Prelude.{Ok, Err}
+use Rattle.index_types.specs.Answers.{Flipped}
 use Rattle.buffer_core.specs.Edition.{Edition, RowRead, bad, good}
 use Rattle.buffer_core.specs.Spills.{sources, spill_read}
 use Rattle.buffer_core.specs.Append.{Appending, appending, spilled, spill_of, append_core, append_ok, append_of}
@@ -32,24 +29,24 @@ both P false p q = q
 
 -- ---- what each call leaves where it is refused
 abbrev pub AppendSame : List ℤ → List ℕ → Appending → Type 0
-AppendSame head staged o = (code : ℕ) → o.answer ≡ appended.Refused code → (o.head ≡ head) × (o.staged ≡ staged)
+AppendSame head staged o = (code : ℕ) → o.answer ≡ Err code → (o.head ≡ head) × (o.staged ≡ staged)
 
 abbrev pub PopSame : List ℤ → Lists → Popping → Type 0
-PopSame head b o = (code : ℕ) → o.answer ≡ popped.Refused code → (o.head ≡ head) × (o.staged ≡ b.staged) × (o.deleted ≡ b.deleted)
+PopSame head b o = (code : ℕ) → o.answer ≡ Err code → (o.head ≡ head) × (o.staged ≡ b.staged) × (o.deleted ≡ b.deleted)
 
 abbrev pub FlipSame : List ℤ → List ℕ → Flipping → Type 0
-FlipSame head staged o = (code : ℕ) → o.answer ≡ flipped.Refused code → (o.head ≡ head) × (o.staged ≡ staged)
+FlipSame head staged o = (code : ℕ) → o.answer ≡ Err code → (o.head ≡ head) × (o.staged ≡ staged)
 
 abbrev pub FlushSame : Lists → Flushing → Type 0
-FlushSame b o = (code : ℕ) → o.answer ≡ flushed.Refused code → (o.table ≡ b.table) × (o.staged ≡ b.staged) × (o.deleted ≡ b.deleted)
+FlushSame b o = (code : ℕ) → o.answer ≡ Err code → (o.table ≡ b.table) × (o.staged ≡ b.staged) × (o.deleted ≡ b.deleted)
 
 module _ (E : Edition) where
   -- ---- append
   module _ (head : List ℤ) (staged : List ℕ) where
-    append_no : (k : ℕ) → AppendSame head staged (appending (appended.Refused k) head staged)
+    append_no : (k : ℕ) → AppendSame head staged (appending (Err k) head staged)
     append_no k code e = (refl, refl)
 
-    append_yes : (h : HeadCounts) (c : ListCounts) (head' : List ℤ) (staged' : List ℕ) → AppendSame head staged (appending (appended.Done h c) head' staged')
+    append_yes : (h : HeadCounts) (c : ListCounts) (head' : List ℤ) (staged' : List ℕ) → AppendSame head staged (appending (Ok (h, c)) head' staged')
     append_yes h c head' staged' code e = let z : ◌≡◌ {A = ℕ} 0 1 = cc in absurd (omega arith)
 
     pub append_core_same : (kind : Kind) (parent : List ℕ) (h : HeadCounts) (z : ℤ) (c : ListCounts) → AppendSame head staged (append_core E kind parent h z c head staged)
@@ -67,11 +64,11 @@ module _ (E : Edition) where
 
   -- ---- pop
   module _ (head : List ℤ) (b : Lists) where
-    pop_no : (k : ℕ) → PopSame head b (popping (popped.Refused k) head b.staged b.deleted)
+    pop_no : (k : ℕ) → PopSame head b (popping (Err k) head b.staged b.deleted)
     pop_no k code e = (refl, refl, refl)
 
     pop_yes : (z : ℤ) (h : HeadCounts) (c d : ListCounts) (head' : List ℤ) (staged' deleted' : List ℕ)
-        → PopSame head b (popping (popped.Number z h c d) head' staged' deleted')
+        → PopSame head b (popping (Ok (z, h, c, d)) head' staged' deleted')
     pop_yes z h c d head' staged' deleted' code e = let z : ◌≡◌ {A = ℕ} 0 1 = cc in absurd (omega arith)
 
     merge_same : (r : RowRead) (key : List ℕ) (spills : ℕ) → PopSame head b (merge_of E r key spills b head)
@@ -94,7 +91,7 @@ module _ (E : Edition) where
 
   -- ---- spend and unspend
   module _ (d : Direction) (parent : List ℕ) (h : HeadCounts) (target : ℤ) (c : ListCounts) (staged : List ℕ) (e : ListCounts) (table : List ℕ) (head : List ℤ) where
-    flip_yes : (c' : ListCounts) (head' : List ℤ) (staged' : List ℕ) → FlipSame head staged (flipping (flipped.Done c') head' staged')
+    flip_yes : (c' : ListCounts) (head' : List ℤ) (staged' : List ℕ) → FlipSame head staged (flipping (Ok c') head' staged')
     flip_yes c' head' staged' code q = let z : ◌≡◌ {A = ℕ} 0 1 = cc in absurd (omega arith)
 
     effect_same : (x : Effect) → FlipSame head staged (done_by E x c head staged)

@@ -16,8 +16,8 @@ use Rattle.entries.specs.Order.{order_ok}
 use Rattle.entries.specs.Tally.{figures}
 use Rattle.entries.proofs.TallyLaws.{adds_up}
 use Rattle.index_types.specs.declared.HeadCounts.{HeadCounts}
-use Rattle.index_types.specs.declared.Tallied.{Tallied}
-use Rattle.index_types.specs.declared.Tallied.TheVariants.{Counts, Refused}
+use Rattle.std.specs.Prelude.{Ok, Err}
+use Rattle.index_types.specs.Answers.{Tallied}
 use Rattle.buffer_core.specs.Edition.{Edition, RowRead, bad, good}
 use Rattle.buffer_core.specs.Spills.{Sources, sources, spill_read}
 use Rattle.buffer_core.specs.Rows.{then_more, then_rows, rows_up}
@@ -51,8 +51,8 @@ rows_512 f h n (suc k) = by_row (f n) (h n) (rows_up f (n + 1) k) (rows_512 f h 
 
 -- document 02, U4: "The three add up to the number of entries": 512 times the spill count, and the head
 abbrev pub AddsUp : ℕ → Tallied → Type 0
-AddsUp n (Counts t) = t.unspent + t.spent + t.unknown ≡ n
-AddsUp n (Refused code) = Unit {0}
+AddsUp n (Ok t) = t.unspent + t.spent + t.unknown ≡ n
+AddsUp n (Err code) = Unit {0}
 
 module _ (E : Edition) where
   core_adds_up : (w : Sources) (spills : ℤ) (zs : List ℤ) → AddsUp (nat_abs spills * 512 + length zs) (tally_core E w spills zs)
@@ -63,7 +63,7 @@ module _ (E : Edition) where
       over (bad code) p = tt
       over (good ys) p = adds_up (ys ++ zs) ∙ length-append ys zs ∙ ap (λ (n : ℕ). n + length zs) p
 
-      by_order : (a b : Bool) → AddsUp (nat_abs spills * 512 + length zs) (cond a (cond b (Refused 11) (tally_over (rows_up (row_checked E w) 0 (nat_abs spills)) zs)) (Refused 10))
+      by_order : (a b : Bool) → AddsUp (nat_abs spills * 512 + length zs) (cond a (cond b (Err 11) (tally_over (rows_up (row_checked E w) 0 (nat_abs spills)) zs)) (Err 10))
       by_order false b = tt
       by_order true true = tt
       by_order true false =
@@ -75,6 +75,6 @@ module _ (E : Edition) where
   tally_adds_up parent h c staged e table head = by_ok (flip_ok E h c staged e table head)
     where
       by_ok : (b : Bool) → AddsUp (nat_abs h.spills * 512 + length (take h.len head))
-          (cond b (tally_core E (sources parent staged c.count table e.count) h.spills (take h.len head)) (Refused 25))
+          (cond b (tally_core E (sources parent staged c.count table e.count) h.spills (take h.len head)) (Err 25))
       by_ok true = core_adds_up (sources parent staged c.count table e.count) h.spills (take h.len head)
       by_ok false = tt

@@ -12,9 +12,7 @@ use Rattle.records.specs.Find.{find_from, distinct}
 use Rattle.records.specs.Checks.{lengths_ok, records_ok, keys_ok}
 use Rattle.buffer_core.specs.declared.Direction.{Direction}
 use Rattle.buffer_core.specs.declared.Direction.TheVariants.{Spend, Unspend}
-use Rattle.buffer_core.specs.declared.Lead.TheVariants.{Leads}
-use Rattle.buffer_core.specs.declared.Low.TheVariants.{Upto}
-use Rattle.index_types.specs.declared.Flushed.TheVariants.{Done}
+use Rattle.std.specs.Prelude.{Ok}
 use Rattle.buffer_core.specs.Edition.{Edition, good, edition_1}
 use Rattle.buffer_core.specs.Spills.{place_at, spill_read}
 use Rattle.buffer_core.specs.Append.{counts_of}
@@ -34,16 +32,16 @@ abbrev pub staged_row_lists : (deleted : ℕ) → Lists
 staged_row_lists n = lists (one_place 1) (replicate 36 0) (one_place 0) (replicate 36 0) (one_place n) (replicate 32 0)
 
 -- "Staged rows whose key is not deleted are written"; "staging and deletion list end empty"
-pub flush_writes : (flush_of short_records (staged_row_lists 0)).answer ≡ Done (one_place 1) (one_place 0) (one_place 0)
+pub flush_writes : (flush_of short_records (staged_row_lists 0)).answer ≡ Ok (one_place 1, one_place 0, one_place 0)
 unfolding flush_of flush_core flushed table_after put_undeleted put_staged remove_key remove_keys new_count lists_ok records_ok keys_ok lengths_ok distinct records find_from same_bytes
 flush_writes = refl
 
-pub flush_leaves_out : (flush_of short_records (staged_row_lists 1)).answer ≡ Done (one_place 0) (one_place 0) (one_place 0)
+pub flush_leaves_out : (flush_of short_records (staged_row_lists 1)).answer ≡ Ok (one_place 0, one_place 0, one_place 0)
 unfolding flush_of flush_core flushed table_after put_undeleted put_staged remove_key remove_keys new_count lists_ok records_ok keys_ok lengths_ok distinct records find_from same_bytes
 flush_leaves_out = refl
 
 -- ---- the halving: of rows that begin with 1, 11 and 21 the first two may hold 15
-pub halving_ends : search_in (λ n. Leads (n * 10 + 1)) 15 0 3 ≡ Upto 2
+pub halving_ends : search_in (λ n. Ok (n * 10 + 1)) 15 0 3 ≡ Ok 2
 unfolding search_by
 halving_ends = refl
 

@@ -9,12 +9,11 @@ use lib.Dec.{leb, eqb}
 use lib.IntN.{ℤ}
 use lib.ListN.{length}
 use borrow.Author.Tests.{le-leb}
-use Rattle.vlq_core.specs.declared.Got.{Got}
-use Rattle.vlq_core.specs.declared.Got.TheVariants as got
+use Rattle.std.specs.Prelude.{Ok, Err}
+use Rattle.vlq_core.specs.Answers.{Got}
 use Rattle.segment_id.specs.declared.Kind.{Kind}
 use Rattle.segment_id.specs.declared.Kind.TheVariants.{Box, Tx}
-use Rattle.segment_core.specs.declared.Counts.{Counts}
-use Rattle.segment_core.specs.declared.Counts.TheVariants as counts
+use Rattle.segment_core.specs.Answers.{Counts}
 use Rattle.segment_core.specs.Reading.{Nums, nums, bad, list_at, counts_at, Seg, seg, no_seg, list_then, counts_then, segment_at, ended}
 use Rattle.segment_core.proofs.ListLaws.{list_most}
 use Rattle.segment_core.proofs.BackLaws.{Writable}
@@ -49,8 +48,8 @@ unfolding segment_at
 segment_few s at = by_txs (list_at s at) refl
   where
     by_counts : (ts bs : List ℤ) → length ts ≤ 512 → length bs ≤ 512 → (x : Counts) → Few (counts_then (seg ts bs) x)
-    by_counts ts bs p q (counts.Both b t n) = (p, q)
-    by_counts ts bs p q (counts.Refused r) = tt
+    by_counts ts bs p q (Ok (b, t, n)) = (p, q)
+    by_counts ts bs p q (Err r) = tt
 
     by_boxes : (ts : List ℤ) → length ts ≤ 512 → (p : ℕ) (x : Nums) → list_at s p ≡ x → Few (list_then (λ bs q. counts_then (seg ts bs) (counts_at s q)) x)
     by_boxes ts h p (nums bs q) e = by_counts ts bs h (list_most s p bs q e) (counts_at s q)
@@ -81,8 +80,8 @@ unfolding row_under
 row_few v kind parent n s = by_limit (leb (length s) (row_limit_of v))
   where
     by_body : (g : Got) → Few (body_then (λ c at. named (says v kind parent n s c) (ended true (length s) (segment_at s at))) g)
-    by_body (got.Value c at) = named_few (says v kind parent n s c) (ended true (length s) (segment_at s at)) (body_few s at)
-    by_body (got.Refused r) = tt
+    by_body (Ok (c, at)) = named_few (says v kind parent n s c) (ended true (length s) (segment_at s at)) (body_few s at)
+    by_body (Err r) = tt
 
     by_limit : (x : Bool) → Few (cond x (body_then (λ c at. named (says v kind parent n s c) (ended true (length s) (segment_at s at))) (body_at v s)) (no_seg 25))
     by_limit true = by_body (body_at v s)
@@ -122,8 +121,8 @@ module _ (v : RowEdition) (k : Kind) (p : List ℕ) (n : ℤ) (s : List ℕ) whe
   by_segment at (no_seg r) e = tt
 
   by_body : (g : Got) → Fine (body_then (λ c at. named (says v k p n s c) (ended true (length s) (segment_at s at))) g)
-  by_body (got.Value c at) = by_name (says v k p n s c) (ended true (length s) (segment_at s at)) (by_end (segment_at s at) (by_segment at (segment_at s at) refl))
-  by_body (got.Refused r) = tt
+  by_body (Ok (c, at)) = by_name (says v k p n s c) (ended true (length s) (segment_at s at)) (by_end (segment_at s at) (by_segment at (segment_at s at) refl))
+  by_body (Err r) = tt
 
   pub row_fine : Fine (row_under v k p n s)
   unfolding row_under

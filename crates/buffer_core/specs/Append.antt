@@ -1,7 +1,7 @@
 -- Append (document 01): "The number goes to the end of the head. A head that would reach 513 stages its first 512 as the row numbered by the spill
 -- count, which grows by 1. Vacated places of a head are set to 0".
 -- Refusals: "11 its spill count negative; 17 negative number; at a head of 512 only: 18 count 2,147,483,647; 16 staging full and key not in it".
-use Rattle.std.specs.Prelude.{ℕ, ◌+◌, Bool, ◌&&◌, cond, List, ◌∷◌, leb, ltb, ℤ, pos, nat_abs, take, set, replicate}
+use Rattle.std.specs.Prelude.{ℕ, ◌+◌, Bool, ◌&&◌, cond, List, ◌∷◌, leb, ltb, ℤ, pos, nat_abs, take, set, replicate, Ok, Err}
 use Rattle.index_types.specs.Limits.{segment_threshold, spill_limit}
 use Rattle.stores.specs.Stores.{write}
 use Rattle.signed.specs.Sign.{is_negative}
@@ -12,8 +12,7 @@ use Rattle.records.specs.Changes.{count_after, with_count, put_record, full_for}
 use Rattle.records.specs.Checks.{records_ok}
 use Rattle.segment_id.specs.declared.Kind.{Kind}
 use Rattle.index_types.specs.declared.HeadCounts.{HeadCounts}
-use Rattle.index_types.specs.declared.Appended.{Appended}
-use Rattle.index_types.specs.declared.Appended.TheVariants.{Done, Refused}
+use Rattle.index_types.specs.Answers.{Appended}
 use Rattle.buffer_core.specs.Edition.{Edition}
 use Rattle.buffer_core.specs.Spills.{head_ok}
 
@@ -44,22 +43,22 @@ module _ (E : Edition) where
   -- the first 512 of the head become the row under the key, and the number is the new head
   unfoldable pub spilled : Kind → (key parent : List ℕ) (spills : ℕ) (number : ℤ) → ListCounts → List ℤ → List ℕ → Appending
   spilled kind key parent spills number c head staged =
-      appending (Done (counts_of 1 (pos (spills + 1))) (counts_with key c staged)) (one_number number head)
+      appending (Ok (counts_of 1 (pos (spills + 1)), counts_with key c staged)) (one_number number head)
       (bytes_with key (E.encode kind parent (pos spills) (take segment_threshold head)) c staged)
 
   -- at a head of 512: 18, then 16
   unfoldable pub spill_of : Kind → (parent : List ℕ) (spills : ℕ) (number : ℤ) → ListCounts → List ℤ → List ℕ → Appending
   spill_of kind parent spills number c head staged =
-      cond (leb spill_limit spills) (appending (Refused 18) head staged)
-      (cond (full_for E.size c (E.key kind parent (pos spills)) staged) (appending (Refused 16) head staged)
+      cond (leb spill_limit spills) (appending (Err 18) head staged)
+      (cond (full_for E.size c (E.key kind parent (pos spills)) staged) (appending (Err 16) head staged)
       (spilled kind (E.key kind parent (pos spills)) parent spills number c head staged))
 
   -- 11, then 17, then the end of the head or a spill
   unfoldable pub append_core : Kind → (parent : List ℕ) → HeadCounts → ℤ → ListCounts → List ℤ → List ℕ → Appending
   append_core kind parent h number c head staged =
-      cond (is_negative h.spills) (appending (Refused 11) head staged)
-      (cond (is_negative number) (appending (Refused 17) head staged)
-      (cond (ltb h.len segment_threshold) (appending (Done (counts_of (h.len + 1) h.spills) c) (set head h.len number) staged)
+      cond (is_negative h.spills) (appending (Err 11) head staged)
+      (cond (is_negative number) (appending (Err 17) head staged)
+      (cond (ltb h.len segment_threshold) (appending (Ok (counts_of (h.len + 1) h.spills, c)) (set head h.len number) staged)
       (spill_of kind parent (nat_abs h.spills) number c head staged)))
 
   -- 25 of an append: the head and the staged spills
@@ -68,4 +67,4 @@ module _ (E : Edition) where
 
   unfoldable pub append_of : Kind → (parent : List ℕ) → HeadCounts → ℤ → ListCounts → List ℤ → List ℕ → Appending
   append_of kind parent h number c head staged =
-      cond (append_ok h c head staged) (append_core kind parent h number c head staged) (appending (Refused 25) head staged)
+      cond (append_ok h c head staged) (append_core kind parent h number c head staged) (appending (Err 25) head staged)

@@ -2,12 +2,11 @@
 -- Every definition of the buffer's calls takes the edition as an argument. Document 02, U7: "Edition 2 of the row writes them out: the parent's 32 bytes,
 -- a kind byte (1 box, 2 transaction), the spill number as a 32-bit coded number, then the old body. Its rows may have 10,292 bytes and its records grow
 -- alike". "35 when the written parent, kind or number differs from those behind the key, tested after the row is decoded and before 13 or 20."
-use Rattle.std.specs.Prelude.{ℕ, Bool, true, cond, ◌&&◌, List, [], ◌∷◌, ◌++◌, leb, eqb, ℤ, pos, length, take, get_or}
+use Rattle.std.specs.Prelude.{ℕ, Bool, true, cond, ◌&&◌, List, [], ◌∷◌, ◌++◌, leb, eqb, ℤ, pos, length, take, get_or, Ok, Err}
 use Rattle.stores.specs.Equal.{same_bytes}
 use Rattle.vlq_core.specs.Zigzag.{zig}
 use Rattle.vlq_core.specs.Groups.{enc}
-use Rattle.vlq_core.specs.declared.Got.{Got}
-use Rattle.vlq_core.specs.declared.Got.TheVariants.{Value, Refused}
+use Rattle.vlq_core.specs.Answers.{Got}
 use Rattle.vlq_core.specs.Reading.{read_at}
 use Rattle.segment_id.specs.Key.{row_key}
 use Rattle.segment_id.specs.declared.Kind.{Kind}
@@ -65,7 +64,7 @@ header Two kind parent n = parent ++ (kind_byte kind ∷ enc (zig n))
 
 -- the coded spill number that a row writes and where its body begins; a header that is cut gives 1
 abbrev pub body_at : RowEdition → List ℕ → Got
-body_at One s = Value 0 0
+body_at One s = Ok (0, 0)
 body_at Two s = read_at 32 s number_at
 
 -- whether the row s, which writes the coded number c, is of the spill that it should be of
@@ -91,8 +90,8 @@ named is (seg ts bs b t n) = cond is (seg ts bs b t n) (no_seg 35)
 named is (no_seg r) = no_seg r
 
 abbrev pub body_then : (ℕ → ℕ → Seg) → Got → Seg
-body_then f (Value c n) = f c n
-body_then f (Refused r) = no_seg r
+body_then f (Ok (c, n)) = f c n
+body_then f (Err r) = no_seg r
 
 -- the row s under the key of a spill: 25, the header's and the body's refusals, 8, 35
 unfoldable pub row_under : RowEdition → Kind → (parent : List ℕ) → ℤ → List ℕ → Seg

@@ -5,7 +5,7 @@
 -- one, a row whose first absolute value is below the target ends the walk."
 -- Refusals: "9 target -2^63; 10 head holds -2^63 or absolute values fall; 11; per row read: 12 missing, 1 to 6, 8, 13 not 512 numbers or as in 10;
 -- 16 as in append at a match on the shelf; else 14 target seen, no copy of the wanted sign; 15 target not seen".
-use Rattle.std.specs.Prelude.{Bool, true, false, cond, ◌&&◌, ◌||◌, List, [], ℕ, zero, suc, ◌+◌, ◌*◌, ◌-◌, ◌/◌, eqb, ltb, leb, ℤ, pos, nat_abs, length, take, get_or}
+use Rattle.std.specs.Prelude.{Bool, true, false, cond, ◌&&◌, ◌||◌, List, [], ℕ, zero, suc, ◌+◌, ◌*◌, ◌-◌, ◌/◌, eqb, ltb, leb, ℤ, pos, nat_abs, length, take, get_or, Ok, Err}
 use Rattle.index_types.specs.Limits.{segment_threshold}
 use Rattle.stores.specs.Stores.{write}
 use Rattle.signed.specs.Sign.{is_negative}
@@ -24,12 +24,9 @@ use Rattle.segment_id.specs.declared.Kind.TheVariants.{Box}
 use Rattle.index_types.specs.declared.HeadCounts.{HeadCounts}
 use Rattle.buffer_core.specs.declared.Direction.{Direction}
 use Rattle.buffer_core.specs.declared.Direction.TheVariants.{Spend, Unspend}
-use Rattle.index_types.specs.declared.Flipped.{Flipped}
-use Rattle.index_types.specs.declared.Flipped.TheVariants.{Done, Refused}
-use Rattle.buffer_core.specs.declared.Lead.{Lead}
-use Rattle.buffer_core.specs.declared.Lead.TheVariants.{Leads, NoLead}
-use Rattle.buffer_core.specs.declared.Low.{Low}
-use Rattle.buffer_core.specs.declared.Low.TheVariants.{Upto, Broken}
+use Rattle.index_types.specs.Answers.{Flipped}
+use Rattle.buffer_core.specs.Answers.{Lead}
+use Rattle.buffer_core.specs.Answers.{Low}
 use Rattle.buffer_core.specs.declared.Look.{Look}
 use Rattle.buffer_core.specs.declared.Look.TheVariants.{Take, Stop, Next, Fail}
 use Rattle.buffer_core.specs.declared.Walk.{Walk}
@@ -52,23 +49,23 @@ last_in zs = nat_abs (get_or zs 511 (pos 0))
 
 -- ---- the halving: f gives the first absolute value of each row
 abbrev pub lead_of : RowRead → Lead
-lead_of (good zs) = Leads (first_of zs)
-lead_of (bad code) = NoLead code
+lead_of (good zs) = Ok (first_of zs)
+lead_of (bad code) = Err code
 
 abbrev pub half : Lead → (target : ℕ) → (upper lower : Low) → Low
-half (Leads x) target upper lower = cond (leb x target) upper lower
-half (NoLead code) target upper lower = Broken code
+half (Ok x) target upper lower = cond (leb x target) upper lower
+half (Err code) target upper lower = Err code
 
 abbrev pub middle : (low high : ℕ) → ℕ
 middle low high = low + (high - low) / 2
 
 -- the first number bounds the calls; high - low falls at each
 unfoldable pub search_by : (ℕ → Lead) → (target : ℕ) → ℕ → (low high : ℕ) → Low
-search_by f target zero low high = Upto low
+search_by f target zero low high = Ok low
 search_by f target (suc k) low high =
     cond (ltb low high)
     (half (f (middle low high)) target (search_by f target k (middle low high + 1) high) (search_by f target k low (middle low high)))
-    (Upto low)
+    (Ok low)
 
 abbrev pub search_in : (ℕ → Lead) → (target low high : ℕ) → Low
 search_in f target low high = search_by f target (high - low) low high
@@ -127,9 +124,9 @@ spends Unspend = false
 
 module _ (E : Edition) where
   abbrev pub done_by : Effect → ListCounts → List ℤ → List ℕ → Flipping
-  done_by (refuse code) c head staged = flipping (Refused code) head staged
-  done_by (flip_head i) c head staged = flipping (Done c) (flipped_at (At i) head) staged
-  done_by (stage slot count key row) c head staged = flipping (Done (with_count count c)) head (write (slot * E.size) (record_of E.size key row) staged)
+  done_by (refuse code) c head staged = flipping (Err code) head staged
+  done_by (flip_head i) c head staged = flipping (Ok c) (flipped_at (At i) head) staged
+  done_by (stage slot count key row) c head staged = flipping (Ok (with_count count c)) head (write (slot * E.size) (record_of E.size key row) staged)
 
   -- the row of a spill number, checked
   abbrev pub row_checked : Sources → ℕ → RowRead
@@ -167,8 +164,8 @@ module _ (E : Edition) where
   after_walk w capacity (Failed code) = refuse code
 
   abbrev pub after_search : Sources → (capacity target : ℕ) → (spend seen : Bool) → Low → Effect
-  after_search w capacity target d seen (Upto low) = after_walk w capacity (walk_from (look_at w target d) low seen)
-  after_search w capacity target d seen (Broken code) = refuse code
+  after_search w capacity target d seen (Ok low) = after_walk w capacity (walk_from (look_at w target d) low seen)
+  after_search w capacity target d seen (Err code) = refuse code
 
   unfoldable pub in_rows : Sources → (capacity target : ℕ) → (spend : Bool) → (spills : ℕ) → (seen : Bool) → Effect
   in_rows w capacity target d spills seen = after_search w capacity target d seen (search_in (lead_at w) target 0 spills)
@@ -195,4 +192,4 @@ module _ (E : Edition) where
 
   unfoldable pub flip_of : Direction → (parent : List ℕ) → HeadCounts → ℤ → ListCounts → (staged : List ℕ) → ListCounts → (table : List ℕ) → List ℤ → Flipping
   flip_of d parent h target c staged e table head =
-      cond (flip_ok h c staged e table head) (flip_core d parent h target c staged e table head) (flipping (Refused 25) head staged)
+      cond (flip_ok h c staged e table head) (flip_core d parent h target c staged e table head) (flipping (Err 25) head staged)

@@ -1,15 +1,13 @@
 -- Flush (document 01): "Staged rows whose key is not deleted are written, then deleted keys removed, each in list order; staging and deletion list end
 -- empty, all zero. A row spilled again after its key was deleted is thus lost."
 -- Refusal: "22 staged undeleted keys not on the shelf outnumber its free records, those of deleted keys not counted free".
-use Rattle.std.specs.Prelude.{ℕ, ◌+◌, ◌-◌, not, ◌&&◌, cond, List, [], ◌∷◌, leb}
+use Rattle.std.specs.Prelude.{ℕ, ◌+◌, ◌-◌, not, ◌&&◌, cond, List, [], ◌∷◌, leb, Option, Ok, Err}
 use Rattle.entries.specs.Tally.{one_if}
-use Rattle.records.specs.declared.Found.{Found}
 use Rattle.index_types.specs.declared.ListCounts.{ListCounts}
 use Rattle.records.specs.Records.{records, key_of, keys, stored_row, record_of}
 use Rattle.records.specs.Find.{find_key, is_found}
 use Rattle.records.specs.Changes.{count_after, with_count, put_record, clear_records}
-use Rattle.index_types.specs.declared.Flushed.{Flushed}
-use Rattle.index_types.specs.declared.Flushed.TheVariants.{Done, Refused}
+use Rattle.index_types.specs.Answers.{Flushed}
 use Rattle.buffer_core.specs.Edition.{Edition}
 use Rattle.buffer_core.specs.Pop.{Lists, count_without, bytes_without, lists_ok}
 
@@ -37,7 +35,7 @@ abbrev pub listed : ListCounts → List ℕ → Listed
 listed c l = record { counts = c; bytes = l }
 
 module _ (E : Edition) where
-  abbrev pub found_in : List ℕ → Listed → Found
+  abbrev pub found_in : List ℕ → Listed → Option ℕ
   found_in key t = find_key key (keys E.size t.counts.count t.bytes)
 
   -- a staged record's row is put under its key
@@ -70,7 +68,7 @@ module _ (E : Edition) where
 
   unfoldable pub flushed : Lists → Flushing
   flushed b =
-      flushing (Done (table_after b).counts (with_count 0 b.staged_counts) (with_count 0 b.deleted_counts)) (table_after b).bytes
+      flushing (Ok ((table_after b).counts, with_count 0 b.staged_counts, with_count 0 b.deleted_counts)) (table_after b).bytes
       (clear_records E.size b.staged_counts.capacity b.staged) (clear_records 32 b.deleted_counts.capacity b.deleted)
 
   abbrev pub new_keys : Lists → ℕ
@@ -79,7 +77,7 @@ module _ (E : Edition) where
   -- 22, or the flush
   unfoldable pub flush_core : Lists → Flushing
   flush_core b =
-      cond (leb (new_keys b) (b.table_counts.capacity - b.table_counts.count)) (flushed b) (flushing (Refused 22) b.table b.staged b.deleted)
+      cond (leb (new_keys b) (b.table_counts.capacity - b.table_counts.count)) (flushed b) (flushing (Err 22) b.table b.staged b.deleted)
 
   unfoldable pub flush_of : Lists → Flushing
-  flush_of b = cond (lists_ok E b) (flush_core b) (flushing (Refused 25) b.table b.staged b.deleted)
+  flush_of b = cond (lists_ok E b) (flush_core b) (flushing (Err 25) b.table b.staged b.deleted)

@@ -8,3 +8,4 @@ pub mod Rows
 pub mod Tally
 pub mod Page
 pub mod Flush
+pub mod Answers

@@ -1,10 +1,8 @@
 -- Pop (document 01): "The last of the head; on an empty head the newest row becomes the head first, leaves staging, and its key joins the deletion list."
 -- Refusals: "11; 19 head empty and count 0; 12; 1 to 6, 8; 20 no number of that kind in it; 21 list full and key not in it".
-use Rattle.std.specs.Prelude.{ℕ, ◌-◌, Bool, ◌&&◌, cond, List, ltb, eqb, ℤ, pos, nat_abs, length, get_or, set}
+use Rattle.std.specs.Prelude.{ℕ, ◌-◌, Bool, ◌&&◌, cond, List, ltb, eqb, ℤ, pos, nat_abs, length, get_or, set, Option, Some, None, Ok, Err}
 use Rattle.stores.specs.Stores.{write}
 use Rattle.signed.specs.Sign.{is_negative}
-use Rattle.records.specs.declared.Found.{Found}
-use Rattle.records.specs.declared.Found.TheVariants.{At, Nothing}
 use Rattle.index_types.specs.declared.ListCounts.{ListCounts}
 use Rattle.records.specs.Records.{keys}
 use Rattle.records.specs.Find.{find_key}
@@ -13,8 +11,7 @@ use Rattle.records.specs.Checks.{records_ok, keys_ok}
 use Rattle.segment_id.specs.declared.Kind.{Kind}
 use Rattle.segment_core.specs.Loading.{padded}
 use Rattle.index_types.specs.declared.HeadCounts.{HeadCounts}
-use Rattle.index_types.specs.declared.Popped.{Popped}
-use Rattle.index_types.specs.declared.Popped.TheVariants.{Number, Refused}
+use Rattle.index_types.specs.Answers.{Popped}
 use Rattle.buffer_core.specs.Edition.{Edition, RowRead, bad, good}
 use Rattle.buffer_core.specs.Spills.{sources, spill_read, head_ok}
 use Rattle.buffer_core.specs.Append.{counts_of}
@@ -43,13 +40,13 @@ lists c staged d table e deleted =
     record { staged_counts = c; staged = staged; table_counts = d; table = table; deleted_counts = e; deleted = deleted }
 
 -- a record list without the record that was found
-abbrev pub count_without : Found → ListCounts → ListCounts
-count_without (At i) c = with_count (c.count - 1) c
-count_without Nothing c = c
+abbrev pub count_without : Option ℕ → ListCounts → ListCounts
+count_without (Some i) c = with_count (c.count - 1) c
+count_without None c = c
 
-abbrev pub bytes_without : (size : ℕ) → Found → ListCounts → List ℕ → List ℕ
-bytes_without size (At i) c l = remove_record size c.count i l
-bytes_without size Nothing c l = l
+abbrev pub bytes_without : (size : ℕ) → Option ℕ → ListCounts → List ℕ → List ℕ
+bytes_without size (Some i) c l = remove_record size c.count i l
+bytes_without size None c l = l
 
 -- the last of a head's n numbers, and the head without it
 abbrev pub last_of : ℕ → List ℤ → ℤ
@@ -63,28 +60,32 @@ abbrev pub row_head : List ℤ → List ℤ → List ℤ
 row_head zs head = write 0 (padded zs) head
 
 module _ (E : Edition) where
-  abbrev pub staged_at : List ℕ → Lists → Found
+  abbrev pub staged_at : List ℕ → Lists → Option ℕ
   staged_at key b = find_key key (keys E.size b.staged_counts.count b.staged)
 
-  abbrev pub deleted_at : List ℕ → Lists → Found
+  abbrev pub deleted_at : List ℕ → Lists → Option ℕ
   deleted_at key b = find_key key (keys 32 b.deleted_counts.count b.deleted)
 
   -- the row's numbers become the head, which loses its last; the key leaves the staged spills and joins the deleted ones
   unfoldable pub merged : (key : List ℕ) (spills : ℕ) → List ℤ → Lists → List ℤ → Popping
   merged key spills zs b head =
       popping
-      (Number (last_of (length zs) (row_head zs head)) (counts_of (length zs - 1) (pos spills)) (count_without (staged_at key b) b.staged_counts)
-      (with_count (count_after (deleted_at key b) b.deleted_counts.count) b.deleted_counts))
+      (Ok (
+        last_of (length zs) (row_head zs head),
+        counts_of (length zs - 1) (pos spills),
+        count_without (staged_at key b) b.staged_counts,
+        with_count (count_after (deleted_at key b) b.deleted_counts.count) b.deleted_counts,
+      ))
       (without_last (length zs) (row_head zs head))
       (bytes_without E.size (staged_at key b) b.staged_counts b.staged)
       (put_record 32 b.deleted_counts.count key key b.deleted)
 
   -- the row that was read: its refusal, 20, 21, or it is merged back
   unfoldable pub merge_of : RowRead → (key : List ℕ) (spills : ℕ) → Lists → List ℤ → Popping
-  merge_of (bad code) key spills b head = popping (Refused code) head b.staged b.deleted
+  merge_of (bad code) key spills b head = popping (Err code) head b.staged b.deleted
   merge_of (good zs) key spills b head =
-      cond (eqb (length zs) 0) (popping (Refused 20) head b.staged b.deleted)
-      (cond (full_for 32 b.deleted_counts key b.deleted) (popping (Refused 21) head b.staged b.deleted)
+      cond (eqb (length zs) 0) (popping (Err 20) head b.staged b.deleted)
+      (cond (full_for 32 b.deleted_counts key b.deleted) (popping (Err 21) head b.staged b.deleted)
       (merged key spills zs b head))
 
   -- the newest row of a head with spills + 1 rows
@@ -96,11 +97,11 @@ module _ (E : Edition) where
   -- 11, then the last of the head, 19, or the newest row
   unfoldable pub pop_core : Kind → (parent : List ℕ) → HeadCounts → Lists → List ℤ → Popping
   pop_core kind parent h b head =
-      cond (is_negative h.spills) (popping (Refused 11) head b.staged b.deleted)
+      cond (is_negative h.spills) (popping (Err 11) head b.staged b.deleted)
       (cond (ltb 0 h.len)
-      (popping (Number (last_of h.len head) (counts_of (h.len - 1) h.spills) b.staged_counts b.deleted_counts) (without_last h.len head)
+      (popping (Ok (last_of h.len head, counts_of (h.len - 1) h.spills, b.staged_counts, b.deleted_counts)) (without_last h.len head)
       b.staged b.deleted)
-      (cond (eqb (nat_abs h.spills) 0) (popping (Refused 19) head b.staged b.deleted)
+      (cond (eqb (nat_abs h.spills) 0) (popping (Err 19) head b.staged b.deleted)
       (unspill_of kind parent (nat_abs h.spills - 1) b head)))
 
   -- 25 of a pop: the head and all three lists
@@ -113,4 +114,4 @@ module _ (E : Edition) where
   pop_ok h b head = head_ok h head && lists_ok b
 
   unfoldable pub pop_of : Kind → (parent : List ℕ) → HeadCounts → Lists → List ℤ → Popping
-  pop_of kind parent h b head = cond (pop_ok h b head) (pop_core kind parent h b head) (popping (Refused 25) head b.staged b.deleted)
+  pop_of kind parent h b head = cond (pop_ok h b head) (pop_core kind parent h b head) (popping (Err 25) head b.staged b.deleted)

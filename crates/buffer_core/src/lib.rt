@@ -36,18 +36,10 @@ pub fn is_spend(direction: Direction) -> bool
 // ---- the steps of a spend
 
 // The absolute value of a row's first number, or the row's refusal code.
-#[derive(Clone, Copy)]
-pub enum Lead {
-    Leads(u64),
-    NoLead(u8),
-}
+pub type Lead = Result<u64, u8>;
 
 // How many rows, from spill 0 on, begin at or below the target, or the refusal code of a row that was read.
-#[derive(Clone, Copy)]
-pub enum Low {
-    Upto(usize),
-    Broken(u8),
-}
+pub type Low = Result<usize, u8>;
 
 // What a row shows: the place of the entry to take; that the walk ends, or goes on, and whether the target was seen; or the row's refusal code.
 #[derive(Clone, Copy)]

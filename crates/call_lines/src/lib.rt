@@ -42,14 +42,12 @@ pub fn put_lines(first: u64, answers: &[u8], numbers: &[i64], n: usize, out: &mu
     ensures { Put (lines_from first answers.now numbers.now 0 «n») out.old 0 result out.new }
 {
     let mut at = 0;
-    let mut i = 0;
-    while i < n {
+    for (i, number) in numbers[..n].iter().enumerate() {
         let code_at = i * 2;
         let popped_at = code_at + 1;
         let ordinal = first + (i as u64);
         let popped = answers[popped_at] == 1;
-        at = put_line(ordinal, answers[code_at], popped, numbers[i], out, at);
-        i += 1;
+        at = put_line(ordinal, answers[code_at], popped, *number, out, at);
     }
     at
 }

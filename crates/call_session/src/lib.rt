@@ -253,8 +253,7 @@ pub fn make_calls_of_input<R: Read, W: Write, E: Eprint>(source: &mut R, to: &mu
     let mut answers = [0u8; 2048];
     let mut popped = [0i64; 1024];
     let mut s = start();
-    let mut turns: u64 = 9007199254740992;
-    while 0 < turns {
+    for _ in 0..9007199254740992_u64 {
         s = turn(
             source,
             to,
@@ -273,10 +272,8 @@ pub fn make_calls_of_input<R: Read, W: Write, E: Eprint>(source: &mut R, to: &mu
         );
         let place = s.place;
         let next = place.next;
-        if call_input::goes_on(next) {
-            turns -= 1;
-        } else {
-            turns = 0;
+        if !call_input::goes_on(next) {
+            break;
         }
     }
     let place = s.place;

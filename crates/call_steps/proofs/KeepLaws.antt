@@ -21,17 +21,14 @@ use Rattle.records.proofs.CheckLaws.{and_left, and_right, and_true}
 use Rattle.index_types.specs.declared.RowEdition.TheVariants.{One}
 use Rattle.buffer_core.specs.Edition.{edition_1}
 use Rattle.buffer_core.specs.Spills.{head_ok}
-use Rattle.index_types.specs.declared.Appended.{Appended}
-use Rattle.index_types.specs.declared.Appended.TheVariants as appended
+use Rattle.std.specs.Prelude.{Ok, Err}
+use Rattle.index_types.specs.Answers.{Appended}
 use Rattle.buffer_core.specs.Append.{Appending, appending, append_ok, append_core, append_of}
 use Rattle.append_core.proofs.KeepLaws.{AppendKept, append_keeps}
 use Rattle.buffer_core.specs.declared.Direction.{Direction}
-use Rattle.index_types.specs.declared.Popped.{Popped}
-use Rattle.index_types.specs.declared.Popped.TheVariants as popped
-use Rattle.index_types.specs.declared.Flipped.{Flipped}
-use Rattle.index_types.specs.declared.Flipped.TheVariants as flipped
-use Rattle.index_types.specs.declared.Flushed.{Flushed}
-use Rattle.index_types.specs.declared.Flushed.TheVariants as flushed
+use Rattle.index_types.specs.Answers.{Popped}
+use Rattle.index_types.specs.Answers.{Flipped}
+use Rattle.index_types.specs.Answers.{Flushed}
 use Rattle.buffer_core.specs.Pop.{Popping, popping, Lists, lists, lists_ok, pop_ok, pop_core, pop_of}
 use Rattle.buffer_core.specs.Flush.{Flushing, flushing, flush_core, flush_of}
 use Rattle.pop_core.proofs.KeepLaws.{PopKept, pop_keeps}
@@ -155,7 +152,7 @@ module _ (parents : ℕ) (s : State) (r : Ready parents s) (p : ℕ) (h : p < pa
     append_by_answer : (a : Appended) (head : List ℤ) (staged : List ℕ) → AppendKept One (appending a head staged)
         → AppendSame (head_of k p s.numbers) s.lists.staged (appending a head staged) → Appended·kept (appending a head staged)
     unfolding append_ok
-    append_by_answer (appended.Done n c) head staged kept same =
+    append_by_answer (Ok (n, c)) head staged kept same =
         let t = kept n c refl in
         let g = head_facts n head (and_left (head_ok n head) _ t) in
         record {
@@ -163,7 +160,7 @@ module _ (parents : ℕ) (s : State) (r : Ready parents s) (p : ℕ) (h : p < pa
           few = λ q i j. set_few s.lengths (length_at k p) n.len g.few (length_at j q) (r.few q i j);
           listed = listing _ (and_right (head_ok n head) _ t) (table_ok s.lists r.listed) (deleted_ok s.lists r.listed);
         }
-    append_by_answer (appended.Refused code) head staged kept same =
+    append_by_answer (Err code) head staged kept same =
         let e = same code refl in
         record {
           blocks = blocks_with k head _ _ (omega (arith, head_long k, ap length e.0)) refl refl;
@@ -189,7 +186,7 @@ module _ (parents : ℕ) (s : State) (r : Ready parents s) (p : ℕ) (h : p < pa
     pop_by_answer : (a : Popped) (head : List ℤ) (staged deleted : List ℕ) → PopKept One s.lists (popping a head staged deleted)
         → PopSame (head_of k p s.numbers) s.lists (popping a head staged deleted) → Popped·kept (popping a head staged deleted)
     unfolding pop_ok
-    pop_by_answer (popped.Number v n c e) head staged deleted kept same =
+    pop_by_answer (Ok (v, n, c, e)) head staged deleted kept same =
         let t = kept v n c e refl in
         let g = head_facts n head (and_left (head_ok n head) _ t) in
         record {
@@ -197,7 +194,7 @@ module _ (parents : ℕ) (s : State) (r : Ready parents s) (p : ℕ) (h : p < pa
           few = λ q i j. set_few s.lengths (length_at k p) n.len g.few (length_at j q) (r.few q i j);
           listed = and_right (head_ok n head) _ t;
         }
-    pop_by_answer (popped.Refused code) head staged deleted kept same =
+    pop_by_answer (Err code) head staged deleted kept same =
         let e = same code refl in
         record {
           blocks = blocks_with k head _ _ (omega (arith, head_long k, ap length e.0)) refl refl;
@@ -227,7 +224,7 @@ module _ (parents : ℕ) (s : State) (r : Ready parents s) (p : ℕ) (h : p < pa
 
     flip_by_answer : (a : Flipped) (head : List ℤ) (staged : List ℕ) → flipping a head staged ≡ flip_answer → Flipped·kept (flipping a head staged)
     unfolding flip_ok
-    flip_by_answer (flipped.Done c) head staged e =
+    flip_by_answer (Ok c) head staged e =
         let n = head_counts Box p s.lengths s.spills in
         let t = flip_keeps One d (parent_id p s.ids) n z s.lists.staged_counts s.lists.staged s.lists.table_counts s.lists.table (head_of Box p s.numbers) head staged id_long c flip_passes e in
         let g = head_facts n head (and_left (head_ok n head) _ t) in
@@ -236,7 +233,7 @@ module _ (parents : ℕ) (s : State) (r : Ready parents s) (p : ℕ) (h : p < pa
           few = r.few;
           listed = listing _ (and_left (records_ok 10288 10254 c staged) _ (and_right (head_ok n head) _ t)) (table_ok s.lists r.listed) (deleted_ok s.lists r.listed);
         }
-    flip_by_answer (flipped.Refused code) head staged e =
+    flip_by_answer (Err code) head staged e =
         let n = head_counts Box p s.lengths s.spills in
         let f = flip_refused One d (parent_id p s.ids) n z s.lists.staged_counts s.lists.staged s.lists.table_counts s.lists.table (head_of Box p s.numbers) head staged code e in
         record {
@@ -275,7 +272,7 @@ module _ (parents : ℕ) (s : State) (r : Ready parents s) (p : ℕ) (h : p < pa
 module _ (parents : ℕ) (s : State) (r : Ready parents s) where
   flush_by_answer : (a : Flushed) (table staged deleted : List ℕ) → flushing a table staged deleted ≡ flush_core edition_1 s.lists
       → Ready parents (of_flush (flushed_by (flushing a table staged deleted) (counts_in s.lists)) s).after
-  flush_by_answer (flushed.Done t c d) table staged deleted e =
+  flush_by_answer (Ok (t, c, d)) table staged deleted e =
       let o = flush_core edition_1 s.lists in
       let k = flush_keeps One s.lists r.listed t c d (sym (ap (λ (x : Flushing). x.answer) e)) in
       record {
@@ -283,7 +280,7 @@ module _ (parents : ℕ) (s : State) (r : Ready parents s) where
         few = r.few;
         listed = subst (λ (x : Flushing). lists_ok edition_1 (lists c x.staged t x.table d x.deleted) ≡ true) (sym e) k;
       }
-  flush_by_answer (flushed.Refused code) table staged deleted e =
+  flush_by_answer (Err code) table staged deleted e =
       let f = flush_core_same edition_1 s.lists code (sym (ap (λ (x : Flushing). x.answer) e)) in
       let x : table ≡ s.lists.table = ap (λ (x : Flushing). x.table) e ∙ f.0 in
       let y : staged ≡ s.lists.staged = ap (λ (x : Flushing). x.staged) e ∙ f.1 in

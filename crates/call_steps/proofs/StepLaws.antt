@@ -13,14 +13,11 @@ use Rattle.segment_id.specs.declared.Kind.{Kind}
 use Rattle.segment_id.specs.declared.Kind.TheVariants.{Box}
 use Rattle.index_types.specs.declared.HeadCounts.{HeadCounts}
 use Rattle.buffer_core.specs.declared.Direction.{Direction}
-use Rattle.index_types.specs.declared.Appended.{Appended}
-use Rattle.index_types.specs.declared.Popped.{Popped}
-use Rattle.index_types.specs.declared.Flipped.{Flipped}
-use Rattle.index_types.specs.declared.Flushed.{Flushed}
-use Rattle.index_types.specs.declared.Appended.TheVariants as appended
-use Rattle.index_types.specs.declared.Popped.TheVariants as popped
-use Rattle.index_types.specs.declared.Flipped.TheVariants as flipped
-use Rattle.index_types.specs.declared.Flushed.TheVariants as flushed
+use Rattle.std.specs.Prelude.{Ok, Err}
+use Rattle.index_types.specs.Answers.{Appended}
+use Rattle.index_types.specs.Answers.{Popped}
+use Rattle.index_types.specs.Answers.{Flipped}
+use Rattle.index_types.specs.Answers.{Flushed}
 use Rattle.index_types.specs.declared.ListCounts.{ListCounts}
 use Rattle.call_steps.specs.declared.Said.{Said}
 use Rattle.index_types.specs.declared.RowEdition.TheVariants.{One}
@@ -92,37 +89,37 @@ flush_law n table staged deleted r table' staged' deleted' s ok q l =
 
 -- ---- the answers: r is what the core function answered, as the code matched it
 module _ (k : Kind) (p : ℕ) (n : SpillCounts) (lengths : List ℕ) (spills : List ℤ) where
-  pub append_done : {r : Appended} (h : HeadCounts) (c : ListCounts) (s : Said) (lengths' : List ℕ) (spills' : List ℤ) → r ≡ appended.Done h c → s ≡ accepted
+  pub append_done : {r : Appended} (h : HeadCounts) (c : ListCounts) (s : Said) (lengths' : List ℕ) (spills' : List ℤ) → r ≡ Ok (h, c) → s ≡ accepted
       → lengths' ≡ lengths_by k p h lengths → spills' ≡ spills_by k p h spills
       → count_step (stepped s (with_staged n c)) lengths' spills' ≡ after_append r k p n lengths spills
   append_done h c s lengths' spills' e a l m =
       (λ i. count_step (stepped (a i) (with_staged n c)) (l i) (m i)) ∙ ap (λ (x : Appended). after_append x k p n lengths spills) (sym e)
 
-  pub append_refused : {r : Appended} (code : ℕ) (s : Said) → r ≡ appended.Refused code → s ≡ refused code
+  pub append_refused : {r : Appended} (code : ℕ) (s : Said) → r ≡ Err code → s ≡ refused code
       → count_step (stepped s n) lengths spills ≡ after_append r k p n lengths spills
   append_refused code s e a = (λ i. count_step (stepped (a i) n) lengths spills) ∙ ap (λ (x : Appended). after_append x k p n lengths spills) (sym e)
 
-  pub pop_done : {r : Popped} (z z' : ℤ) (h : HeadCounts) (c d : ListCounts) (lengths' : List ℕ) (spills' : List ℤ) → r ≡ popped.Number z h c d → z' ≡ z
+  pub pop_done : {r : Popped} (z z' : ℤ) (h : HeadCounts) (c d : ListCounts) (lengths' : List ℕ) (spills' : List ℤ) → r ≡ Ok (z, h, c, d) → z' ≡ z
       → lengths' ≡ lengths_by k p h lengths → spills' ≡ spills_by k p h spills
       → count_step (stepped (number_popped z') (spill_counts c n.table d)) lengths' spills' ≡ after_pop r k p n lengths spills
   pop_done z z' h c d lengths' spills' e b l m =
       (λ i. count_step (stepped (number_popped (b i)) (spill_counts c n.table d)) (l i) (m i)) ∙ ap (λ (x : Popped). after_pop x k p n lengths spills) (sym e)
 
-  pub pop_refused : {r : Popped} (code : ℕ) (s : Said) → r ≡ popped.Refused code → s ≡ refused code
+  pub pop_refused : {r : Popped} (code : ℕ) (s : Said) → r ≡ Err code → s ≡ refused code
       → count_step (stepped s n) lengths spills ≡ after_pop r k p n lengths spills
   pop_refused code s e a = (λ i. count_step (stepped (a i) n) lengths spills) ∙ ap (λ (x : Popped). after_pop x k p n lengths spills) (sym e)
 
 module _ (n : SpillCounts) where
-  pub flip_done : {r : Flipped} (c : ListCounts) (s : Said) → r ≡ flipped.Done c → s ≡ accepted → stepped s (with_staged n c) ≡ after_flip r n
+  pub flip_done : {r : Flipped} (c : ListCounts) (s : Said) → r ≡ Ok c → s ≡ accepted → stepped s (with_staged n c) ≡ after_flip r n
   flip_done c s e a = (λ i. stepped (a i) (with_staged n c)) ∙ ap (λ (x : Flipped). after_flip x n) (sym e)
 
-  pub flip_refused : {r : Flipped} (code : ℕ) (s : Said) → r ≡ flipped.Refused code → s ≡ refused code → stepped s n ≡ after_flip r n
+  pub flip_refused : {r : Flipped} (code : ℕ) (s : Said) → r ≡ Err code → s ≡ refused code → stepped s n ≡ after_flip r n
   flip_refused code s e a = (λ i. stepped (a i) n) ∙ ap (λ (x : Flipped). after_flip x n) (sym e)
 
-  pub flush_done : {r : Flushed} (t c d : ListCounts) (s : Said) → r ≡ flushed.Done t c d → s ≡ accepted → stepped s (spill_counts c t d) ≡ after_flush r n
+  pub flush_done : {r : Flushed} (t c d : ListCounts) (s : Said) → r ≡ Ok (t, c, d) → s ≡ accepted → stepped s (spill_counts c t d) ≡ after_flush r n
   flush_done t c d s e a = (λ i. stepped (a i) (spill_counts c t d)) ∙ ap (λ (x : Flushed). after_flush x n) (sym e)
 
-  pub flush_refused : {r : Flushed} (code : ℕ) (s : Said) → r ≡ flushed.Refused code → s ≡ refused code → stepped s n ≡ after_flush r n
+  pub flush_refused : {r : Flushed} (code : ℕ) (s : Said) → r ≡ Err code → s ≡ refused code → stepped s n ≡ after_flush r n
   flush_refused code s e a = (λ i. stepped (a i) n) ∙ ap (λ (x : Flushed). after_flush x n) (sym e)
 
 -- ---- what the core functions ask for

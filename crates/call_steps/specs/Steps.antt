@@ -1,7 +1,6 @@
 -- One call of the runner on the state: what the single functions define, each on the parent's part of it.
-use Rattle.std.specs.Prelude.{ℕ, ◌+◌, ◌*◌, ◌≡◌, Bool, true, false, List, [], ◌∷◌, ℤ, pos, set, replicate}
-use Rattle.refusal.specs.declared.Answer.{Answer}
-use Rattle.refusal.specs.declared.Answer.TheVariants as answer
+use Rattle.std.specs.Prelude.{ℕ, ◌+◌, ◌*◌, ◌≡◌, Bool, true, false, List, [], ◌∷◌, ℤ, pos, set, replicate, Ok, Err}
+use Rattle.refusal.specs.Answers.{Answer}
 use Rattle.segment_id.specs.declared.Kind.{Kind}
 use Rattle.segment_id.specs.declared.Kind.TheVariants.{Box}
 use Rattle.balance.specs.declared.Outcome.{Outcome}
@@ -9,14 +8,10 @@ use Rattle.balance.specs.Boxes.{change_box}
 use Rattle.index_types.specs.declared.ListCounts.{ListCounts}
 use Rattle.index_types.specs.declared.HeadCounts.{HeadCounts}
 use Rattle.buffer_core.specs.declared.Direction.{Direction}
-use Rattle.index_types.specs.declared.Appended.{Appended}
-use Rattle.index_types.specs.declared.Appended.TheVariants as appended
-use Rattle.index_types.specs.declared.Popped.{Popped}
-use Rattle.index_types.specs.declared.Popped.TheVariants as popped
-use Rattle.index_types.specs.declared.Flipped.{Flipped}
-use Rattle.index_types.specs.declared.Flipped.TheVariants as flipped
-use Rattle.index_types.specs.declared.Flushed.{Flushed}
-use Rattle.index_types.specs.declared.Flushed.TheVariants as flushed
+use Rattle.index_types.specs.Answers.{Appended}
+use Rattle.index_types.specs.Answers.{Popped}
+use Rattle.index_types.specs.Answers.{Flipped}
+use Rattle.index_types.specs.Answers.{Flushed}
 use Rattle.buffer_core.specs.Edition.{Edition, edition_1}
 use Rattle.buffer_core.specs.Append.{Appending, append_ok, append_of}
 use Rattle.buffer_core.specs.Pop.{Popping, Lists, lists, lists_ok, pop_ok, pop_of}
@@ -85,13 +80,13 @@ abbrev pub spills_by : Kind → ℕ → HeadCounts → List ℤ → List ℤ
 spills_by k p h spills = set spills (spills_at k p) h.spills
 
 abbrev pub after_append : Appended → Kind → ℕ → SpillCounts → List ℕ → List ℤ → CountStep
-after_append (appended.Done h c) k p n lengths spills = count_step (stepped accepted (with_staged n c)) (lengths_by k p h lengths) (spills_by k p h spills)
-after_append (appended.Refused code) k p n lengths spills = count_step (stepped (refused code) n) lengths spills
+after_append (Ok (h, c)) k p n lengths spills = count_step (stepped accepted (with_staged n c)) (lengths_by k p h lengths) (spills_by k p h spills)
+after_append (Err code) k p n lengths spills = count_step (stepped (refused code) n) lengths spills
 
 abbrev pub after_pop : Popped → Kind → ℕ → SpillCounts → List ℕ → List ℤ → CountStep
-after_pop (popped.Number z h c e) k p n lengths spills =
+after_pop (Ok (z, h, c, e)) k p n lengths spills =
     count_step (stepped (number_popped z) (spill_counts c n.table e)) (lengths_by k p h lengths) (spills_by k p h spills)
-after_pop (popped.Refused code) k p n lengths spills = count_step (stepped (refused code) n) lengths spills
+after_pop (Err code) k p n lengths spills = count_step (stepped (refused code) n) lengths spills
 
 pub record HeadStep : Type 0 where
   pub counted : CountStep
@@ -118,8 +113,8 @@ popped_by o k p n numbers lengths spills = pop_step (after_pop o.answer k p n le
 
 -- ---- spend and unspend
 abbrev pub after_flip : Flipped → SpillCounts → Stepped
-after_flip (flipped.Done c) n = stepped accepted (with_staged n c)
-after_flip (flipped.Refused code) n = stepped (refused code) n
+after_flip (Ok c) n = stepped accepted (with_staged n c)
+after_flip (Err code) n = stepped (refused code) n
 
 pub record FlipStep : Type 0 where
   pub answer : Stepped
@@ -143,8 +138,8 @@ abbrev pub flush_step : Stepped → (table staged deleted : List ℕ) → FlushS
 flush_step r table staged deleted = record { answer = r; table = table; staged = staged; deleted = deleted }
 
 abbrev pub after_flush : Flushed → SpillCounts → Stepped
-after_flush (flushed.Done t c d) n = stepped accepted (spill_counts c t d)
-after_flush (flushed.Refused code) n = stepped (refused code) n
+after_flush (Ok (t, c, d)) n = stepped accepted (spill_counts c t d)
+after_flush (Err code) n = stepped (refused code) n
 
 abbrev pub flushed_by : Flushing → SpillCounts → FlushStep
 flushed_by o n = flush_step (after_flush o.answer n) o.table o.staged o.deleted
@@ -160,8 +155,8 @@ abbrev pub change_step : Said → List ℕ → List ℤ → List ℕ → ChangeS
 change_step a ids numbers lengths = record { said = a; ids = ids; numbers = numbers; lengths = lengths }
 
 abbrev pub said_by : Answer → Said
-said_by answer.Accepted = accepted
-said_by (answer.Refused code) = refused code
+said_by (Ok tt) = accepted
+said_by (Err code) = refused code
 
 abbrev pub changed_by : Outcome → ℕ → List ℕ → List ℤ → List ℕ → ChangeStep
 changed_by o p ids numbers lengths =

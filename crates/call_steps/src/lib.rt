@@ -118,7 +118,7 @@ pub fn after_append(
     ensures { count_step result lengths.new spills.new ≡ after_append r kind p counts lengths.old spills.old }
 {
     match r {
-        Appended::Done(after, staged) => {
+        Ok((after, staged)) => {
             let table = counts.table;
             let deleted = counts.deleted;
             write_counts(kind, p, after, lengths, spills);
@@ -131,7 +131,7 @@ pub fn after_append(
                 },
             }
         }
-        Appended::Refused(code) => Stepped {
+        Err(code) => Stepped {
             said: says(code),
             counts,
         },
@@ -143,7 +143,7 @@ pub fn after_flip(r: Flipped, counts: SpillCounts) -> Stepped
     ensures { result ≡ after_flip r counts }
 {
     match r {
-        Flipped::Done(staged) => {
+        Ok(staged) => {
             let table = counts.table;
             let deleted = counts.deleted;
             Stepped {
@@ -155,7 +155,7 @@ pub fn after_flip(r: Flipped, counts: SpillCounts) -> Stepped
                 },
             }
         }
-        Flipped::Refused(code) => Stepped {
+        Err(code) => Stepped {
             said: says(code),
             counts,
         },
@@ -175,7 +175,7 @@ pub fn after_pop(
     ensures { count_step result lengths.new spills.new ≡ after_pop r kind p counts lengths.old spills.old }
 {
     match r {
-        Popped::Number(number, after, staged, deleted) => {
+        Ok((number, after, staged, deleted)) => {
             let table = counts.table;
             write_counts(kind, p, after, lengths, spills);
             Stepped {
@@ -191,7 +191,7 @@ pub fn after_pop(
                 },
             }
         }
-        Popped::Refused(code) => Stepped {
+        Err(code) => Stepped {
             said: says(code),
             counts,
         },
@@ -203,7 +203,7 @@ pub fn after_flush(r: Flushed, counts: SpillCounts) -> Stepped
     ensures { result ≡ after_flush r counts }
 {
     match r {
-        Flushed::Done(table, staged, deleted) => Stepped {
+        Ok((table, staged, deleted)) => Stepped {
             said: says(0),
             counts: SpillCounts {
                 staged,
@@ -211,7 +211,7 @@ pub fn after_flush(r: Flushed, counts: SpillCounts) -> Stepped
                 deleted,
             },
         },
-        Flushed::Refused(code) => Stepped {
+        Err(code) => Stepped {
             said: says(code),
             counts,
         },

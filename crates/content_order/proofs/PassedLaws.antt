@@ -23,7 +23,7 @@ use Rattle.buffer_core.specs.Edition.{good, edition_of, record_size, row_limit_o
 use Rattle.buffer_core.specs.Spills.{Sources, head_ok}
 use Rattle.buffer_core.specs.Rows.{rows_up}
 use Rattle.buffer_core.proofs.HeadLaws.{HeadOk, head_facts, spills_below}
-use Rattle.spill_rows.specs.declared.Read.TheVariants.{Good}
+use Rattle.std.specs.Prelude.{Ok}
 use Rattle.spill_rows.specs.Internal.{read_of}
 use Rattle.token_order.specs.Internal.{TokensReady}
 use Rattle.side_order.specs.Side.{row_taken, numbers_in}
@@ -35,7 +35,7 @@ use Rattle.content_order.specs.Internal.{side_in, PassedSide, PassedSides, Passe
 -- ---- a side
 
 module _ (v : RowEdition) (kind : Kind) (w : Sources) (c : HeadCounts) (head : List ℤ) (P : PassedSide v kind w c head) where
-  abbrev facts : (is_negative c.spills ≡ false) × (read_of (rows_up (row_taken (edition_of v) kind w) 0 (nat_abs c.spills)) ≡ Good)
+  abbrev facts : (is_negative c.spills ≡ false) × (read_of (rows_up (row_taken (edition_of v) kind w) 0 (nat_abs c.spills)) ≡ (Ok tt))
       × (side_in v kind w c head ≡ good (side_entries v kind w (nat_abs c.spills) (take c.len head)))
   facts = side_taken (edition_of v) kind w c.spills (take c.len head) (read_of (side_in v kind w c head)) refl P.taken
 

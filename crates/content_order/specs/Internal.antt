@@ -1,5 +1,5 @@
 -- What the comparison of two addresses asks: sides and addresses that passed the checks before it.
-use Rattle.std.specs.Prelude.{ℕ, ◌≤◌, ◌≡◌, true, false, List, ℤ, length, take}
+use Rattle.std.specs.Prelude.{ℕ, ◌≤◌, ◌≡◌, true, false, List, ℤ, length, take, Ok}
 use Rattle.index_types.specs.Limits.{segment_threshold}
 use Rattle.index_types.specs.declared.RowEdition.{RowEdition}
 use Rattle.index_types.specs.declared.HeadCounts.{HeadCounts}
@@ -7,8 +7,7 @@ use Rattle.segment_id.specs.declared.Kind.{Kind}
 use Rattle.segment_id.specs.declared.Kind.TheVariants.{Box, Tx}
 use Rattle.buffer_core.specs.Edition.{RowRead, edition_of}
 use Rattle.buffer_core.specs.Spills.{Sources, sources}
-use Rattle.spill_rows.specs.declared.Read.{Read}
-use Rattle.spill_rows.specs.declared.Read.TheVariants.{Good}
+use Rattle.spill_rows.specs.Answers.{Read}
 use Rattle.spill_rows.specs.Internal.{read_of}
 use Rattle.index_types.specs.declared.Order.{Order}
 use Rattle.address_order.specs.Order.{of_lists, of_signed}
@@ -30,7 +29,7 @@ pub record PassedSide (v : RowEdition) (kind : Kind) (w : Sources) (c : HeadCoun
   pub rows : RowsReady v w 0
   pub places : segment_threshold ≤ length head
   pub few : c.len ≤ segment_threshold
-  pub taken : read_of (side_in v kind w c head) ≡ Good
+  pub taken : read_of (side_in v kind w c head) ≡ Ok tt
 
 -- both sides of an address
 pub record PassedSides (v : RowEdition) (c : AddressCounts) (w : Sources) (boxes txs : List ℤ) : Type 0 where
@@ -49,8 +48,8 @@ pub record Passed (a : Address) : Type 0 where
 -- and whose rows a pop would take
 pub record Taken (a : Address) : Type 0 where
   pub passed : Passed a
-  pub boxes : read_of (box_side a) ≡ Good
-  pub txs : read_of (tx_side a) ≡ Good
+  pub boxes : read_of (box_side a) ≡ Ok tt
+  pub txs : read_of (tx_side a) ≡ Ok tt
 
 -- whether a pop would refuse one of four sides, the first that it refuses
 abbrev pub fault_of_four : RowRead → RowRead → RowRead → RowRead → Read

@@ -232,10 +232,8 @@ fn compare_contents<'a>(
 fn first_fault(first: Read, second: Read) -> Read
     ensures { result ≡ first_fault first second }
 {
-    match first {
-        Read::Faulty(code) => Read::Faulty(code),
-        Read::Good => second,
-    }
+    first?;
+    second
 }
 
 // Whether a pop would refuse one of two addresses: the first address wholly, then the second.
@@ -339,8 +337,8 @@ pub fn check_and_compare<'a>(
         other_hints,
     );
     match checked {
-        Read::Faulty(code) => Ranked::Refused(code),
-        Read::Good => Ranked::Ranks(compare_contents(
+        Err(code) => Err(code),
+        Ok(()) => Ok(compare_contents(
             edition,
             counts,
             hash,

@@ -4,7 +4,7 @@ use mathlib.Core.List.{List, map}
 use Prim.Native.Nat.{ℕ}
 use lib.IntN.{ℤ}
 use Rattle.entries.specs.Tally.{figures}
-use Rattle.index_types.specs.declared.Tallied.TheVariants.{Counts}
+use Rattle.std.specs.Prelude.{Ok}
 use Rattle.statement.specs.Statement.{milli_ergs}
 use Rattle.ledger.specs.Ledger.{Parent, boxes, Call, absℤ, Rules}
 use Rattle.ledger.specs.Run as Mc
@@ -20,7 +20,7 @@ module _ (cs : List Call) (rules : Rules cs) (p : Parent) where
   sorted : (x : Copy) → Given cs x p → Sorted (entries_in x (boxes p))
   sorted x g = sorted_unmap (entries_in x (boxes p)) (subst Sorted (sym g.box_numbers) (sorted_nums cs p rules))
 
-  counts : (x : Copy) → Given cs x p → tally_in x p ≡ Counts (figures (entries_in x (boxes p)))
+  counts : (x : Copy) → Given cs x p → tally_in x p ≡ Ok (figures (entries_in x (boxes p)))
   counts x g = tally_counts x.edition x.ids x.index p g.passes
 
   module _ (x y : Copy) (g : Given cs x p) (h : Given cs y p) where
@@ -32,7 +32,7 @@ module _ (cs : List Call) (rules : Rules cs) (p : Parent) where
 
     same_tallies : tally_in x p ≡ tally_in y p
     same_tallies =
-        counts x g ∙ ap Counts (same_figures (entries_in x (boxes p)) (entries_in y (boxes p)) numbers spent (sorted x g) (sorted y h)) ∙ sym (counts y h)
+        counts x g ∙ ap Ok (same_figures (entries_in x (boxes p)) (entries_in y (boxes p)) numbers spent (sorted x g) (sorted y h)) ∙ sym (counts y h)
 
     same_pages : (offset n : ℕ) (out : List ℤ) → page_in x p offset n out ≡ page_in y p offset n out
     same_pages offset n out =

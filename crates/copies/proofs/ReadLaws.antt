@@ -10,8 +10,7 @@ use lib.IntN.{ℤ, nat_abs}
 use lib.ListN.{length, take}
 use Rattle.entries.specs.Tally.{figures}
 use Rattle.entries.specs.Unspent.{unspent_newest_first, stretch, page_places}
-use Rattle.index_types.specs.declared.Tallied.TheVariants.{Counts}
-use Rattle.index_types.specs.declared.Paged.TheVariants.{Refused}
+use Rattle.std.specs.Prelude.{Ok, Err}
 use Rattle.segment_id.specs.declared.Kind.TheVariants.{Box}
 use Rattle.buffer_core.specs.Edition.{Edition, RowRead, good, bad}
 use Rattle.buffer_core.specs.Spills.{Sources, spill_read}
@@ -54,7 +53,7 @@ rows_behind f g h n (suc k) zs e = by_row (f n) (λ a q. h n a q) (rows_up f (n 
 -- the page of a list of unspent numbers, newest first
 abbrev pub page_listed : (unspent : List ℤ) (offset n : ℕ) → List ℤ → Paging
 page_listed unspent offset n out =
-    cond (leb page_places (length out)) (cond (ltb page_places n) (paging (Refused 33) out) (put_page (stretch offset n unspent) out)) (paging (Refused 25) out)
+    cond (leb page_places (length out)) (cond (ltb page_places n) (paging (Err 33) out) (put_page (stretch offset n unspent) out)) (paging (Err 25) out)
 
 module _ (E : Edition) (ids : Parent → List ℕ) (b : Index) (p : Parent) where
   abbrev own : Part
@@ -81,13 +80,13 @@ module _ (E : Edition) (ids : Parent → List ℕ) (b : Index) (p : Parent) wher
     entries_are : entries_of E ids b (boxes p) ≡ c.numbers ++ take own.head.len own.places
     entries_are = ap (λ (l : List ℤ). l ++ take own.head.len own.places) rows_are
 
-    pub tally_counts : tally_by E ids b p ≡ Counts (figures (entries_of E ids b (boxes p)))
+    pub tally_counts : tally_by E ids b p ≡ Ok (figures (entries_of E ids b (boxes p)))
     unfolding tally_of tally_core
-    tally_counts = rw (c.fits, c.in_order, c.not_below, c.rows) (ap (λ (l : List ℤ). Counts (figures l)) (sym entries_are))
+    tally_counts = rw (c.fits, c.in_order, c.not_below, c.rows) (ap (λ (l : List ℤ). Ok (figures l)) (sym entries_are))
 
     pub page_shows : (offset n : ℕ) (out : List ℤ)
         → page_of E (ids p) own.head x.staged_counts x.staged x.table_counts x.table own.places offset n out ≡ page_listed (unspent_newest_first (entries_of E ids b (boxes p))) offset n out
     unfolding page_of
     page_shows offset n out =
         let core = page_of_entries E w own.head.spills (take own.head.len own.places) c.numbers (record { ordered = c.in_order; counted = c.not_below; read = c.rows }) offset n out in
-        rw c.fits (ap (λ (y : Paging). cond (leb page_places (length out)) y (paging (Refused 25) out)) (core ∙ ap (λ (l : List ℤ). page_from l offset n out) (sym entries_are)))
+        rw c.fits (ap (λ (y : Paging). cond (leb page_places (length out)) y (paging (Err 25) out)) (core ∙ ap (λ (l : List ℤ). page_from l offset n out) (sym entries_are)))

@@ -18,7 +18,7 @@ use Rattle.records.specs.Checks.{lengths_ok, records_ok, keys_ok}
 use Rattle.index_types.specs.declared.RowEdition.{RowEdition}
 use Rattle.index_types.specs.declared.RowEdition.TheVariants.{One, Two}
 use Rattle.index_types.specs.declared.Tally.{Tally}
-use Rattle.index_types.specs.declared.Tallied.TheVariants.{Counts}
+use Rattle.std.specs.Prelude.{Ok}
 use Rattle.buffer_core.specs.Append.{append_of, append_ok, append_core, spill_of}
 use Rattle.buffer_core.specs.Pop.{pop_of, pop_ok, pop_core, lists_ok}
 use Rattle.buffer_core.specs.Flip.{flip_of, flip_ok, flip_core, flip_effect, in_order, in_rows, search_by, walk_from}
@@ -168,10 +168,10 @@ straight_entries =
 abbrev pub figures_of_both : Tally
 figures_of_both = record { unspent = 1; spent = 1; unknown = 2 }
 
-pub both_tallies : (tally_in (copy_at a) 0 ≡ Counts figures_of_both) × ((copy_at b).summary_tally 0 ≡ Counts figures_of_both)
+pub both_tallies : (tally_in (copy_at a) 0 ≡ Ok figures_of_both) × ((copy_at b).summary_tally 0 ≡ Ok figures_of_both)
 unfolding how_many
 both_tallies =
-    let q : tally_in (copy_at a) 0 ≡ Counts figures_of_both = (copies_alike 0).counted ∙ ap (λ (l : List ℤ). Counts (figures l)) forked_entries in
+    let q : tally_in (copy_at a) 0 ≡ Ok figures_of_both = (copies_alike 0).counted ∙ ap (λ (l : List ℤ). Ok (figures l)) forked_entries in
     (q, sym (copies_alike 0).summary_tallies ∙ q)
 
 -- ---- why signed entries ask that no number stands twice: the same calls stand, and another copy carries the sign

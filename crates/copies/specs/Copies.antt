@@ -1,12 +1,11 @@
 -- "Take one history on each of two servers, both within the terms of fork undo, whose standing calls are the same. Both servers must give the same box and
 -- transaction numbers, spent copies, tallies, token amounts and statement figures. Where no box number stands twice among the appends to a parent, their
 -- signed entries and their pages must be equal too." (document 02, U13)
-use Rattle.std.specs.Prelude.{◌≡◌, ℕ, ◌<◌, ℤ, nat_abs, length}
+use Rattle.std.specs.Prelude.{◌≡◌, ℕ, ◌<◌, ℤ, nat_abs, length, Ok}
 use mathlib.Core.List.{List, [], ◌∷◌, map, Memᴰ}
 use Rattle.entries.specs.Tally.{figures}
 use Rattle.index_types.specs.declared.RowEdition.{RowEdition}
-use Rattle.index_types.specs.declared.Tallied.{Tallied}
-use Rattle.index_types.specs.declared.Tallied.TheVariants.{Counts}
+use Rattle.index_types.specs.Answers.{Tallied}
 use Rattle.balance.specs.declared.Balance.{Balance}
 use Rattle.statement.specs.Statement.{milli_ergs}
 use Rattle.buffer_core.specs.Edition.{Edition, edition_of}
@@ -123,7 +122,7 @@ pub record Alike (x y : Copy) (p : Parent) : Type 0 where
   -- of each number above 0: a spent 0 stays 0
   pub copies : (n : ℕ) → 0 < n → negs n (entries_in x (boxes p)) ≡ negs n (entries_in y (boxes p))
   -- a tally is not refused: its three figures are those of the entries
-  pub counted : tally_in x p ≡ Counts (figures (entries_in x (boxes p)))
+  pub counted : tally_in x p ≡ Ok (figures (entries_in x (boxes p)))
   pub tallies : tally_in x p ≡ tally_in y p
   pub summary_tallies : x.summary_tally p ≡ y.summary_tally p
   pub amounts : (t : TokenId) → amount_at x p t ≡ amount_at y p t

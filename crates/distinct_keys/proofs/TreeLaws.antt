@@ -1,13 +1,11 @@
 -- The search for equal keys in trees: the way of a key meets every key that is equal, and a key is put where its way ends.
-use Rattle.std.proofs.Common.{◌≡◌, ℕ, zero, suc, ◌+◌, ◌-◌, ◌*◌, ◌/◌, ◌%◌, ◌^◌, ◌<◌, ◌≤◌, Bool, true, false, not, eqb, ltb, List, length, get_or, take, drop, set, replicate, sym, refl, ap, ◌∙◌, add-zero, mod-lt, suc-mul, add-mul, zero-mul, add-one, arith, length-set, get_or-set_other, get_or-set_same, drop-drop, ltb-false, ltb-true, eqb-true}
+use Rattle.std.proofs.Common.{◌≡◌, ℕ, zero, suc, ◌+◌, ◌-◌, ◌*◌, ◌/◌, ◌%◌, ◌^◌, ◌<◌, ◌≤◌, Bool, true, false, not, eqb, ltb, List, length, get_or, take, drop, set, replicate, sym, refl, ap, ◌∙◌, add-zero, mod-lt, add-mul, arith, length-set, get_or-set_other, get_or-set_same, drop-drop, ltb-false, ltb-true, eqb-true}
 use borrow.Author.Tests.{eqb-false}
 use Rattle.stores.specs.Equal.{same_bytes}
 use Rattle.stores.proofs.StoreLaws.{part_at}
-use Rattle.distinct_keys.specs.declared.Spot.{Spot}
-use Rattle.distinct_keys.specs.declared.Spot.TheVariants.{Free, Taken}
 use Rattle.records.specs.Records.{records, keys}
 use Rattle.records.specs.Find.{find_key, is_found, distinct}
-use Rattle.distinct_keys.specs.Internal.{nth_key, half_at, word_at, root_of, turns_of, behind, Meets, AllFree, Grown, Extends, Open, Spotted, NoneAgain}
+use Rattle.distinct_keys.specs.Internal.{nth_key, half_at, word_at, root_of, turns_of, behind, Meets, AllFree, Grown, Extends, Open, NoneAgain}
 use Rattle.distinct_keys.specs.Internal.Meets.{here, later}
 use Rattle.records.proofs.TurnLaws.{length_keys}
 use Rattle.records.proofs.KeyLaws.{clash, differ, Search, hit, miss, look, find_at, find_none, distinct_of, of_distinct}
@@ -174,51 +172,33 @@ module _ (size i : ℕ) (l : List ℕ) (wide : 32 ≤ size) where
           of_distinct (keys size i l) e k m (omega arith) (omega (arith, length_keys size i l))
           (key_at size i k l wide (omega arith) ∙ q ∙ sym (key_at size i m l wide h))))
 
--- ---- the loop: i keys are passed, and the next record begins at a position
+-- ---- the loop: i keys are passed
 
-pub record Passed (size : ℕ) (l links : List ℕ) (n places i at : ℕ) : Type 0 where
-  pub at_next : at ≡ i * size
+pub record Passed (size : ℕ) (l links : List ℕ) (n places i : ℕ) : Type 0 where
   pub grown : Grown size l n i links
   pub long : length links ≡ places
   pub apart : Differ size l i
 
-pub passed_none : (size : ℕ) (l : List ℕ) (n : ℕ) (links : List ℕ) → AllFree links → Passed size l links n (length links) 0 0
-passed_none size l n links z =
-    record { at_next = sym (zero-mul size); grown = grown_none size l n links z; long = refl; apart = differ_none size l }
+pub passed_none : (size : ℕ) (l : List ℕ) (n : ℕ) (links : List ℕ) → AllFree links → Passed size l links n (length links) 0
+passed_none size l n links z = record { grown = grown_none size l n links z; long = refl; apart = differ_none size l }
 
-pub next_at : (size i at : ℕ) → at ≡ i * size → at + size ≡ (i + 1) * size
-next_at size i at e = ap (λ (m : ℕ). m + size) e ∙ sym (ap (λ (k : ℕ). k * size) (add-one i) ∙ suc-mul i size)
-
-module _ (size : ℕ) (l links : List ℕ) (n places i at : ℕ) (wide : 32 ≤ size) (p : Passed size l links n places i at) where
-  -- the key at the position is new and is put in
-  pub passed_more : (s : ℕ) (links' : List ℕ) → s < places → is_found (find_key (take 32 (drop at l)) (keys size i l)) ≡ false
-      → Open n i links (take 32 (drop at l)) s → links' ≡ set links s (i + 1) → Passed size l links' n places (i + 1) (at + size)
+module _ (size : ℕ) (l links : List ℕ) (n places i : ℕ) (wide : 32 ≤ size) (p : Passed size l links n places i) where
+  -- the next key is new and is put in
+  pub passed_more : (s : ℕ) (links' : List ℕ) → s < places → is_found (find_key (nth_key size l i) (keys size i l)) ≡ false
+      → Open n i links (nth_key size l i) s → links' ≡ set links s (i + 1) → Passed size l links' n places (i + 1)
   passed_more s links' room t o e =
-      let key : take 32 (drop at l) ≡ nth_key size l i = rw p.at_next in
       record {
-        at_next = next_at size i at p.at_next;
-        grown = rw e (grown_more size l n i links s (omega (arith, p.long)) p.grown (rw key at o));
+        grown = rw e (grown_more size l n i links s (omega (arith, p.long)) p.grown o);
         long = rw e (length-set links s (i + 1) ∙ p.long);
-        apart = differ_more size i l wide p.apart (ap (λ (k : List ℕ). is_found (find_key k (keys size i l))) (sym key) ∙ t);
+        apart = differ_more size i l wide p.apart t;
       }
 
-  -- the key at the position stood before
-  pub passed_stop : (count : ℕ) → i < count → is_found (find_key (take 32 (drop at l)) (keys size i l)) ≡ true → distinct (keys size count l) ≡ false
-  passed_stop count h t =
-      let key : take 32 (drop at l) ≡ nth_key size l i = rw p.at_next in
-      stood_before size count l wide i i (omega arith) h (ap (λ (k : List ℕ). is_found (find_key k (keys size i l))) (sym key) ∙ t)
+  -- the next key stood before
+  pub passed_stop : (count : ℕ) → i < count → is_found (find_key (nth_key size l i) (keys size i l)) ≡ true → distinct (keys size count l) ≡ false
+  passed_stop count h t = stood_before size count l wide i i (omega arith) h t
 
   pub passed_all : (count : ℕ) → i ≡ count → distinct (keys size count l) ≡ true
   passed_all count e = rw (← e) (differ_all size i l wide p.apart)
-
--- ---- what is told of a key
-
-module _ (size : ℕ) (l : List ℕ) (n i : ℕ) (links key : List ℕ) (r : Spot) where
-  pub spotted_free : (s : ℕ) → Spotted size l n i links key r → r ≡ Free s → (is_found (find_key key (keys size i l)) ≡ false) × Open n i links key s
-  spotted_free s x e = rw e at x
-
-  pub spotted_taken : Spotted size l n i links key r → r ≡ Taken → is_found (find_key key (keys size i l)) ≡ true
-  spotted_taken x e = rw e at x
 
 -- ---- a block of keys, and those behind it
 
@@ -226,29 +206,19 @@ pub not_true : (b : Bool) → not b ≡ true → b ≡ false
 not_true true e = sym e
 not_true false e = refl
 
-pub not_false : (b : Bool) → not b ≡ false → b ≡ true
-not_false true e = refl
-not_false false e = sym e
-
 pub left_block : (size left : ℕ) → 8192 ≤ left → left * size ≡ 8192 * size + (left - 8192) * size
 left_block size left h = let e : left ≡ 8192 + (left - 8192) = omega arith in ap (λ (k : ℕ). k * size) e ∙ add-mul 8192 (left - 8192) size
 
-pub none_again_start : (size : ℕ) (l : List ℕ) (block : ℕ) → NoneAgain size l block block
-none_again_start size l block m h k a b e = omega arith
-
-module _ (size : ℕ) (l : List ℕ) (block i at : ℕ) (wide : 32 ≤ size) (e : at ≡ i * size) where
-  key_here : take 32 (drop at l) ≡ nth_key size l i
-  key_here = rw e
-
-  pub none_again_more : NoneAgain size l block i → is_found (find_key (take 32 (drop at l)) (keys size block l)) ≡ false → NoneAgain size l block (i + 1)
+module _ (size : ℕ) (l : List ℕ) (block i : ℕ) (wide : 32 ≤ size) where
+  pub none_again_more : NoneAgain size l block i → is_found (find_key (nth_key size l i) (keys size block l)) ≡ false → NoneAgain size l block (i + 1)
   none_again_more q t m h k a b d = by_test (eqb m i) refl
     where
       by_test : (u : Bool) → eqb m i ≡ u → ⊥
-      by_test true u = among_none size block (take 32 (drop at l)) l wide t a b (d ∙ ap (nth_key size l) (eqb-true m i u) ∙ sym key_here)
+      by_test true u = among_none size block (nth_key size l i) l wide t a b (d ∙ ap (nth_key size l) (eqb-true m i u))
       by_test false u = let z = eqb-false m i u in q m h (omega arith) a b d
 
-  pub again : (count : ℕ) → block ≤ i → i < count → is_found (find_key (take 32 (drop at l)) (keys size block l)) ≡ true → distinct (keys size count l) ≡ false
-  again count h k t = stood_before size count l wide block i h k (ap (λ (x : List ℕ). is_found (find_key x (keys size block l))) (sym key_here) ∙ t)
+  pub again : (count : ℕ) → block ≤ i → i < count → is_found (find_key (nth_key size l i) (keys size block l)) ≡ true → distinct (keys size count l) ≡ false
+  again count h k t = stood_before size count l wide block i h k t
 
 module _ (size : ℕ) (l : List ℕ) (block count : ℕ) (wide : 32 ≤ size) (fits : block ≤ count) where
   rest_key : (m : ℕ) → nth_key size (drop (block * size) l) m ≡ nth_key size l (block + m)

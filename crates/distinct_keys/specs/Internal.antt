@@ -2,9 +2,7 @@
 -- The keys of a block stand in trees. A key's way begins at the root that its first eight bytes name, and turns at each key that it meets
 -- by the next bit of a number made of all its bytes; the key is put where its way ends. Equal keys go the same way, so the later one
 -- meets the earlier one. The slots of the n roots come first, then two for each key. A slot holds the index of a key plus one; 0 stands for none.
-use Rattle.std.specs.Prelude.{◌≡◌, ℕ, ◌+◌, ◌-◌, ◌*◌, ◌/◌, ◌%◌, ◌^◌, ◌<◌, ◌≤◌, true, false, List, take, drop, ◌≢◌, slice_index, slice_index_or}
-use Rattle.distinct_keys.specs.declared.Spot.{Spot}
-use Rattle.distinct_keys.specs.declared.Spot.TheVariants.{Free, Taken}
+use Rattle.std.specs.Prelude.{◌≡◌, ℕ, ◌+◌, ◌-◌, ◌*◌, ◌/◌, ◌%◌, ◌^◌, ◌<◌, ◌≤◌, true, false, List, take, drop, ◌≢◌, slice_index, slice_index_or, Option, Some, None}
 use Rattle.records.specs.Records.{keys}
 use Rattle.records.specs.Find.{find_key, is_found}
 
@@ -56,9 +54,9 @@ pub record Open (n i : ℕ) (links key : List ℕ) (s : ℕ) : Type 0 where
   pub leads : (links' : List ℕ) → Extends links links' → (k : ℕ) → slice_index links' s ≡ k + 1 → Meets n links' k (root_of n key) (turns_of key)
 
 -- what is told of a key
-abbrev pub Spotted : (size : ℕ) → List ℕ → (n i : ℕ) → (links key : List ℕ) → Spot → Type 0
-Spotted size l n i links key Taken = is_found (find_key key (keys size i l)) ≡ true
-Spotted size l n i links key (Free s) = (is_found (find_key key (keys size i l)) ≡ false) × Open n i links key s
+abbrev pub Spotted : (size : ℕ) → List ℕ → (n i : ℕ) → (links key : List ℕ) → Option ℕ → Type 0
+Spotted size l n i links key None = is_found (find_key key (keys size i l)) ≡ true
+Spotted size l n i links key (Some s) = (is_found (find_key key (keys size i l)) ≡ false) × Open n i links key s
 
 -- none of the first `block` keys stands again among those up to i
 abbrev pub NoneAgain : (size : ℕ) → List ℕ → (block i : ℕ) → Type 0

@@ -9,14 +9,6 @@ ghost use Rattle.records.specs.Checks.{records_ok, keys_ok};
 ghost use Rattle.distinct_keys.specs.Internal.{half_at, word_at, root_of, turns_of, AllFree, Grown, Spotted, NoneAgain};
 
 use index_types::ListCounts;
-use records::Found;
-
-// Where a key goes in the trees of `keys_differ`: a slot that is free, or none, for the key is there.
-#[derive(Clone, Copy)]
-pub enum Spot {
-    Free(usize),
-    Taken,
-}
 
 // Whether the key of the record at a position stands in one of the `left` records behind it.
 fn stands_later(list: &[u8], at: usize, size: usize, left: usize) -> bool
@@ -27,24 +19,21 @@ fn stands_later(list: &[u8], at: usize, size: usize, left: usize) -> bool
     let end = at + 32;
     let found = records::find(&list[next..], size, left, &list[at..end]);
     match found {
-        Found::At(_) => true,
-        Found::Nothing => false,
+        Some(_) => true,
+        None => false,
     }
 }
 
 // Whether no key stands twice, by comparing each key with all those behind it. A few keys are compared so: a bucket table costs more to clear.
+#[tactic(auto, using(records::proofs::TurnLaws::distinct_step, records::proofs::TurnLaws::distinct_past, records::proofs::TurnLaws::below_mul, records::proofs::TurnLaws::left_mul))]
 fn keys_differ_pairwise(list: &[u8], size: usize, count: usize) -> bool
     requires { (32 ≤ size) × (count * size ≤ length list.now) }
     ensures { result ≡ distinct (keys size count list.now) }
 {
-    let mut i = 0;
-    let mut at = 0;
-    while i < count {
-        i += 1;
-        if stands_later(list, at, size, count - i) {
+    for i in 0..count {
+        if stands_later(list, i * size, size, count - (i + 1)) {
             return false;
         }
-        at += size;
     }
     true
 }
@@ -125,7 +114,7 @@ fn find_below(
     links: &[u16],
     roots: usize,
     start: usize,
-) -> Spot
+) -> Option<usize>
     requires { (32 ≤ size) × (at + 32 ≤ length list.now) × (i * size ≤ length list.now) × (roots + 2 * i ≤ length links.now)
         × Grown size list.now roots i links.now × (start ≡ root_of roots (take 32 (drop at list.now))) × (start < roots) }
     ensures { Spotted size list.now roots i links.now (take 32 (drop at list.now)) result }
@@ -136,24 +125,31 @@ fn find_below(
     while 0 < cur {
         let k = cur - 1;
         if same_keys(list, k * size, at) {
-            return Spot::Taken;
+            return None;
         }
         slot = roots + 2 * k + (rest % 2) as usize;
         rest = rest / 2;
         cur = links[slot] as usize;
     }
-    Spot::Free(slot)
+    Some(slot)
 }
 
 // Where the key at a position goes in the trees of the first i keys, or that it is one of them.
-fn find_spot(list: &[u8], size: usize, at: usize, i: usize, links: &[u16], roots: usize) -> Spot
+fn find_spot(
+    list: &[u8],
+    size: usize,
+    at: usize,
+    i: usize,
+    links: &[u16],
+    roots: usize,
+) -> Option<usize>
     requires { (32 ≤ size) × (at + 32 ≤ length list.now) × (i * size ≤ length list.now) × (roots + 2 * i ≤ length links.now)
         × Grown size list.now roots i links.now × (0 < roots) }
     ensures { Spotted size list.now roots i links.now (take 32 (drop at list.now)) result }
 {
     let start = root(list, at, roots);
     if links[start] == 0 {
-        return Spot::Free(start);
+        return Some(start);
     }
     find_below(list, size, at, i, links, roots, start)
 }
@@ -164,16 +160,11 @@ fn grow(list: &[u8], size: usize, count: usize, links: &mut [u16], roots: usize)
         × AllFree links.old }
     ensures { (result ≡ distinct (keys size count list.now)) × (result ≡ true → Grown size list.now roots count links.new) }
 {
-    let mut i = 0;
-    let mut at = 0;
-    while i < count {
-        let found = find_spot(list, size, at, i, links, roots);
-        let Spot::Free(s) = found else {
+    for i in 0..count {
+        let Some(slot) = find_spot(list, size, i * size, i, links, roots) else {
             return false;
         };
-        links[s] = (i + 1) as u16;
-        i += 1;
-        at += size;
+        links[slot] = (i + 1) as u16;
     }
     true
 }
@@ -191,15 +182,10 @@ fn none_again(
         × Grown size list.now roots block links.now }
     ensures { (result ≡ true → NoneAgain size list.now block count) × (result ≡ false → distinct (keys size count list.now) ≡ false) }
 {
-    let mut i = block;
-    let mut at = block * size;
-    while i < count {
-        let found = find_spot(list, size, at, block, links, roots);
-        let Spot::Free(_) = found else {
+    for i in block..count {
+        if let None = find_spot(list, size, i * size, block, links, roots) {
             return false;
-        };
-        i += 1;
-        at += size;
+        }
     }
     true
 }

@@ -40,10 +40,8 @@ fn small_at(s: &[u8], at: usize) -> usize
     ensures { (result ≡ small_at s.now at) × (result < 4294967296) }
 {
     let mut n: usize = 0;
-    let mut i = 0;
-    while i < 4 {
-        n = n * 256 + byte_number(s[at + i]);
-        i += 1;
+    for byte in &s[at..at + 4] {
+        n = n * 256 + byte_number(*byte);
     }
     n
 }

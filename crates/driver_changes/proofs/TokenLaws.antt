@@ -11,8 +11,7 @@ use lib.Seq.{drop_at, take_at, get_or_at, drop-drop}
 use borrow.Author.Tests.{le-leb}
 use borrow.Rule.Slice.PartMut.{mid_of}
 use Rattle.stores.proofs.StoreLaws.{length_part}
-use Rattle.signed.specs.declared.Checked.{Checked}
-use Rattle.signed.specs.declared.Checked.TheVariants.{Is, Out}
+use Rattle.std.specs.Prelude.{Some, None}
 use Rattle.balance.specs.declared.Balance.{Balance}
 use Rattle.balance.specs.declared.Outcome.{Outcome}
 use Rattle.balance.specs.Boxes.{buffers_ok, nanos_after, refused, held_by, settled, change_box}
@@ -152,10 +151,10 @@ module _ (adding : Bool) (b : Balance) (nanos : ℤ) (s : List ℕ) (i a n : ℕ
   pub bytes_25 : 128 < b.count → Box (refused 25 b)
   bytes_25 f = box_25 adding b nanos (token_ids ts) (token_amounts ts) (length ts) (sym (count_above b.count (token_ids ts) (token_amounts ts) (length ts) f))
 
-  pub bytes_23 : b.count ≤ 128 → Out ≡ nanos_after adding b.nanos nanos → Box (refused 23 b)
+  pub bytes_23 : b.count ≤ 128 → None ≡ nanos_after adding b.nanos nanos → Box (refused 23 b)
   bytes_23 f e = box_23 adding b nanos (token_ids ts) (token_amounts ts) (length ts) (passes f) e
 
-  pub bytes_on : b.count ≤ 128 → (v : ℤ) → Is v ≡ nanos_after adding b.nanos nanos → (x : Changed) → x ≡ change_each adding ts (held_by b) → Box (settled b v x)
+  pub bytes_on : b.count ≤ 128 → (v : ℤ) → Some v ≡ nanos_after adding b.nanos nanos → (x : Changed) → x ≡ change_each adding ts (held_by b) → Box (settled b v x)
   bytes_on f v e x q =
       box_on adding b nanos (token_ids ts) (token_amounts ts) (length ts) (passes f) v e x
       (q ∙ sym (each_from adding ts [] [] 0 refl refl long (held_by b)))

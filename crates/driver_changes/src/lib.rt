@@ -15,8 +15,6 @@ use balance::{Balance, Outcome};
 use balance_tokens::Counted;
 use call_steps::Said;
 use index_types::TOKEN_LIMIT;
-use refusal::Answer;
-use signed::Checked;
 
 // Adds or subtracts n tokens, in list order, until one is refused: ids from i on, amounts from a on.
 fn change_tokens(
@@ -33,23 +31,18 @@ fn change_tokens(
     ensures { left_in result table.new sums.new ≡ change_each adding (tokens_at s.now i a n) (record { ids = table.old; amounts = sums.old; count = count }) }
 {
     let mut held = count;
-    let mut id_at = i;
-    let mut amount_at = a;
-    let mut left = n;
-    while 0 < left {
-        let amounts = [calls::number_at(s, amount_at); 1];
+    for k in 0..n {
+        let amounts = [calls::number_at(s, a + k * 8); 1];
+        let id_at = i + k * 32;
         let e = id_at + 32;
         match token_changes::change_tokens(adding, table, sums, held, &s[id_at..e], &amounts, 1) {
-            Counted::Count(m) => {
+            Ok(m) => {
                 held = m;
             }
-            Counted::Refused(code) => return Counted::Refused(code),
+            Err(code) => return Err(code),
         }
-        id_at = e;
-        amount_at += 8;
-        left -= 1;
     }
-    Counted::Count(held)
+    Ok(held)
 }
 
 // Adds or subtracts a box of n tokens: nanoErgs first, then the tokens, on copies of the arrays, so that a refusal gives back the old balance.
@@ -69,33 +62,33 @@ fn change_box(
     if TOKEN_LIMIT < held {
         return Outcome {
             balance,
-            answer: Answer::Refused(refusal::BUFFERS),
+            answer: Err(refusal::BUFFERS),
         };
     }
     let old = balance.nanos;
     match balance::change_nanos(adding, old, nanos) {
-        Checked::Is(sum) => {
+        Some(sum) => {
             let mut table = balance.ids;
             let mut sums = balance.amounts;
             match change_tokens(adding, &mut table, &mut sums, held, s, i, a, n) {
-                Counted::Count(m) => Outcome {
+                Ok(m) => Outcome {
                     balance: Balance {
                         ids: table,
                         amounts: sums,
                         count: m,
                         nanos: sum,
                     },
-                    answer: Answer::Accepted,
+                    answer: Ok(()),
                 },
-                Counted::Refused(code) => {
-                    let answer = Answer::Refused(code);
+                Err(code) => {
+                    let answer = Err(code);
                     Outcome { balance, answer }
                 }
             }
         }
-        Checked::Out => Outcome {
+        None => Outcome {
             balance,
-            answer: Answer::Refused(refusal::AMOUNT_OUT_OF_RANGE),
+            answer: Err(refusal::AMOUNT_OUT_OF_RANGE),
         },
     }
 }
@@ -130,13 +123,8 @@ fn read_amounts(s: &[u8], a: usize, n: usize, amounts: &mut [i64])
     requires { (a + n * 8 ≤ length s.now) × (n ≤ length amounts.old) }
     ensures { take n amounts.new ≡ amounts_at s.now a n }
 {
-    let mut k = 0;
-    let mut at = a;
-    while k < n {
-        let amount = calls::number_at(s, at);
-        amounts[k] = amount;
-        k += 1;
-        at += 8;
+    for (k, amount) in amounts[..n].iter_mut().enumerate() {
+        *amount = calls::number_at(s, a + k * 8);
     }
 }
 

@@ -7,12 +7,9 @@ use lib.Dec.{eqb, leb, ltb}
 use lib.IntN.{ℤ, pos, nat_abs, ◌+ℤ◌, ◌-ℤ◌}
 use lib.ListN.{length, take, get_or}
 use Rattle.signed.specs.Sign.{is_negative}
-use Rattle.signed.specs.declared.Checked.{Checked}
-use Rattle.signed.specs.declared.Checked.TheVariants.{Is, Out}
+use Rattle.std.specs.Prelude.{Option, Some, None, Ok, Err}
 use Rattle.signed.specs.Checked.{checked}
-use Rattle.refusal.specs.declared.Answer.{Answer}
-use Rattle.refusal.specs.declared.Answer.TheVariants as answer
-use Rattle.vlq_core.specs.declared.Got.TheVariants.{Refused}
+use Rattle.refusal.specs.Answers.{Answer}
 use Rattle.segment_core.specs.Reading.{bad}
 use Rattle.segment_id.specs.declared.Kind.{Kind}
 use Rattle.segment_id.specs.declared.Kind.TheVariants.{Box}
@@ -26,18 +23,12 @@ use Rattle.records.specs.declared.Place.TheVariants.{Staged, Table, Missing}
 use Rattle.records.specs.Changes.{full_for}
 use Rattle.index_types.specs.declared.HeadCounts.{HeadCounts}
 use Rattle.buffer_core.specs.declared.Direction.{Direction}
-use Rattle.index_types.specs.declared.Appended.{Appended}
-use Rattle.index_types.specs.declared.Appended.TheVariants as appended
-use Rattle.index_types.specs.declared.Popped.{Popped}
-use Rattle.index_types.specs.declared.Popped.TheVariants as popped
-use Rattle.index_types.specs.declared.Flipped.{Flipped}
-use Rattle.index_types.specs.declared.Flipped.TheVariants as flipped
-use Rattle.index_types.specs.declared.Flushed.{Flushed}
-use Rattle.index_types.specs.declared.Flushed.TheVariants as flushed
-use Rattle.buffer_core.specs.declared.Lead.{Lead}
-use Rattle.buffer_core.specs.declared.Lead.TheVariants.{Leads, NoLead}
-use Rattle.buffer_core.specs.declared.Low.{Low}
-use Rattle.buffer_core.specs.declared.Low.TheVariants.{Upto, Broken}
+use Rattle.index_types.specs.Answers.{Appended}
+use Rattle.index_types.specs.Answers.{Popped}
+use Rattle.index_types.specs.Answers.{Flipped}
+use Rattle.index_types.specs.Answers.{Flushed}
+use Rattle.buffer_core.specs.Answers.{Lead}
+use Rattle.buffer_core.specs.Answers.{Low}
 use Rattle.buffer_core.specs.declared.Look.{Look}
 use Rattle.buffer_core.specs.declared.Look.TheVariants.{Take, Stop, Next, Fail}
 use Rattle.buffer_core.specs.declared.Walk.{Walk}
@@ -65,8 +56,8 @@ use Rattle.driver_laws.proofs.RowCodes.{RowNotZero, spill_coded}
 
 -- ---- append, pop, flush
 abbrev AppendNotZero : Appended → Type 0
-AppendNotZero (appended.Done h c) = Unit {0}
-AppendNotZero (appended.Refused r) = 0 < r
+AppendNotZero (Ok (h, c)) = Unit {0}
+AppendNotZero (Err r) = 0 < r
 
 append_coded : (kind : Kind) (parent : List ℕ) (h : HeadCounts) (z : ℤ) (c : ListCounts) (head : List ℤ) (staged : List ℕ) → AppendNotZero (append_of edition_1 kind parent h z c head staged).answer
 unfolding append_of append_core spill_of spilled
@@ -80,8 +71,8 @@ append_coded kind parent h z c head staged =
     (both P (full_for 10288 c (edition_1.key kind parent (pos (nat_abs h.spills))) staged) (omega arith) tt))))) (omega arith)
 
 abbrev PopNotZero : Popped → Type 0
-PopNotZero (popped.Number z h c d) = Unit {0}
-PopNotZero (popped.Refused r) = 0 < r
+PopNotZero (Ok (z, h, c, d)) = Unit {0}
+PopNotZero (Err r) = 0 < r
 
 merge_coded : (b : Lists) (head : List ℤ) (x : RowRead) → RowNotZero x → (key : List ℕ) (spills : ℕ) → PopNotZero (merge_of edition_1 x key spills b head).answer
 unfolding merge_of merged
@@ -109,8 +100,8 @@ pop_coded kind parent h b head =
     merge x n key spills = merge_coded b head x n key spills
 
 abbrev FlushNotZero : Flushed → Type 0
-FlushNotZero (flushed.Done t c d) = Unit {0}
-FlushNotZero (flushed.Refused r) = 0 < r
+FlushNotZero (Ok (t, c, d)) = Unit {0}
+FlushNotZero (Err r) = 0 < r
 
 flush_coded : (b : Lists) → FlushNotZero (flush_of edition_1 b).answer
 unfolding flush_of flush_core fl.flushed
@@ -124,20 +115,20 @@ check_coded (edition.bad r) h = h
 check_coded (edition.good zs) h = both RowNotZero (eqb (length zs) 512 && order_ok zs) tt (omega arith)
 
 abbrev LowNotZero : Low → Type 0
-LowNotZero (Upto n) = Unit {0}
-LowNotZero (Broken r) = 0 < r
+LowNotZero (Ok n) = Unit {0}
+LowNotZero (Err r) = 0 < r
 
 abbrev LeadNotZero : Lead → Type 0
-LeadNotZero (Leads n) = Unit {0}
-LeadNotZero (NoLead r) = 0 < r
+LeadNotZero (Ok n) = Unit {0}
+LeadNotZero (Err r) = 0 < r
 
 lead_coded : (x : RowRead) → RowNotZero x → LeadNotZero (lead_of x)
 lead_coded (edition.bad r) h = h
 lead_coded (edition.good zs) h = tt
 
 half_coded : (x : Lead) → LeadNotZero x → (target : ℕ) (u l : Low) → LowNotZero u → LowNotZero l → LowNotZero (half x target u l)
-half_coded (Leads n) h target u l a b = both LowNotZero (leb n target) a b
-half_coded (NoLead r) h target u l a b = h
+half_coded (Ok n) h target u l a b = both LowNotZero (leb n target) a b
+half_coded (Err r) h target u l a b = h
 
 search_coded : (f : ℕ → Lead) → ((n : ℕ) → LeadNotZero (f n)) → (target k low high : ℕ) → LowNotZero (search_by f target k low high)
 unfolding search_by
@@ -216,10 +207,10 @@ module _ (w : Sources) (capacity target : ℕ) (d : Bool) where
       (search_coded (lead_at edition_1 w) (λ n. lead_coded (row_checked edition_1 w n) (checked_coded n)) target (spills - 0) 0 spills)
     where
       by : (x : Low) → LowNotZero x → EffectNotZero (after_search edition_1 w capacity target d seen x)
-      by (Upto low) h =
+      by (Ok low) h =
           walked_coded (walk_from (look_at edition_1 w target d) low seen)
           (walk_coded (look_at edition_1 w target d) (λ n. look_coded (row_checked edition_1 w n) (checked_coded n) target d) low seen)
-      by (Broken r) h = h
+      by (Err r) h = h
 
   order_coded : (spills : ℕ) (zs : List ℤ) → EffectNotZero (in_order edition_1 w capacity target d spills zs)
   unfolding in_order
@@ -238,8 +229,8 @@ effect_coded w capacity d t spills zs =
     (both EffectNotZero (is_negative spills) (omega arith) (order_coded w capacity (nat_abs t) (spends d) (nat_abs spills) zs)) (omega arith))
 
 abbrev FlipNotZero : Flipped → Type 0
-FlipNotZero (flipped.Done c) = Unit {0}
-FlipNotZero (flipped.Refused r) = 0 < r
+FlipNotZero (Ok c) = Unit {0}
+FlipNotZero (Err r) = 0 < r
 
 flip_coded : (d : Direction) (parent : List ℕ) (h : HeadCounts) (z : ℤ) (c : ListCounts) (staged : List ℕ) (e : ListCounts) (table : List ℕ) (head : List ℤ)
     → FlipNotZero (flip_of edition_1 d parent h z c staged e table head).answer
@@ -258,8 +249,8 @@ flip_coded d parent h z c staged e table head =
 
 -- ---- credit and debit: the refusals are 23, 24 and 25, so that what these have every one of them has
 abbrev pub AnswerHas : (ℕ → Type 0) → Answer → Type 0
-AnswerHas Q answer.Accepted = Unit {0}
-AnswerHas Q (answer.Refused r) = Q r
+AnswerHas Q (Ok tt) = Unit {0}
+AnswerHas Q (Err r) = Q r
 
 module _ (Q : ℕ → Type 0) (q23 : Q 23) (q24 : Q 24) (q25 : Q 25) where
   abbrev ChangedHas : Changed → Type 0
@@ -274,13 +265,13 @@ module _ (Q : ℕ → Type 0) (q23 : Q 23) (q24 : Q 24) (q25 : Q 25) where
       (both ChangedHas (ltb h.count 128) tt q24))
       (both ChangedHas (ltb (place_of key h.ids h.count) h.count) (differences (checked (get_or h.amounts (place_of key h.ids h.count) (pos 0) -ℤ v))) tt)
     where
-      sums : (x : Checked) → ChangedHas (sum_at h (place_of key h.ids h.count) x)
-      sums (Is u) = tt
-      sums Out = q23
+      sums : (x : Option ℤ) → ChangedHas (sum_at h (place_of key h.ids h.count) x)
+      sums (Some u) = tt
+      sums None = q23
 
-      differences : (x : Checked) → ChangedHas (difference_at h (place_of key h.ids h.count) x)
-      differences (Is u) = tt
-      differences Out = q23
+      differences : (x : Option ℤ) → ChangedHas (difference_at h (place_of key h.ids h.count) x)
+      differences (Some u) = tt
+      differences None = q23
 
   then_changed : (f : Held → Changed) → ((h : Held) → ChangedHas (f h)) → (x : Changed) → ChangedHas x → ChangedHas (and_then x f)
   then_changed f g (held h) k = g h
@@ -302,9 +293,9 @@ module _ (Q : ℕ → Type 0) (q23 : Q 23) (q24 : Q 24) (q25 : Q 25) where
       settled_coded v (held h) k = tt
       settled_coded v (refused_by r) k = k
 
-      by : (x : Checked) → AnswerHas Q (box_by adding b ids amounts n x).answer
-      by (Is v) = settled_coded v (change_tokens adding ids amounts 0 n (held_by b)) (tokens_coded adding ids amounts 0 n (held_by b))
-      by Out = q23
+      by : (x : Option ℤ) → AnswerHas Q (box_by adding b ids amounts n x).answer
+      by (Some v) = settled_coded v (change_tokens adding ids amounts 0 n (held_by b)) (tokens_coded adding ids amounts 0 n (held_by b))
+      by None = q23
 
 -- ---- the operations of the machine
 abbrev pub NotZero : {S A : Type 0} → Made S A → Type 0
@@ -319,15 +310,15 @@ module _ (ids : ledger.Parent → List ℕ) where
       o = appending_to edition_1 ids b ch n
 
       by : (x : Appended) → AppendNotZero x → NotZero (index.after_append b ch x (appending_to edition_1 ids b ch n).head (appending_to edition_1 ids b ch n).staged)
-      by (appended.Done h c) k = tt
-      by (appended.Refused r) k = k
+      by (Ok (h, c)) k = tt
+      by (Err r) k = k
 
   pub do_pop_coded : (b : Index) (ch : ledger.Series) → NotZero (do_pop edition_1 ids b ch)
   do_pop_coded b ch = by (popping_from edition_1 ids b ch).answer (pop_coded (kind_of ch) (ids (ledger.parent_of ch)) (b.parts ch).head b.lists (b.parts ch).places)
     where
       by : (x : Popped) → PopNotZero x → NotZero (index.after_pop b ch x (popping_from edition_1 ids b ch).head (popping_from edition_1 ids b ch).staged (popping_from edition_1 ids b ch).deleted)
-      by (popped.Number z h c d) k = tt
-      by (popped.Refused r) k = k
+      by (Ok (z, h, c, d)) k = tt
+      by (Err r) k = k
 
   pub do_flip_coded : (d : Direction) (b : Index) (p : ledger.Parent) (t : ℤ) → NotZero (do_flip edition_1 ids d b p t)
   do_flip_coded d b p t =
@@ -335,15 +326,15 @@ module _ (ids : ledger.Parent → List ℕ) where
       (flip_coded d (ids p) (b.parts (ledger.boxes p)).head t b.lists.staged_counts b.lists.staged b.lists.table_counts b.lists.table (b.parts (ledger.boxes p)).places)
     where
       by : (x : Flipped) → FlipNotZero x → NotZero (index.after_flip b (ledger.boxes p) x (flipping_in edition_1 ids d b p t).head (flipping_in edition_1 ids d b p t).staged)
-      by (flipped.Done c) k = tt
-      by (flipped.Refused r) k = k
+      by (Ok c) k = tt
+      by (Err r) k = k
 
   pub do_flush_coded : (b : Index) → NotZero (do_flush edition_1 ids b)
   do_flush_coded b = by (flushing_of edition_1 ids b).answer (flush_coded b.lists)
     where
       by : (x : Flushed) → FlushNotZero x → NotZero (index.after_flush b x (flushing_of edition_1 ids b).table (flushing_of edition_1 ids b).staged (flushing_of edition_1 ids b).deleted)
-      by (flushed.Done t c d) k = tt
-      by (flushed.Refused r) k = k
+      by (Ok (t, c, d)) k = tt
+      by (Err r) k = k
 
 pub change_coded : (adding : Bool) (b : Balance) (nanos : ℤ) (ts : Tokens) → NotZero (outcome_of (change_box adding b nanos (ids_of ts) (amounts_of ts) (length ts)))
 change_coded adding b nanos ts =
@@ -351,5 +342,5 @@ change_coded adding b nanos ts =
     (box_coded (λ r. 0 < r) (omega arith) (omega arith) (omega arith) adding b nanos (ids_of ts) (amounts_of ts) (length ts))
   where
     by : (x : Answer) → AnswerHas (λ r. 0 < r) x → NotZero (answered x (change_box adding b nanos (ids_of ts) (amounts_of ts) (length ts)).balance)
-    by answer.Accepted k = tt
-    by (answer.Refused r) k = k
+    by (Ok tt) k = tt
+    by (Err r) k = k

@@ -1,10 +1,10 @@
 -- A turn of a batch: what the code has done is the definition's, and it keeps what was tested.
-use Prim.Native.Nat.{ℕ, zero, suc, ◌+◌, ◌*◌, ◌-◌, ◌≤◌, ◌<◌}
+use Prim.Native.Nat.{ℕ, zero, suc, ◌+◌, ◌-◌, ◌≤◌, ◌<◌}
 use mathlib.Core.Path.{◌≡◌, refl, sym, ap, ◌∙◌, subst}
-use mathlib.Core.Bool.{Bool, true, false, cond, ◌&&◌}
+use mathlib.Core.Bool.{Bool, true, false, cond}
 use mathlib.Core.List.{List}
 use native.Mathlib.Omega.{arith}
-use lib.Dec.{eqb, leb, ltb}
+use lib.Dec.{eqb, leb}
 use lib.IntN.{ℤ}
 use lib.ListN.{length, set}
 use borrow.Author.Tests.{leb-true, ltb-true}
@@ -201,12 +201,11 @@ module _ (journaled : Bool) (parents : ℕ) (s : List ℕ) (r : Applying) (f : T
   pub turn_kept : After (turn_of journaled parents s r)
   turn_kept = after_read (read_at parents s r.at) refl
 
--- ---- the loop: the slices keep their lengths, the state and the journal what 25 tests, and what is left to make ends where the whole batch ends
+-- ---- the loop: the state and the journal keep what 25 tests, and what is left to make ends where the whole batch ends
 abbrev go : Applying → Bool
 go r = may_go r.made r.ended r.answers
 
-pub record Kept (sizes : Type 0) (journaled : Bool) (parents : ℕ) (s : List ℕ) (left : ℕ) (r r₀ : Applying) : Type 0 where
-  pub same : sizes
+pub record Kept (journaled : Bool) (parents : ℕ) (s : List ℕ) (left : ℕ) (r r₀ : Applying) : Type 0 where
   pub ready : Ready parents r.now
   pub entries : JournalReady r.kept
   pub within : r.at ≤ length s
@@ -231,20 +230,19 @@ module _ (journaled : Bool) (parents : ℕ) (s : List ℕ) where
   turns_end zero r h = refl
   turns_end (suc n) r h = absurd (omega arith)
 
-module _ (sizes : Type 0) (journaled : Bool) (parents : ℕ) (s : List ℕ) where
-  pub kept_start : (r : Applying) → sizes → Ready parents r.now → JournalReady r.kept → r.at ≡ 0 → Kept sizes journaled parents s (length s + 1) r r
-  kept_start r k f j e = record { same = k; ready = f; entries = j; within = omega (arith, e); rest = refl }
+module _ (journaled : Bool) (parents : ℕ) (s : List ℕ) where
+  pub kept_start : (r : Applying) → Ready parents r.now → JournalReady r.kept → r.at ≡ 0 → Kept journaled parents s (length s + 1) r r
+  kept_start r f j e = record { ready = f; entries = j; within = omega (arith, e); rest = refl }
 
-  module _ (left : ℕ) (r r₀ : Applying) (k : Kept sizes journaled parents s left r r₀) where
+  module _ (left : ℕ) (r r₀ : Applying) (k : Kept journaled parents s left r r₀) where
     pub kept_turn_ready : go r ≡ true → TurnReady parents s r
     kept_turn_ready e =
         record { ready = k.ready; entries = k.entries; within = k.within; room = ltb-true r.made (length r.answers) (and_right (eqb r.ended 0) _ e) }
 
-    pub kept_turn : (sizes' : Type 0) (r' : Applying) → 0 < left → go r ≡ true → sizes' → r' ≡ turn_of journaled parents s r → Kept sizes' journaled parents s (left - 1) r' r₀
-    kept_turn sizes' r' h e z q =
+    pub kept_turn : (r' : Applying) → 0 < left → go r ≡ true → r' ≡ turn_of journaled parents s r → Kept journaled parents s (left - 1) r' r₀
+    kept_turn r' h e q =
         let t = subst (After journaled parents s r (kept_turn_ready e)) (sym q) (turn_kept journaled parents s r (kept_turn_ready e)) in
         record {
-          same = z;
           ready = t.ready;
           entries = t.entries;
           within = t.within;

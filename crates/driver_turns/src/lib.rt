@@ -137,19 +137,16 @@ fn apply_ready(
         standing,
         ended: ANSWERS_FULL,
     };
-    let mut left = input.len() + 1;
-    while 0 < left {
+    for _ in 0..=input.len() {
         let made = p.made;
         let ended = p.ended;
-        if driver_journal::may_go(made, ended, answers) {
-            p = turn(
-                journaled, input, parents, ids, numbers, lengths, spills, staged, table, deleted,
-                entries, answers, popped, hints, p,
-            );
-            left -= 1;
-        } else {
+        if !driver_journal::may_go(made, ended, answers) {
             return p;
         }
+        p = turn(
+            journaled, input, parents, ids, numbers, lengths, spills, staged, table, deleted,
+            entries, answers, popped, hints, p,
+        );
     }
     p
 }

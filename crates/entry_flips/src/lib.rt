@@ -14,17 +14,7 @@ fn place_from(xs: &[i64], n: usize, target: u64) -> usize
     requires { (n ≤ length xs.now) × (order_ok (take n xs.now) ≡ true) }
     ensures { (result ≤ n) × Below target result xs.now × From target result n xs.now }
 {
-    let mut low = 0;
-    let mut high = n;
-    while low < high {
-        let middle = low + (high - low) / 2;
-        if signed::magnitude(xs[middle]) < target {
-            low = middle + 1;
-        } else {
-            high = middle;
-        }
-    }
-    low
+    xs[..n].partition_point(|x| signed::magnitude(*x) < target)
 }
 
 fn not_taken(seen: bool) -> Position
@@ -43,8 +33,7 @@ pub fn flip_position(xs: &[i64], n: usize, target: u64, spend: bool) -> Position
     ensures { result ≡ position spend target (take n xs.now) 0 false }
 {
     let mut seen = false;
-    let mut i = place_from(xs, n, target);
-    while i < n {
+    for i in place_from(xs, n, target)..n {
         let x = xs[i];
         if target < signed::magnitude(x) {
             return not_taken(seen);
@@ -53,7 +42,6 @@ pub fn flip_position(xs: &[i64], n: usize, target: u64, spend: bool) -> Position
             return Position::At(i);
         }
         seen = true;
-        i += 1;
     }
     not_taken(seen)
 }

@@ -19,29 +19,24 @@ pub fn order_ok(xs: &[i64], n: usize) -> bool
     requires { n ≤ length xs.now }
     ensures { result ≡ order_ok (take n xs.now) }
 {
+    let (fours, rest) = xs[..n].as_chunks::<4>();
     let mut prev: u64 = 0;
-    let mut i = 0;
-    while 4 <= n - i {
-        let second = i + 1;
-        let third = i + 2;
-        let fourth = i + 3;
-        let a = signed::magnitude(xs[i]);
-        let b = signed::magnitude(xs[second]);
-        let c = signed::magnitude(xs[third]);
-        let d = signed::magnitude(xs[fourth]);
+    for [a, b, c, d] in fours {
+        let a = signed::magnitude(*a);
+        let b = signed::magnitude(*b);
+        let c = signed::magnitude(*c);
+        let d = signed::magnitude(*d);
         if four_fall(prev, a, b, c, d) {
             return false;
         }
         prev = d;
-        i += 4;
     }
-    while i < n {
-        let a = signed::magnitude(xs[i]);
+    for x in rest {
+        let a = signed::magnitude(*x);
         if a < prev {
             return false;
         }
         prev = a;
-        i += 1;
     }
     prev < LIMIT
 }

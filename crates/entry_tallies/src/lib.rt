@@ -34,12 +34,9 @@ pub fn tally_entries(xs: &[i64], n: usize) -> Tally
 {
     let mut unspent = 0;
     let mut spent = 0;
-    let mut i = 0;
-    while i < n {
-        let x = xs[i];
-        unspent += one_above(x);
-        spent += one_below(x);
-        i += 1;
+    for x in &xs[..n] {
+        unspent += one_above(*x);
+        spent += one_below(*x);
     }
     Tally {
         unspent,

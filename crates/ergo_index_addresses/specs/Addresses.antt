@@ -1,7 +1,6 @@
 -- What the reader's export leaves: the code, the outs and both lists at exit. A refusal changes nothing.
-use Rattle.std.specs.Prelude.{ℕ, Bool, List, ℤ}
-use Rattle.refusal.specs.declared.Answer.{Answer}
-use Rattle.refusal.specs.declared.Answer.TheVariants as answer
+use Rattle.std.specs.Prelude.{ℕ, Bool, List, ℤ, Ok, Err}
+use Rattle.refusal.specs.Answers.{Answer}
 use Rattle.address_core.specs.declared.IndexedAddress.{IndexedAddress}
 use Rattle.address_core.specs.Loading.{AddressLoading}
 use Rattle.balance.specs.Parts.{flat}
@@ -20,8 +19,8 @@ abbrev pub address_out : ℕ → IndexedAddress → List ℤ → List ℤ → Ad
 address_out code a l m = record { code = code; address = a; txs = l; boxes = m }
 
 abbrev pub address_by : Answer → (read given : IndexedAddress) → List ℤ → List ℤ → AddressOut
-address_by answer.Accepted read given txs boxes = address_out 0 read txs boxes
-address_by (answer.Refused code) read given txs boxes = address_out code given txs boxes
+address_by (Ok tt) read given txs boxes = address_out 0 read txs boxes
+address_by (Err code) read given txs boxes = address_out code given txs boxes
 
 abbrev pub address_export : IndexedAddress → AddressLoading → AddressOut
 address_export given l = address_by l.answer.answer l.answer.address given l.txs l.boxes

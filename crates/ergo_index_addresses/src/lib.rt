@@ -8,7 +8,6 @@ ghost use Rattle.ergo_index_numbers.specs.Numbers.{write_out, write_export};
 ghost use Rattle.ergo_index_addresses.specs.Addresses.{address, address_out, address_export};
 
 use index_types::{TOKEN_ID_BYTES, TOKEN_LIMIT};
-use refusal::Answer;
 
 // Writes an address record: the hash, the flag, the balance where the flag is set, and the segment.
 #[unsafe(no_mangle)]
@@ -77,7 +76,7 @@ pub extern "C" fn ergo_index_read_indexed_address(
     let read = address::read_indexed_address(row, txs, boxes);
     let answer = read.answer;
     match answer {
-        Answer::Accepted => {
+        Ok(()) => {
             let found = read.address;
             let held = found.balance;
             let found_hash = found.hash;
@@ -98,6 +97,6 @@ pub extern "C" fn ergo_index_read_indexed_address(
             *tx_segment_count = found_txs_spilled;
             0
         }
-        Answer::Refused(code) => code,
+        Err(code) => code,
     }
 }

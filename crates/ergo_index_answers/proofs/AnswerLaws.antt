@@ -3,17 +3,17 @@ use Prim.Native.Nat.{ℕ}
 use mathlib.Core.Path.{◌≡◌}
 use mathlib.Core.Bool.{Bool, true, false}
 use borrow.Author.Tests.{eq-eqb, ne_eqb}
-use Rattle.refusal.specs.declared.Answer.{Answer}
-use Rattle.refusal.specs.declared.Answer.TheVariants.{Accepted, Refused}
+use Rattle.std.specs.Prelude.{Ok, Err}
+use Rattle.refusal.specs.Answers.{Answer}
 use Rattle.refusal.specs.declared.Tolerated.{Tolerated}
 use Rattle.refusal.specs.declared.Tolerated.TheVariants as kept
 use Rattle.refusal.specs.Refusal.{tolerated}
 use Rattle.ergo_index_answers.specs.Answers.{answer_of, drift_out, drift_export}
 
-pub code_zero : (code : ℕ) → code ≡ 0 → Accepted ≡ answer_of code
+pub code_zero : (code : ℕ) → code ≡ 0 → (Ok tt) ≡ answer_of code
 code_zero code e = rw (eq-eqb code 0 e)
 
-pub code_other : (code : ℕ) → (code ≡ 0 → ⊥) → Refused code ≡ answer_of code
+pub code_other : (code : ℕ) → (code ≡ 0 → ⊥) → Err code ≡ answer_of code
 code_other code e = rw (ne_eqb code 0 e)
 
 -- a is the answer that the rule was given, r what it left

@@ -1,12 +1,11 @@
 -- The drift rule on codes: 0 is an accepted flip, any other code its refusal.
-use Rattle.std.specs.Prelude.{ℕ, Bool, true, false, cond, eqb}
-use Rattle.refusal.specs.declared.Answer.{Answer}
-use Rattle.refusal.specs.declared.Answer.TheVariants.{Accepted, Refused}
+use Rattle.std.specs.Prelude.{ℕ, Bool, true, false, cond, eqb, Ok, Err}
+use Rattle.refusal.specs.Answers.{Answer}
 use Rattle.refusal.specs.declared.Tolerated.{Tolerated}
 use Rattle.refusal.specs.declared.Tolerated.TheVariants as kept
 
 abbrev pub answer_of : ℕ → Answer
-answer_of code = cond (eqb code 0) Accepted (Refused code)
+answer_of code = cond (eqb code 0) (Ok tt) (Err code)
 
 pub record DriftOut : Type 0 where
   pub code : ℕ

@@ -12,11 +12,7 @@ use refusal::{Answer, Tolerated};
 fn answer_of(code: u8) -> Answer
     ensures { result ≡ answer_of code }
 {
-    if code == 0 {
-        Answer::Accepted
-    } else {
-        Answer::Refused(code)
-    }
+    if code == 0 { Ok(()) } else { Err(code) }
 }
 
 // A flip whose code is 15 is skipped, which is no refusal; any other code passes.

@@ -3,7 +3,7 @@ use Prim.Native.Nat.{ℕ}
 use mathlib.Core.Path.{◌≡◌, ap}
 use mathlib.Core.List.{List}
 use lib.IntN.{ℤ}
-use Rattle.index_types.specs.declared.Appended.{Appended}
+use Rattle.index_types.specs.Answers.{Appended}
 use Rattle.buffer_core.specs.Append.{Appending, appending}
 use Rattle.ergo_index_outs.specs.Outs.{append_by}
 use Rattle.ergo_index_append.specs.Append.{append_export}

@@ -15,8 +15,8 @@ fn code_of(answer: Answer) -> u8
     ensures { result ≡ code_of answer }
 {
     match answer {
-        Answer::Accepted => 0,
-        Answer::Refused(code) => code,
+        Ok(()) => 0,
+        Err(code) => code,
     }
 }
 

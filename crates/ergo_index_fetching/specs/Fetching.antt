@@ -1,9 +1,8 @@
 -- What the export of putting a row leaves: the code, the number of records and their bytes. A refusal leaves both as they were.
-use Rattle.std.specs.Prelude.{ℕ, List}
+use Rattle.std.specs.Prelude.{ℕ, List, Ok, Err}
 use Rattle.index_types.specs.declared.RowEdition.{RowEdition}
 use Rattle.buffer_core.specs.Edition.{edition_of}
-use Rattle.row_fetching.specs.declared.RowPut.{RowPut}
-use Rattle.row_fetching.specs.declared.RowPut.TheVariants.{Done, Refused}
+use Rattle.row_fetching.specs.Answers.{RowPut}
 use Rattle.row_fetching.specs.Putting.{Putting, put_of}
 use Rattle.ergo_index_lists.specs.Lists.{list_of}
 
@@ -16,8 +15,8 @@ abbrev pub put_out : (code count : ℕ) → List ℕ → PutOut
 put_out code count table = record { code = code; count = count; table = table }
 
 abbrev pub put_by : RowPut → ℕ → List ℕ → PutOut
-put_by (Done c) count table = put_out 0 c.count table
-put_by (Refused code) count table = put_out code count table
+put_by (Ok c) count table = put_out 0 c.count table
+put_by (Err code) count table = put_out code count table
 
 abbrev pub put_export : ℕ → Putting → PutOut
 put_export count p = put_by p.answer count p.work

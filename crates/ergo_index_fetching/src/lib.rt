@@ -6,7 +6,6 @@ ghost use Rattle.ergo_index_lists.specs.Lists.{named_edition};
 ghost use Rattle.ergo_index_fetching.specs.Fetching.{put_out, put_call};
 
 use index_types::ListCounts;
-use row_fetching::RowPut;
 
 // Puts a row under its key. The number of records goes to the out.
 #[unsafe(no_mangle)]
@@ -33,10 +32,10 @@ pub extern "C" fn ergo_index_put_row<'a>(
         table,
     );
     match put {
-        RowPut::Done(after) => {
+        Ok(after) => {
             *table_count = after.count;
             0
         }
-        RowPut::Refused(code) => code,
+        Err(code) => code,
     }
 }

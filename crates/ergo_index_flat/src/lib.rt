@@ -5,18 +5,18 @@ ghost use Rattle.std.specs.Prelude.{ℕ, ◌≡◌, true, false, List, ℤ};
 ghost use Rattle.flat_list.specs.Flat.{flat_append, flat_flip, flat_pop};
 ghost use Rattle.ergo_index_flat.specs.Exports.{change_out, change_by, change_export, pop_out, pop_export};
 
-use index_types::{BoxNumber, FlatChanged, FlatPopped};
+use index_types::{BoxNumber, FlatChanged};
 
 // The count after the call goes to the out, and the code is the result; a refusal leaves the count.
 fn told(changed: FlatChanged, count: &mut usize) -> u8
     ensures { (list : List ℤ) → change_out result count.new list ≡ change_by changed count.old list }
 {
     match changed {
-        FlatChanged::Done(after) => {
+        Ok(after) => {
             *count = after;
             0
         }
-        FlatChanged::Refused(code) => code,
+        Err(code) => code,
     }
 }
 
@@ -63,12 +63,12 @@ pub extern "C" fn ergo_index_flat_pop_box(
 {
     let popped = flat_list::pop_box(*count, list);
     match popped {
-        FlatPopped::Number(last, left) => {
+        Ok((last, left)) => {
             let popped_number = last.0;
             *number = popped_number;
             *count = left;
             0
         }
-        FlatPopped::Refused(code) => code,
+        Err(code) => code,
     }
 }

@@ -3,8 +3,8 @@ use Prim.Native.Nat.{ℕ}
 use mathlib.Core.Path.{◌≡◌, ◌∙◌, ap}
 use mathlib.Core.List.{List}
 use lib.IntN.{ℤ}
-use Rattle.index_types.specs.declared.Flipped.{Flipped}
-use Rattle.index_types.specs.declared.Tallied.{Tallied}
+use Rattle.index_types.specs.Answers.{Flipped}
+use Rattle.index_types.specs.Answers.{Tallied}
 use Rattle.buffer_core.specs.Flip.{Flipping, flipping}
 use Rattle.ergo_index_outs.specs.Outs.{flip_by, tally_out, tally_export}
 use Rattle.ergo_index_flips.specs.Flips.{flip_export}

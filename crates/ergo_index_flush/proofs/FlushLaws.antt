@@ -2,7 +2,7 @@
 use Prim.Native.Nat.{ℕ}
 use mathlib.Core.Path.{◌≡◌, ap}
 use mathlib.Core.List.{List}
-use Rattle.index_types.specs.declared.Flushed.{Flushed}
+use Rattle.index_types.specs.Answers.{Flushed}
 use Rattle.buffer_core.specs.Flush.{Flushing, flushing}
 use Rattle.ergo_index_outs.specs.Outs.{flush_by}
 use Rattle.ergo_index_flush.specs.Flush.{flush_export}

@@ -6,7 +6,7 @@ ghost use Rattle.load_core.specs.Draw.{source};
 ghost use Rattle.load.specs.Generated.{generate_load_of, go_on_of};
 ghost use Rattle.ergo_index_load.specs.Load.{load_out, load_export};
 
-use load::{Generated, Source};
+use load::Source;
 
 // Writes `count` calls at the front of the output, drawn from the state `from`: how many bytes they took, and the generator after them.
 #[unsafe(no_mangle)]
@@ -24,14 +24,14 @@ pub extern "C" fn ergo_index_generate_load(
 {
     let generated = load::generate_load(from, count, out);
     match generated {
-        Generated::Written(n, after) => {
+        Ok((n, after)) => {
             *written = n;
             *state = after.state;
             *boxes = after.boxes;
             *txs = after.txs;
             0
         }
-        Generated::Refused(code) => code,
+        Err(code) => code,
     }
 }
 
@@ -56,13 +56,13 @@ pub extern "C" fn ergo_index_go_on(
     };
     let generated = load::go_on(before, count, out);
     match generated {
-        Generated::Written(n, next) => {
+        Ok((n, next)) => {
             *written = n;
             *state = next.state;
             *boxes = next.boxes;
             *txs = next.txs;
             0
         }
-        Generated::Refused(code) => code,
+        Err(code) => code,
     }
 }

@@ -3,21 +3,19 @@ use Prim.Native.Nat.{ℕ}
 use mathlib.Core.Path.{◌≡◌, ap}
 use mathlib.Core.List.{List}
 use lib.IntN.{ℤ}
-use Rattle.index_types.specs.declared.Wrote.{Wrote}
-use Rattle.index_types.specs.declared.Wrote.TheVariants as wrote
-use Rattle.index_types.specs.declared.Long.{Long}
-use Rattle.index_types.specs.declared.Long.TheVariants as long
-use Rattle.index_types.specs.declared.Int.{Int}
-use Rattle.index_types.specs.declared.Int.TheVariants as int
+use Rattle.std.specs.Prelude.{Ok, Err}
+use Rattle.index_types.specs.Answers.{Wrote}
+use Rattle.index_types.specs.Answers.{Long}
+use Rattle.index_types.specs.Answers.{Int}
 use Rattle.vlq_core.specs.Writing.{Written, written}
 use Rattle.ergo_index_numbers.specs.Numbers.{write_out, write_by, write_export, number_out, long_export, int_export}
 
 -- what goes to the position
 module _ (r : Wrote) (at : ℕ) (out : List ℕ) where
-  pub moved_next : (n : ℕ) → r ≡ wrote.Next n → write_out 0 n out ≡ write_by r at out
+  pub moved_next : (n : ℕ) → r ≡ Ok n → write_out 0 n out ≡ write_by r at out
   moved_next n f = rw f
 
-  pub moved_none : (code : ℕ) → r ≡ wrote.Refused code → write_out code at out ≡ write_by r at out
+  pub moved_none : (code : ℕ) → r ≡ Err code → write_out code at out ≡ write_by r at out
   moved_none code f = rw f
 
 -- r and l are what the public call left
@@ -25,14 +23,14 @@ pub write_told : (r : Wrote) (l : List ℕ) (w : Written) → written r l ≡ w 
 write_told r l w e at = ap (λ (x : Written). write_export at x) e
 
 -- z is the number as it was stored
-pub long_read : (r o : Long) (at : ℕ) (n m : ℤ) (next : ℕ) (z : ℤ) → r ≡ o → r ≡ long.Number m next → z ≡ m → number_out 0 next z ≡ long_export at n o
+pub long_read : (r o : Long) (at : ℕ) (n m : ℤ) (next : ℕ) (z : ℤ) → r ≡ o → r ≡ Ok (m, next) → z ≡ m → number_out 0 next z ≡ long_export at n o
 long_read r o at n m next z e f g = rw (← e, f, g)
 
-pub long_none : (r o : Long) (at : ℕ) (n : ℤ) (code : ℕ) → r ≡ o → r ≡ long.Refused code → number_out code at n ≡ long_export at n o
+pub long_none : (r o : Long) (at : ℕ) (n : ℤ) (code : ℕ) → r ≡ o → r ≡ Err code → number_out code at n ≡ long_export at n o
 long_none r o at n code e f = rw (← e, f)
 
-pub int_read : (r o : Int) (at : ℕ) (n m : ℤ) (next : ℕ) (z : ℤ) → r ≡ o → r ≡ int.Number m next → z ≡ m → number_out 0 next z ≡ int_export at n o
+pub int_read : (r o : Int) (at : ℕ) (n m : ℤ) (next : ℕ) (z : ℤ) → r ≡ o → r ≡ Ok (m, next) → z ≡ m → number_out 0 next z ≡ int_export at n o
 int_read r o at n m next z e f g = rw (← e, f, g)
 
-pub int_none : (r o : Int) (at : ℕ) (n : ℤ) (code : ℕ) → r ≡ o → r ≡ int.Refused code → number_out code at n ≡ int_export at n o
+pub int_none : (r o : Int) (at : ℕ) (n : ℤ) (code : ℕ) → r ≡ o → r ≡ Err code → number_out code at n ≡ int_export at n o
 int_none r o at n code e f = rw (← e, f)

@@ -8,18 +8,18 @@ ghost use Rattle.vlq_core.specs.Reading.{read_at, long_of, int_of};
 ghost use Rattle.vlq_core.specs.Writing.{put_bytes};
 ghost use Rattle.ergo_index_numbers.specs.Numbers.{write_out, write_by, write_export, number_out, long_export, int_export};
 
-use index_types::{Int, Long, Wrote};
+use index_types::Wrote;
 
 // The position goes behind what was written, and the code is the result; a refusal leaves the position.
 pub fn moved(wrote: Wrote, at: &mut usize) -> u8
     ensures { (out : List ℕ) → write_out result at.new out ≡ write_by wrote at.old out }
 {
     match wrote {
-        Wrote::Next(next) => {
+        Ok(next) => {
             *at = next;
             0
         }
-        Wrote::Refused(code) => code,
+        Err(code) => code,
     }
 }
 
@@ -48,12 +48,12 @@ pub extern "C" fn ergo_index_get_i64(src: &[u8], at: &mut usize, n: &mut i64) ->
 {
     let read = vlq::get_i64(src, *at);
     match read {
-        Long::Number(number, next) => {
+        Ok((number, next)) => {
             *at = next;
             *n = number;
             0
         }
-        Long::Refused(code) => code,
+        Err(code) => code,
     }
 }
 
@@ -64,11 +64,11 @@ pub extern "C" fn ergo_index_get_i32(src: &[u8], at: &mut usize, n: &mut i32) ->
 {
     let read = vlq::get_i32(src, *at);
     match read {
-        Int::Number(number, next) => {
+        Ok((number, next)) => {
             *at = next;
             *n = number;
             0
         }
-        Int::Refused(code) => code,
+        Err(code) => code,
     }
 }

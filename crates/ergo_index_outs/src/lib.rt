@@ -17,14 +17,14 @@ pub fn append_told(
         ≡ append_by appended len.old spills.old staged_count.old head staged }
 {
     match appended {
-        Appended::Done(head_after, staged_after) => {
+        Ok((head_after, staged_after)) => {
             let spills_after = head_after.spills;
             *len = head_after.len;
             *spills = spills_after;
             *staged_count = staged_after.count;
             0
         }
-        Appended::Refused(code) => code,
+        Err(code) => code,
     }
 }
 
@@ -42,7 +42,7 @@ pub fn pop_told(
         ≡ pop_by popped number.old len.old spills.old staged_count.old deleted_count.old head staged deleted }
 {
     match popped {
-        Popped::Number(last, after, staged_after, deleted_after) => {
+        Ok((last, after, staged_after, deleted_after)) => {
             let spills_after = after.spills;
             *number = last;
             *len = after.len;
@@ -51,7 +51,7 @@ pub fn pop_told(
             *deleted_count = deleted_after.count;
             0
         }
-        Popped::Refused(code) => code,
+        Err(code) => code,
     }
 }
 
@@ -60,11 +60,11 @@ pub fn flip_told(flipped: Flipped, staged_count: &mut usize) -> u8
     ensures { (head : List ℤ) (staged : List ℕ) → flip_out result staged_count.new head staged ≡ flip_by flipped staged_count.old head staged }
 {
     match flipped {
-        Flipped::Done(after) => {
+        Ok(after) => {
             *staged_count = after.count;
             0
         }
-        Flipped::Refused(code) => code,
+        Err(code) => code,
     }
 }
 
@@ -78,13 +78,13 @@ pub fn tally_told(
     ensures { tally_out result unspent.new spent.new unknown.new ≡ tally_export unspent.old spent.old unknown.old tallied }
 {
     match tallied {
-        Tallied::Counts(tally) => {
+        Ok(tally) => {
             *unspent = tally.unspent;
             *spent = tally.spent;
             *unknown = tally.unknown;
             0
         }
-        Tallied::Refused(code) => code,
+        Err(code) => code,
     }
 }
 
@@ -100,12 +100,12 @@ pub fn flush_told(
         ≡ flush_by flushed staged_count.old table_count.old deleted_count.old staged table deleted }
 {
     match flushed {
-        Flushed::Done(table_after, staged_after, deleted_after) => {
+        Ok((table_after, staged_after, deleted_after)) => {
             *staged_count = staged_after.count;
             *table_count = table_after.count;
             *deleted_count = deleted_after.count;
             0
         }
-        Flushed::Refused(code) => code,
+        Err(code) => code,
     }
 }

@@ -1,8 +1,7 @@
 -- What the export of a page leaves: the code, and the out and the borrowed list at exit, from the definition of the public call. The count is a borrowed number;
 -- an accepted call sets it, "a refusal returns its number only and changes nothing".
-use Rattle.std.specs.Prelude.{ℕ, List, ℤ}
-use Rattle.index_types.specs.declared.Paged.{Paged}
-use Rattle.index_types.specs.declared.Paged.TheVariants.{Numbers, Refused}
+use Rattle.std.specs.Prelude.{ℕ, List, ℤ, Ok, Err}
+use Rattle.index_types.specs.Answers.{Paged}
 use Rattle.index_types.specs.declared.RowEdition.{RowEdition}
 use Rattle.buffer_core.specs.Edition.{edition_of}
 use Rattle.buffer_core.specs.Append.{counts_of}
@@ -19,8 +18,8 @@ abbrev pub page_out : (code count : ℕ) → List ℤ → PageOut
 page_out code count page = record { code = code; count = count; page = page }
 
 abbrev pub page_by : Paged → ℕ → List ℤ → PageOut
-page_by (Numbers n) count page = page_out 0 n page
-page_by (Refused code) count page = page_out code count page
+page_by (Ok n) count page = page_out 0 n page
+page_by (Err code) count page = page_out code count page
 
 abbrev pub page_export : ℕ → Paging → PageOut
 page_export count p = page_by p.answer count p.page

@@ -6,7 +6,7 @@ ghost use Rattle.index_types.specs.declared.RowEdition.TheVariants.{One};
 ghost use Rattle.ergo_index_lists.specs.Lists.{named_edition};
 ghost use Rattle.ergo_index_pages.specs.Pages.{page_out, page_call};
 
-use index_types::{HeadCounts, ListCounts, Paged};
+use index_types::{HeadCounts, ListCounts};
 
 // The unspent box numbers of head and rows, newest first: those from the offset on, as many as the length asks, then zeros to 64. How many stand in the page
 // goes to the out.
@@ -94,10 +94,10 @@ pub extern "C" fn ergo_index_unspent_page_in_edition<'a>(
         page,
     );
     match paged {
-        Paged::Numbers(count) => {
+        Ok(count) => {
             *numbers = count;
             0
         }
-        Paged::Refused(code) => code,
+        Err(code) => code,
     }
 }

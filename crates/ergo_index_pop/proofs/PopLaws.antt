@@ -3,7 +3,7 @@ use Prim.Native.Nat.{ℕ}
 use mathlib.Core.Path.{◌≡◌, ap}
 use mathlib.Core.List.{List}
 use lib.IntN.{ℤ}
-use Rattle.index_types.specs.declared.Popped.{Popped}
+use Rattle.index_types.specs.Answers.{Popped}
 use Rattle.buffer_core.specs.Pop.{Popping, popping}
 use Rattle.ergo_index_outs.specs.Outs.{pop_by}
 use Rattle.ergo_index_pop.specs.Pop.{pop_export}

@@ -1,10 +1,9 @@
 -- What the export of a rank leaves: the code, and the order as a number, -1, 0 or 1. A refusal leaves the number as it was.
-use Rattle.std.specs.Prelude.{ℕ, Bool, ℤ, pos, negsuc}
+use Rattle.std.specs.Prelude.{ℕ, Bool, ℤ, pos, negsuc, Ok, Err}
 use Rattle.index_types.specs.declared.Order.{Order}
 use Rattle.index_types.specs.declared.Order.TheVariants.{Less, Equal, Greater}
 use Rattle.index_types.specs.declared.AddressCounts.{AddressCounts}
-use Rattle.index_types.specs.declared.Ranked.{Ranked}
-use Rattle.index_types.specs.declared.Ranked.TheVariants.{Ranks, Refused}
+use Rattle.index_types.specs.Answers.{Ranked}
 use Rattle.buffer_core.specs.Append.{counts_of}
 use Rattle.ergo_index_lists.specs.Lists.{list_of}
 
@@ -26,5 +25,5 @@ abbrev pub rank_out : ℕ → ℤ → RankOut
 rank_out code order = record { code = code; order = order }
 
 abbrev pub rank_by : Ranked → ℤ → RankOut
-rank_by (Ranks o) order = rank_out 0 (order_number o)
-rank_by (Refused code) order = rank_out code order
+rank_by (Ok o) order = rank_out 0 (order_number o)
+rank_by (Err code) order = rank_out code order

@@ -69,12 +69,12 @@ fn told(ranked: Ranked, order: &mut i32) -> u8
     ensures { rank_out result order.new ≡ rank_by ranked order.old }
 {
     match ranked {
-        Ranked::Ranks(by) => {
+        Ok(by) => {
             let number = number_of(by);
             *order = number;
             0
         }
-        Ranked::Refused(code) => code,
+        Err(code) => code,
     }
 }
 

@@ -2,8 +2,8 @@
 use Prim.Native.Nat.{ℕ}
 use mathlib.Core.Path.{◌≡◌}
 use mathlib.Core.List.{List}
-use Rattle.index_types.specs.declared.Summarized.{Summarized}
-use Rattle.index_types.specs.declared.Summarized.TheVariants as summarized
+use Rattle.std.specs.Prelude.{Ok, Err}
+use Rattle.index_types.specs.Answers.{Summarized}
 use Rattle.summary_core.specs.Lines.{WithSummary, with_summary}
 use Rattle.ergo_index_summary.specs.Summary.{exported, summarized_code}
 
@@ -13,8 +13,8 @@ told_beside out a S o e b f = rw (f, ← e)
 
 -- ---- a summary made afresh: accepted or refused
 module _ (r : Summarized) (S : List ℕ) (o : WithSummary Summarized) (e : with_summary r S ≡ o) where
-  pub made_done : r ≡ summarized.Done → with_summary 0 S ≡ exported summarized_code o
+  pub made_done : r ≡ (Ok tt) → with_summary 0 S ≡ exported summarized_code o
   made_done f = told_beside summarized_code r S o e 0 (rw f)
 
-  pub made_refused : (code : ℕ) → r ≡ summarized.Refused code → with_summary code S ≡ exported summarized_code o
+  pub made_refused : (code : ℕ) → r ≡ Err code → with_summary code S ≡ exported summarized_code o
   made_refused code f = told_beside summarized_code r S o e code (rw f)

@@ -1,8 +1,7 @@
 -- What the exports of the summary made afresh and of the tally by a summary leave: the code, every out and the summary at exit, from the definition of the
 -- public call. "A refusal returns its number only and changes nothing".
-use Rattle.std.specs.Prelude.{ℕ, List, ℤ}
-use Rattle.index_types.specs.declared.Summarized.{Summarized}
-use Rattle.index_types.specs.declared.Summarized.TheVariants as summarized
+use Rattle.std.specs.Prelude.{ℕ, List, ℤ, Ok, Err}
+use Rattle.index_types.specs.Answers.{Summarized}
 use Rattle.index_types.specs.declared.RowEdition.{RowEdition}
 use Rattle.buffer_core.specs.Edition.{edition_of}
 use Rattle.buffer_core.specs.Append.{counts_of}
@@ -18,8 +17,8 @@ exported out o = with_summary (out o.result) o.summary
 
 -- ---- made afresh: the code and the summary
 abbrev pub summarized_code : Summarized → ℕ
-summarized_code summarized.Done = 0
-summarized_code (summarized.Refused code) = code
+summarized_code (Ok tt) = 0
+summarized_code (Err code) = code
 
 abbrev pub summary_call : RowEdition → (parent : List ℕ) (len : ℕ) (spills : ℤ) → List ℤ → (s s_capacity : ℕ) → List ℕ → (t t_capacity : ℕ) → List ℕ → (lines : ℕ) → List ℕ → WithSummary ℕ
 summary_call v parent len spills head s sc staged t tc table lines S =

@@ -8,7 +8,7 @@ ghost use Rattle.ergo_index_lists.specs.Lists.{named_edition};
 ghost use Rattle.ergo_index_outs.specs.Outs.{tally_out};
 ghost use Rattle.ergo_index_summary.specs.Summary.{summary_call, tally_lines_call};
 
-use index_types::{HeadCounts, ListCounts, Summarized};
+use index_types::{HeadCounts, ListCounts};
 
 // Makes the summary afresh: a line for each box spill, made from its row, and zeros on the lines behind.
 #[unsafe(no_mangle)]
@@ -52,8 +52,8 @@ pub extern "C" fn ergo_index_summarize_boxes<'a>(
         summary,
     );
     match summarized {
-        Summarized::Done => 0,
-        Summarized::Refused(code) => code,
+        Ok(()) => 0,
+        Err(code) => code,
     }
 }
 

@@ -3,8 +3,8 @@ use Prim.Native.Nat.{ℕ}
 use mathlib.Core.Path.{◌≡◌}
 use mathlib.Core.List.{List}
 use lib.IntN.{ℤ}
-use Rattle.index_types.specs.declared.Appended.{Appended}
-use Rattle.index_types.specs.declared.Popped.{Popped}
+use Rattle.index_types.specs.Answers.{Appended}
+use Rattle.index_types.specs.Answers.{Popped}
 use Rattle.buffer_core.specs.Append.{Appending, appending}
 use Rattle.buffer_core.specs.Pop.{Popping, popping}
 use Rattle.summary_core.specs.Lines.{WithSummary, with_summary}

@@ -1,7 +1,6 @@
 -- What the export of the trials leaves: the code and both figures, from the definition of the public call, and the four working buffers.
-use Rattle.std.specs.Prelude.{ℕ, ◌≡◌, List, ℤ, pos}
-use Rattle.index_types.specs.declared.TriedForks.{TriedForks}
-use Rattle.index_types.specs.declared.TriedForks.TheVariants.{Figures, Refused}
+use Rattle.std.specs.Prelude.{ℕ, ◌≡◌, List, ℤ, pos, Ok, Err}
+use Rattle.index_types.specs.Answers.{TriedForks}
 use Rattle.trial_buffers.specs.Sizes.{record_bytes, key_bytes, stood_numbers}
 use Rattle.fork_trials.specs.Tries.{try_of, after}
 
@@ -16,8 +15,8 @@ trial_out code s d = record { code = code; most_staged = s; most_deleted = d }
 
 -- "ends it with that number and no figures": the outs are then as they were
 abbrev pub trial_by : TriedForks → (s d : ℕ) → TrialOut
-trial_by (Figures a b) s d = trial_out 0 a b
-trial_by (Refused code) s d = trial_out code s d
+trial_by (Ok (a, b)) s d = trial_out 0 a b
+trial_by (Err code) s d = trial_out code s d
 
 module _ (x T S D room : ℕ) (zs : List ℤ) (t s d : List ℕ) (k : List ℤ) (a b : ℕ) where
   pub record TriesOut (code a' b' : ℕ) (t' s' d' : List ℕ) (k' : List ℤ) : Type 0 where

@@ -11,12 +11,12 @@ fn told(tried: TriedForks, most_staged: &mut usize, most_deleted: &mut usize) ->
     ensures { trial_out result most_staged.new most_deleted.new ≡ trial_by tried most_staged.old most_deleted.old }
 {
     match tried {
-        TriedForks::Figures(staged, deleted) => {
+        Ok((staged, deleted)) => {
             *most_staged = staged;
             *most_deleted = deleted;
             0
         }
-        TriedForks::Refused(code) => code,
+        Err(code) => code,
     }
 }
 

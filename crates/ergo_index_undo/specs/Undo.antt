@@ -1,15 +1,12 @@
 -- What the exports of undo entries and of pruning leave. A refusal changes nothing.
-use Rattle.std.specs.Prelude.{ℕ, Bool, true, false, List}
-use Rattle.refusal.specs.declared.Answer.{Answer}
-use Rattle.refusal.specs.declared.Answer.TheVariants as answer
+use Rattle.std.specs.Prelude.{ℕ, Bool, true, false, List, Ok, Err}
+use Rattle.refusal.specs.Answers.{Answer}
 use Rattle.undo_entries.specs.declared.UndoEntry.{UndoEntry}
-use Rattle.undo_entries.specs.declared.Encoded.{Encoded}
-use Rattle.undo_entries.specs.declared.Encoded.TheVariants as encoded
+use Rattle.undo_entries.specs.Answers.{Encoded}
 use Rattle.undo_entries.specs.declared.Decoded.{Decoded}
 use Rattle.undo_pruning.specs.declared.Window.{Window}
 use Rattle.undo_pruning.specs.declared.Window.TheVariants.{Named, Unnamed}
-use Rattle.undo_pruning.specs.declared.Pruned.{Pruned}
-use Rattle.undo_pruning.specs.declared.Pruned.TheVariants as pruned
+use Rattle.undo_pruning.specs.Answers.{Pruned}
 use Rattle.undo_entries.specs.Entry.{Encoding}
 use Rattle.undo_pruning.specs.Prune.{Pruning, window_of, pruned_of}
 
@@ -26,8 +23,8 @@ abbrev pub encode_out : ℕ → ℕ → List ℕ → EncodeOut
 encode_out code n l = record { code = code; written = n; out = l }
 
 abbrev pub encode_by : Encoded → ℕ → List ℕ → EncodeOut
-encode_by (encoded.Written n) m l = encode_out 0 n l
-encode_by (encoded.Refused code) m l = encode_out code m l
+encode_by (Ok n) m l = encode_out 0 n l
+encode_by (Err code) m l = encode_out code m l
 
 abbrev pub encode_export : ℕ → Encoding → EncodeOut
 encode_export m e = encode_by e.answer m e.out
@@ -41,8 +38,8 @@ abbrev pub decode_out : ℕ → UndoEntry → DecodeOut
 decode_out code e = record { code = code; entry = e }
 
 abbrev pub decode_by : Answer → (read given : UndoEntry) → DecodeOut
-decode_by answer.Accepted read given = decode_out 0 read
-decode_by (answer.Refused code) read given = decode_out code given
+decode_by (Ok tt) read given = decode_out 0 read
+decode_by (Err code) read given = decode_out code given
 
 abbrev pub decode_export : UndoEntry → Decoded → DecodeOut
 decode_export given d = decode_by d.answer d.entry given
@@ -57,8 +54,8 @@ abbrev pub prune_out : ℕ → ℕ → List ℕ → PruneOut
 prune_out code n l = record { code = code; count = n; heights = l }
 
 abbrev pub prune_by : Pruned → ℕ → List ℕ → PruneOut
-prune_by (pruned.Kept n) m l = prune_out 0 n l
-prune_by (pruned.Refused code) m l = prune_out code m l
+prune_by (Ok n) m l = prune_out 0 n l
+prune_by (Err code) m l = prune_out code m l
 
 abbrev pub prune_export : ℕ → Pruning → PruneOut
 prune_export m p = prune_by p.answer m p.heights

@@ -5,7 +5,6 @@ ghost use Rattle.std.specs.Prelude.{◌≡◌};
 ghost use Rattle.undo_entries.specs.Entry.{encoded_of, decoded_of};
 ghost use Rattle.ergo_index_undo.specs.Undo.{entry, encode_out, encode_export, decode_out, decode_export, window, prune_out, prune_call};
 
-use refusal::Answer;
 use undo::entry::{Encoded, UndoEntry};
 use undo::prune::{Pruned, Window};
 
@@ -30,11 +29,11 @@ pub extern "C" fn ergo_index_encode_undo_entry(
     };
     let encoded = undo::entry::encode(before, out);
     match encoded {
-        Encoded::Written(n) => {
+        Ok(n) => {
             *written = n;
             0
         }
-        Encoded::Refused(code) => code,
+        Err(code) => code,
     }
 }
 
@@ -53,7 +52,7 @@ pub extern "C" fn ergo_index_decode_undo_entry(
     let decoded = undo::entry::decode(bytes);
     let answer = decoded.answer;
     match answer {
-        Answer::Accepted => {
+        Ok(()) => {
             let before = decoded.entry;
             let id = before.header;
             *known = before.known;
@@ -62,7 +61,7 @@ pub extern "C" fn ergo_index_decode_undo_entry(
             *boxes = before.boxes;
             0
         }
-        Answer::Refused(code) => code,
+        Err(code) => code,
     }
 }
 
@@ -92,10 +91,10 @@ pub extern "C" fn ergo_index_prune_below_window(
     let within = window_of(window_named, window_heights);
     let pruned = undo::prune::prune_below_window(heights, *count, capacity, current, within);
     match pruned {
-        Pruned::Kept(n) => {
+        Ok(n) => {
             *count = n;
             0
         }
-        Pruned::Refused(code) => code,
+        Err(code) => code,
     }
 }

@@ -13,9 +13,7 @@ use lib.ListN.{length, get_or, take, set, length-set}
 use lib.Seq.{take-set-lt, take-set-le, get_or-take, length-take-le}
 use borrow.Author.Tests.{le-leb}
 use Rattle.index_types.specs.Limits.{flat_limit}
-use Rattle.index_types.specs.declared.FlatChanged.TheVariants.{Done, Refused}
-use Rattle.index_types.specs.declared.FlatPopped.TheVariants.{Number}
-use Rattle.index_types.specs.declared.FlatPopped.TheVariants as flat_popped
+use Rattle.std.specs.Prelude.{Ok, Err}
 use Rattle.records.proofs.CheckLaws.{and_true}
 use Rattle.signed.specs.Sign.{is_negative}
 use Rattle.entries.specs.Order.{order_ok}
@@ -63,7 +61,7 @@ module _ (f : FlatList) where
   popped o = after_pop f o.answer o.list
 
   append_leaves_by : (a b c : Bool) (n : ℕ) (m : List ℤ)
-      → Leaves f (changed (cond a (cond b (changing (Refused 17) f.places) (cond c (changing (Refused 37) f.places) (changing (Done n) m))) (changing (Refused 25) f.places)))
+      → Leaves f (changed (cond a (cond b (changing (Err 17) f.places) (cond c (changing (Err 37) f.places) (changing (Ok n) m))) (changing (Err 25) f.places)))
   append_leaves_by false b c n m = refl
   append_leaves_by true true c n m = refl
   append_leaves_by true false true n m = refl
@@ -74,7 +72,7 @@ module _ (f : FlatList) where
   append_leaves z = append_leaves_by (flat_ok f.count f.places) (is_negative z) (leb flat_limit f.count) (f.count + 1) (set f.places f.count z)
 
   flip_leaves_by : (a b c : Bool) (P : Position)
-      → Leaves f (changed (cond a (cond b (changing (Refused 9) f.places) (cond c (flip_found P f.count f.places) (changing (Refused 10) f.places))) (changing (Refused 25) f.places)))
+      → Leaves f (changed (cond a (cond b (changing (Err 9) f.places) (cond c (flip_found P f.count f.places) (changing (Err 10) f.places))) (changing (Err 25) f.places)))
   flip_leaves_by false b c P = refl
   flip_leaves_by true true c P = refl
   flip_leaves_by true false false P = refl
@@ -88,7 +86,7 @@ module _ (f : FlatList) where
       flip_leaves_by (flat_ok f.count f.places) (leb 9223372036854775808 (nat_abs z)) (order_ok (numbers f)) (position d (nat_abs z) (numbers f) 0 false)
 
   pop_leaves_by : (a b : Bool) (z : ℤ) (n : ℕ) (m : List ℤ)
-      → Leaves f (popped (cond a (cond b (popping (flat_popped.Refused 19) f.places) (popping (Number (record { 0 = z }) n) m)) (popping (flat_popped.Refused 25) f.places)))
+      → Leaves f (popped (cond a (cond b (popping (Err 19) f.places) (popping (Ok (record { 0 = z }, n)) m)) (popping (Err 25) f.places)))
   pop_leaves_by false b z n m = refl
   pop_leaves_by true true z n m = refl
   pop_leaves_by true false z n m = tt
@@ -109,16 +107,16 @@ module _ (f : FlatList) (G : Good f) where
 
   -- ---- append
   pub append_below : (k : ℕ) → result_of (do_append f (negsuc k)) ≡ refused 17
-  append_below k = by_change (changing (Refused 17) l) (flat_append n (negsuc k) l) (Fl.append_17 n l (negsuc k) (ok f G) refl)
+  append_below k = by_change (changing (Err 17) l) (flat_append n (negsuc k) l) (Fl.append_17 n l (negsuc k) (ok f G) refl)
 
   pub append_full : (m : ℕ) → n ≡ flat_limit → result_of (do_append f (pos m)) ≡ refused 37
-  append_full m e = by_change (changing (Refused 37) l) (flat_append n (pos m) l) (Fl.append_37 n l (pos m) (ok f G) refl (omega arith))
+  append_full m e = by_change (changing (Err 37) l) (flat_append n (pos m) l) (Fl.append_37 n l (pos m) (ok f G) refl (omega arith))
 
   abbrev more : ℕ → FlatList
   more m = flat_list (n + 1) (set l n (pos m))
 
   pub append_more : (m : ℕ) → n < flat_limit → result_of (do_append f (pos m)) ≡ done (more m)
-  append_more m h = by_change (changing (Done (n + 1)) (set l n (pos m))) (flat_append n (pos m) l) (Fl.append_end n l (pos m) (ok f G) refl h (set l n (pos m)) refl)
+  append_more m h = by_change (changing (Ok (n + 1)) (set l n (pos m))) (flat_append n (pos m) l) (Fl.append_end n l (pos m) (ok f G) refl h (set l n (pos m)) refl)
 
   more_numbers : (m : ℕ) → n < flat_limit → numbers (more m) ≡ numbers f ++ (pos m ∷ [])
   more_numbers m h = grown l n (pos m) (omega (arith, G.room))
@@ -164,10 +162,10 @@ module _ (f : FlatList) (G : Good f) where
   less = flat_list (n - 1) (set l (n - 1) (pos 0))
 
   pop_none : n ≡ 0 → result_of (do_pop f) ≡ refused 19
-  pop_none e = by_pop (popping (flat_popped.Refused 19) l) (flat_pop n l) (Fl.pop_19 n l (ok f G) e)
+  pop_none e = by_pop (popping (Err 19) l) (flat_pop n l) (Fl.pop_19 n l (ok f G) e)
 
   pub pop_some : (n ≡ 0 → ⊥) → result_of (do_pop f) ≡ done (record { left = less; value = last })
-  pop_some h = by_pop (popping (Number (record { 0 = last }) (n - 1)) (set l (n - 1) (pos 0))) (flat_pop n l) (Fl.pop_last n l (ok f G) h last (set l (n - 1) (pos 0)) refl refl)
+  pop_some h = by_pop (popping (Ok (record { 0 = last }, n - 1)) (set l (n - 1) (pos 0))) (flat_pop n l) (Fl.pop_last n l (ok f G) h last (set l (n - 1) (pos 0)) refl refl)
 
   less_numbers : 0 < n → numbers f ≡ numbers less ++ (last ∷ [])
   less_numbers h =
@@ -203,7 +201,7 @@ module _ (f : FlatList) (G : Good f) where
     at = position d (nat_abs z) (numbers f) 0 false
 
     pub flip_large : 9223372036854775808 ≤ nat_abs z → result_of (do_flip d f z) ≡ refused 9
-    flip_large h = by_change (changing (Refused 9) l) (flat_flip d n z l) (Fl.flip_9 n l d z (ok f G) (nat_abs z) refl h)
+    flip_large h = by_change (changing (Err 9) l) (flat_flip d n z l) (Fl.flip_9 n l d z (ok f G) (nat_abs z) refl h)
 
     abbrev by_place : Position → Res FlatList
     by_place P = result_of (changed f (flip_found P n l))

@@ -5,8 +5,8 @@ use mathlib.Core.Bool.{Bool, true, false, ◌&&◌, not}
 use mathlib.Core.List.{List}
 use Prim.Native.Nat.{ℕ}
 use lib.IntN.{ℤ, pos, negsuc}
-use Rattle.index_types.specs.declared.Appended.{Appended}
-use Rattle.index_types.specs.declared.Appended.TheVariants as appended
+use Rattle.std.specs.Prelude.{Err}
+use Rattle.index_types.specs.Answers.{Appended}
 use Rattle.signed.specs.Sign.{is_negative}
 use Rattle.buffer_core.specs.Edition.{Edition}
 use Rattle.segment_id.specs.declared.Kind.TheVariants.{Box}
@@ -60,7 +60,7 @@ module _ (E : Edition) (ids : Parent → List ℕ) (L : EditionLaws E ids) (B : 
         with_result S (after_append b.index (boxes p) o.result.answer o.result.head o.result.staged)
         ∙ ap (λ (a : Appending). result_of (after_append b.index (boxes p) a.answer a.head a.staged)) q
 
-    by_36 : o.result.answer ≡ appended.Refused 36 → result_of (append_kept E ids Z.lines b (boxes p) n) ≡ refused 36
+    by_36 : o.result.answer ≡ Err 36 → result_of (append_kept E ids Z.lines b (boxes p) n) ≡ refused 36
     by_36 q = ap (λ (a : Appended). result_of (with_summaries S (after_append b.index (boxes p) a o.result.head o.result.staged))) q
 
     no_line : no_free_line (b.index.parts (boxes p)).head n (Z.lines p) ≡ false → o.result ≡ plain
@@ -68,7 +68,7 @@ module _ (E : Edition) (ids : Parent → List ℕ) (L : EditionLaws E ids) (B : 
         append_plain E (ids p) (b.index.parts (boxes p)).head (Z.lines p) (b.summaries p) n b.index.lists.staged_counts (b.index.parts (boxes p)).places b.index.lists.staged
         (Si.enough E ids L B s Z (Fk.Q E ids L B s) U apart b R F p) (R p).room h
 
-    plain_or : (o.result ≡ plain) ⊎ (o.result.answer ≡ appended.Refused 36)
+    plain_or : (o.result ≡ plain) ⊎ (o.result.answer ≡ Err 36)
     plain_or =
         append_plain_or_36 E (ids p) (b.index.parts (boxes p)).head (Z.lines p) (b.summaries p) n b.index.lists.staged_counts (b.index.parts (boxes p)).places b.index.lists.staged
         (Si.enough E ids L B s Z (Fk.Q E ids L B s) U apart b R F p) (R p).room

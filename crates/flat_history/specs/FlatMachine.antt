@@ -1,11 +1,9 @@
 -- The flat list of one parent as a machine (document 02, U9): "a second engine for one parent with a single list of at most 4,096 box numbers, a plain scan and no
 -- staging". Its operations are the definitions that the contracts of `flat_list` cite, run on a list and its count.
-use Rattle.std.specs.Prelude.{Bool, true, false, List, [], ℕ, ℤ, take}
+use Rattle.std.specs.Prelude.{Bool, true, false, List, [], ℕ, ℤ, take, Ok, Err}
 use Rattle.index_types.specs.Limits.{segment_threshold}
-use Rattle.index_types.specs.declared.FlatChanged.{FlatChanged}
-use Rattle.index_types.specs.declared.FlatChanged.TheVariants as changed
-use Rattle.index_types.specs.declared.FlatPopped.{FlatPopped}
-use Rattle.index_types.specs.declared.FlatPopped.TheVariants as flat_popped
+use Rattle.index_types.specs.Answers.{FlatChanged}
+use Rattle.index_types.specs.Answers.{FlatPopped}
 use Rattle.flat_list.specs.Flat.{flat_append, flat_flip, flat_pop}
 use Rattle.balance.specs.declared.Balance.{Balance}
 use Rattle.balance_laws.specs.Calls.{credited, debited, tokens_in}
@@ -26,12 +24,12 @@ numbers f = take f.count f.places
 
 -- ---- the list after each call: the count that an accepted call answers (a refused one answers none, so it stays), and the places that the definition leaves
 abbrev pub after_change : FlatList → FlatChanged → List ℤ → Made FlatList FlatList
-after_change f (changed.Done n) l = accepted (flat_list n l)
-after_change f (changed.Refused code) l = refused_leaving code (flat_list f.count l)
+after_change f (Ok n) l = accepted (flat_list n l)
+after_change f (Err code) l = refused_leaving code (flat_list f.count l)
 
 abbrev pub after_pop : FlatList → FlatPopped → List ℤ → Made FlatList (Popped FlatList)
-after_pop f (flat_popped.Number z n) l = accepted (record { left = flat_list n l; value = z.0 })
-after_pop f (flat_popped.Refused code) l = refused_leaving code (flat_list f.count l)
+after_pop f (Ok (z, n)) l = accepted (record { left = flat_list n l; value = z.0 })
+after_pop f (Err code) l = refused_leaving code (flat_list f.count l)
 
 abbrev pub do_append : FlatList → ℤ → Made FlatList FlatList
 do_append f z = let o = flat_append f.count z f.places in after_change f o.answer o.list

@@ -8,9 +8,7 @@ use borrow.Author.Tests.{le-leb, lt-leb, leb-true, eq-eqb, ne_eqb}
 use lib.Dec.{leb, eqb}
 use lib.IntN.{ℤ, pos, nat_abs}
 use lib.ListN.{length, take, get_or, set}
-use Rattle.index_types.specs.declared.FlatChanged.TheVariants.{Done, Refused}
-use Rattle.index_types.specs.declared.FlatPopped.TheVariants.{Number}
-use Rattle.index_types.specs.declared.FlatPopped.TheVariants as flat_popped
+use Rattle.std.specs.Prelude.{Ok, Err}
 use Rattle.signed.specs.Sign.{is_negative}
 use Rattle.entries.specs.Order.{order_ok}
 use Rattle.entries.specs.Flip.{position, flipped_at}
@@ -43,47 +41,47 @@ module _ (n : ℕ) (l : List ℤ) where
   -- ---- append
 
   module _ (z : ℤ) where
-    pub append_25 : flat_ok n l ≡ false → changing (Refused 25) l ≡ flat_append n z l
+    pub append_25 : flat_ok n l ≡ false → changing (Err 25) l ≡ flat_append n z l
     unfolding flat_append
     append_25 e = rw e
 
-    pub append_17 : flat_ok n l ≡ true → is_negative z ≡ true → changing (Refused 17) l ≡ flat_append n z l
+    pub append_17 : flat_ok n l ≡ true → is_negative z ≡ true → changing (Err 17) l ≡ flat_append n z l
     unfolding flat_append
     append_17 e f = rw (e, f)
 
-    pub append_37 : flat_ok n l ≡ true → is_negative z ≡ false → 4096 ≤ n → changing (Refused 37) l ≡ flat_append n z l
+    pub append_37 : flat_ok n l ≡ true → is_negative z ≡ false → 4096 ≤ n → changing (Err 37) l ≡ flat_append n z l
     unfolding flat_append
     append_37 e f h = rw (e, f, le-leb 4096 n h)
 
-    pub append_end : flat_ok n l ≡ true → is_negative z ≡ false → n < 4096 → (m : List ℤ) → m ≡ set l n z → changing (Done (n + 1)) m ≡ flat_append n z l
+    pub append_end : flat_ok n l ≡ true → is_negative z ≡ false → n < 4096 → (m : List ℤ) → m ≡ set l n z → changing (Ok (n + 1)) m ≡ flat_append n z l
     unfolding flat_append
-    append_end e f h m g = rw (e, f, lt-leb 4096 n h) (ap (changing (Done (n + 1))) g)
+    append_end e f h m g = rw (e, f, lt-leb 4096 n h) (ap (changing (Ok (n + 1))) g)
 
   -- ---- spend and unspend
 
   module _ (d : Bool) (t : ℕ) where
-    pub target_at : (i : ℕ) (m : List ℤ) → position d t (take n l) 0 false ≡ At i → m ≡ flipped_at (At i) l → changing (Done n) m ≡ flip_target d n t l
+    pub target_at : (i : ℕ) (m : List ℤ) → position d t (take n l) 0 false ≡ At i → m ≡ flipped_at (At i) l → changing (Ok n) m ≡ flip_target d n t l
     unfolding flip_target
-    target_at i m e g = rw e (ap (changing (Done n)) g)
+    target_at i m e g = rw e (ap (changing (Ok n)) g)
 
-    pub target_14 : position d t (take n l) 0 false ≡ Seen → changing (Refused 14) l ≡ flip_target d n t l
+    pub target_14 : position d t (take n l) 0 false ≡ Seen → changing (Err 14) l ≡ flip_target d n t l
     unfolding flip_target
     target_14 e = rw e
 
-    pub target_15 : position d t (take n l) 0 false ≡ Absent → changing (Refused 15) l ≡ flip_target d n t l
+    pub target_15 : position d t (take n l) 0 false ≡ Absent → changing (Err 15) l ≡ flip_target d n t l
     unfolding flip_target
     target_15 e = rw e
 
   module _ (d : Bool) (z : ℤ) where
-    pub flip_25 : flat_ok n l ≡ false → changing (Refused 25) l ≡ flat_flip d n z l
+    pub flip_25 : flat_ok n l ≡ false → changing (Err 25) l ≡ flat_flip d n z l
     unfolding flat_flip
     flip_25 e = rw e
 
-    pub flip_9 : flat_ok n l ≡ true → (t : ℕ) → t ≡ nat_abs z → 9223372036854775808 ≤ t → changing (Refused 9) l ≡ flat_flip d n z l
+    pub flip_9 : flat_ok n l ≡ true → (t : ℕ) → t ≡ nat_abs z → 9223372036854775808 ≤ t → changing (Err 9) l ≡ flat_flip d n z l
     unfolding flat_flip
     flip_9 e t g h = rw (e, le-leb 9223372036854775808 (nat_abs z) (subst (λ (k : ℕ). 9223372036854775808 ≤ k) g h))
 
-    pub flip_10 : flat_ok n l ≡ true → (t : ℕ) → t ≡ nat_abs z → t < 9223372036854775808 → order_ok (take n l) ≡ false → changing (Refused 10) l ≡ flat_flip d n z l
+    pub flip_10 : flat_ok n l ≡ true → (t : ℕ) → t ≡ nat_abs z → t < 9223372036854775808 → order_ok (take n l) ≡ false → changing (Err 10) l ≡ flat_flip d n z l
     unfolding flat_flip
     flip_10 e t g h f = rw (e, lt-leb 9223372036854775808 (nat_abs z) (subst (λ (k : ℕ). k < 9223372036854775808) g h), f)
 
@@ -94,15 +92,15 @@ module _ (n : ℕ) (l : List ℤ) where
 
   -- ---- pop
 
-  pub pop_25 : flat_ok n l ≡ false → popping (flat_popped.Refused 25) l ≡ flat_pop n l
+  pub pop_25 : flat_ok n l ≡ false → popping (Err 25) l ≡ flat_pop n l
   unfolding flat_pop
   pop_25 e = rw e
 
-  pub pop_19 : flat_ok n l ≡ true → n ≡ 0 → popping (flat_popped.Refused 19) l ≡ flat_pop n l
+  pub pop_19 : flat_ok n l ≡ true → n ≡ 0 → popping (Err 19) l ≡ flat_pop n l
   unfolding flat_pop
   pop_19 e h = rw (e, eq-eqb n 0 h)
 
   pub pop_last : flat_ok n l ≡ true → (n ≡ 0 → ⊥) → (z : ℤ) (m : List ℤ) → z ≡ get_or l (n - 1) (pos 0) → m ≡ set l (n - 1) (pos 0)
-      → popping (Number (record { 0 = z }) (n - 1)) m ≡ flat_pop n l
+      → popping (Ok (record { 0 = z }, n - 1)) m ≡ flat_pop n l
   unfolding flat_pop
   pop_last e h z m f g = rw (e, ne_eqb n 0 h, f, g)

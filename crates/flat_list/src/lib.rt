@@ -26,16 +26,16 @@ pub fn append_box(count: usize, list: &mut [i64], number: BoxNumber) -> FlatChan
     let negative = signed::is_negative(n);
     let full = FLAT_LIMIT <= count;
     if !flat_ok(count, list) {
-        return FlatChanged::Refused(refusal::BUFFERS);
+        return Err(refusal::BUFFERS);
     }
     if negative {
-        return FlatChanged::Refused(refusal::NEGATIVE_NUMBER);
+        return Err(refusal::NEGATIVE_NUMBER);
     }
     if full {
-        return FlatChanged::Refused(refusal::FLAT_LIST_FULL);
+        return Err(refusal::FLAT_LIST_FULL);
     }
     list[count] = n;
-    FlatChanged::Done(count + 1)
+    Ok(count + 1)
 }
 
 // Negates the first entry of the target and the wanted sign in a list that is in order.
@@ -47,10 +47,10 @@ fn flip_target(count: usize, list: &mut [i64], target: u64, spend: bool) -> Flat
     match position {
         Position::At(i) => {
             entry_flips::flip_at(list, i);
-            FlatChanged::Done(count)
+            Ok(count)
         }
-        Position::Seen => FlatChanged::Refused(refusal::NO_COPY_OF_THAT_SIGN),
-        Position::Absent => FlatChanged::Refused(refusal::TARGET_NOT_SEEN),
+        Position::Seen => Err(refusal::NO_COPY_OF_THAT_SIGN),
+        Position::Absent => Err(refusal::TARGET_NOT_SEEN),
     }
 }
 
@@ -60,13 +60,13 @@ fn flip(count: usize, list: &mut [i64], target: i64, spend: bool) -> FlatChanged
 {
     let size = signed::magnitude(target);
     if !flat_ok(count, list) {
-        return FlatChanged::Refused(refusal::BUFFERS);
+        return Err(refusal::BUFFERS);
     }
     if 9223372036854775808 <= size {
-        return FlatChanged::Refused(refusal::TARGET_IS_MINIMUM);
+        return Err(refusal::TARGET_IS_MINIMUM);
     }
     if !entry_order::order_ok(list, count) {
-        return FlatChanged::Refused(refusal::HEAD_OUT_OF_ORDER);
+        return Err(refusal::HEAD_OUT_OF_ORDER);
     }
     flip_target(count, list, size, spend)
 }
@@ -101,11 +101,11 @@ pub fn pop_box(count: usize, list: &mut [i64]) -> FlatPopped
     ensures { popping result list.new ≡ flat_pop count list.old }
 {
     if !flat_ok(count, list) {
-        return FlatPopped::Refused(refusal::BUFFERS);
+        return Err(refusal::BUFFERS);
     }
     if count == 0 {
-        return FlatPopped::Refused(refusal::NOTHING_TO_POP);
+        return Err(refusal::NOTHING_TO_POP);
     }
     let last = take_last(list, count);
-    FlatPopped::Number(BoxNumber(last), count - 1)
+    Ok((BoxNumber(last), count - 1))
 }

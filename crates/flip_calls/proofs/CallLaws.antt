@@ -9,9 +9,8 @@ use Rattle.index_types.specs.declared.ListCounts.{ListCounts}
 use Rattle.index_types.specs.declared.HeadCounts.{HeadCounts}
 use Rattle.index_types.specs.declared.RowEdition.{RowEdition}
 use Rattle.buffer_core.specs.declared.Direction.{Direction}
-use Rattle.index_types.specs.declared.Flipped.TheVariants as flipped
-use Rattle.index_types.specs.declared.Tallied.{Tallied}
-use Rattle.index_types.specs.declared.Tallied.TheVariants as tallied
+use Rattle.std.specs.Prelude.{Err}
+use Rattle.index_types.specs.Answers.{Tallied}
 use Rattle.buffer_core.specs.Edition.{edition_of}
 use Rattle.buffer_core.specs.Spills.{sources}
 use Rattle.buffer_core.specs.Flip.{Flipping, flipping, flip_ok, flip_core, flip_of}
@@ -20,7 +19,7 @@ use Rattle.buffer_core.specs.Tally.{tally_core, tally_of}
 -- ---- spend and unspend
 
 module _ (v : RowEdition) (d : Direction) (parent : List ℕ) (h : HeadCounts) (target : ℤ) (c : ListCounts) (staged : List ℕ) (e : ListCounts) (table : List ℕ) (head : List ℤ) where
-  pub flip_25 : flip_ok (edition_of v) h c staged e table head ≡ false → flipping (flipped.Refused 25) head staged ≡ flip_of (edition_of v) d parent h target c staged e table head
+  pub flip_25 : flip_ok (edition_of v) h c staged e table head ≡ false → flipping (Err 25) head staged ≡ flip_of (edition_of v) d parent h target c staged e table head
   unfolding flip_of
   flip_25 q = rw q
 
@@ -32,7 +31,7 @@ module _ (v : RowEdition) (d : Direction) (parent : List ℕ) (h : HeadCounts) (
 -- ---- tally
 
 module _ (v : RowEdition) (parent : List ℕ) (h : HeadCounts) (c : ListCounts) (staged : List ℕ) (e : ListCounts) (table : List ℕ) (head : List ℤ) where
-  pub tally_25 : flip_ok (edition_of v) h c staged e table head ≡ false → tallied.Refused 25 ≡ tally_of (edition_of v) parent h c staged e table head
+  pub tally_25 : flip_ok (edition_of v) h c staged e table head ≡ false → Err 25 ≡ tally_of (edition_of v) parent h c staged e table head
   unfolding tally_of
   tally_25 q = rw q
 

@@ -50,7 +50,7 @@ pub fn flip_entry(
             head,
         );
     }
-    Flipped::Refused(refusal::BUFFERS)
+    Err(refusal::BUFFERS)
 }
 
 // Marks one box as spent: the head's first entry of the number that is not negative is negated; without one, that of the first row that the walk finds it in.
@@ -144,5 +144,5 @@ pub fn tally<'a>(
             head,
         );
     }
-    Tallied::Refused(refusal::BUFFERS)
+    Err(refusal::BUFFERS)
 }

@@ -16,8 +16,8 @@ use Rattle.entries.specs.declared.Position.TheVariants.{At, Seen, Absent}
 use Rattle.index_types.specs.declared.ListCounts.{ListCounts}
 use Rattle.index_types.specs.declared.HeadCounts.{HeadCounts}
 use Rattle.buffer_core.specs.declared.Direction.{Direction}
-use Rattle.index_types.specs.declared.Flipped.{Flipped}
-use Rattle.index_types.specs.declared.Flipped.TheVariants.{Done, Refused}
+use Rattle.std.specs.Prelude.{Ok, Err}
+use Rattle.index_types.specs.Answers.{Flipped}
 use Rattle.index_types.specs.declared.RowEdition.{RowEdition}
 use Rattle.buffer_core.specs.Edition.{edition_of}
 use Rattle.buffer_core.specs.Spills.{Sources, sources}
@@ -28,7 +28,7 @@ use Rattle.flip_stage.specs.Internal.{Stages}
 
 module _ (ed : RowEdition) (w : Sources) (c : ListCounts) (staged : List ℕ) (t : ℕ) (d : Bool) (spills n : ℕ) (head : List ℤ) (p : Position) (e : p ≡ position d t (take n head) 0 false) where
   pub order_head : (i : ℕ) (head' : List ℤ) → p ≡ At i → head' ≡ flipped_at (At i) head
-      → flipping (Done c) head' staged ≡ done_by (edition_of ed) (in_order (edition_of ed) w c.capacity t d spills (take n head)) c head staged
+      → flipping (Ok c) head' staged ≡ done_by (edition_of ed) (in_order (edition_of ed) w c.capacity t d spills (take n head)) c head staged
   unfolding in_order
   order_head i head' q h = rw (sym e ∙ q, h)
 
@@ -47,7 +47,7 @@ module _ (ed : RowEdition) (w : Sources) (c : ListCounts) (staged : List ℕ) (t
 
 module _ (ed : RowEdition) (d : Direction) (parent : List ℕ) (h : HeadCounts) (z : ℤ) (c : ListCounts) (staged : List ℕ) (e : ListCounts) (table : List ℕ) (head : List ℤ)
     (t : ℕ) (et : t ≡ nat_abs z) where
-  pub flip_9 : 9223372036854775808 ≤ t → flipping (Refused 9) head staged ≡ flip_core (edition_of ed) d parent h z c staged e table head
+  pub flip_9 : 9223372036854775808 ≤ t → flipping (Err 9) head staged ≡ flip_core (edition_of ed) d parent h z c staged e table head
   unfolding flip_core flip_effect
   flip_9 k = let q : 9223372036854775808 ≤ nat_abs z = omega arith in rw (le-leb 9223372036854775808 (nat_abs z) q)
 
@@ -55,12 +55,12 @@ module _ (ed : RowEdition) (d : Direction) (parent : List ℕ) (h : HeadCounts) 
     target_least : leb 9223372036854775808 (nat_abs z) ≡ false
     target_least = lt-leb 9223372036854775808 (nat_abs z) (omega arith)
 
-    pub flip_10 : order_ok (take h.len head) ≡ false → flipping (Refused 10) head staged ≡ flip_core (edition_of ed) d parent h z c staged e table head
+    pub flip_10 : order_ok (take h.len head) ≡ false → flipping (Err 10) head staged ≡ flip_core (edition_of ed) d parent h z c staged e table head
     unfolding flip_core flip_effect
     flip_10 o = rw (target_least, o)
 
     module _ (o : order_ok (take h.len head) ≡ true) where
-      pub flip_11 : is_negative h.spills ≡ true → flipping (Refused 11) head staged ≡ flip_core (edition_of ed) d parent h z c staged e table head
+      pub flip_11 : is_negative h.spills ≡ true → flipping (Err 11) head staged ≡ flip_core (edition_of ed) d parent h z c staged e table head
       unfolding flip_core flip_effect
       flip_11 b = rw (target_least, o, b)
 

@@ -17,8 +17,7 @@ use Rattle.entries.specs.Order.{order_ok}
 use Rattle.entries.specs.Flip.{position, flipped_at}
 use Rattle.entries.specs.declared.Position.{Position}
 use Rattle.entries.specs.declared.Position.TheVariants.{At, Seen, Absent}
-use Rattle.records.specs.declared.Found.{Found}
-use Rattle.records.specs.declared.Found.TheVariants as found
+use Rattle.std.specs.Prelude.{Option, Some, None, Ok, Err}
 use Rattle.index_types.specs.declared.ListCounts.{ListCounts}
 use Rattle.records.specs.Records.{keys, record_of}
 use Rattle.records.specs.Find.{find_key, row_at, place_of}
@@ -35,9 +34,7 @@ use Rattle.segment_core.proofs.BackLaws.{All64, Writable}
 use Rattle.segment_core.proofs.CodecLaws.{row_size}
 use Rattle.index_types.specs.declared.HeadCounts.{HeadCounts}
 use Rattle.buffer_core.specs.declared.Direction.{Direction}
-use Rattle.index_types.specs.declared.Flipped.TheVariants.{Done, Refused}
-use Rattle.buffer_core.specs.declared.Low.{Low}
-use Rattle.buffer_core.specs.declared.Low.TheVariants.{Upto, Broken}
+use Rattle.buffer_core.specs.Answers.{Low}
 use Rattle.buffer_core.specs.declared.Walk.{Walk}
 use Rattle.buffer_core.specs.declared.Walk.TheVariants.{Hit, Ended, Failed}
 use Rattle.index_types.specs.declared.RowEdition.{RowEdition}
@@ -98,12 +95,12 @@ Sound ed c staged (refuse code) = Unit
 Sound ed c staged (flip_head i) = Unit
 Sound ed c staged (stage index count key row) = Staging ed c staged index count key row
 
-staging_again : (ed : RowEdition) (c : ListCounts) (staged key row : List ℕ) (i : ℕ) → find_key key (keys (record_size ed) c.count staged) ≡ found.At i → length key ≡ 32 → length row ≤ row_limit_of ed
+staging_again : (ed : RowEdition) (c : ListCounts) (staged key row : List ℕ) (i : ℕ) → find_key key (keys (record_size ed) c.count staged) ≡ Some i → length key ≡ 32 → length row ≤ row_limit_of ed
     → Staging ed c staged i c.count key row
 unfolding full_for
 staging_again ed c staged key row i e k h = record { keyed = k; short = h; free = rw e; put_at = rw e; counted = rw e }
 
-staging_new : (ed : RowEdition) (c : ListCounts) (staged key row : List ℕ) → find_key key (keys (record_size ed) c.count staged) ≡ found.Nothing → c.count < c.capacity → length key ≡ 32
+staging_new : (ed : RowEdition) (c : ListCounts) (staged key row : List ℕ) → find_key key (keys (record_size ed) c.count staged) ≡ None → c.count < c.capacity → length key ≡ 32
     → length row ≤ row_limit_of ed → Staging ed c staged c.count (c.count + 1) key row
 unfolding full_for
 staging_new ed c staged key row e l k h = record { keyed = k; short = h; free = rw (e, lt-leb c.capacity c.count l); put_at = rw e; counted = rw e }
@@ -114,19 +111,19 @@ module _ (ed : RowEdition) (parent : List ℕ) (named : length parent ≡ 32) (s
   unfolding stage_at place_at spill_read row_flipped
   stage_sound n at x = by_found (find_key (row_key parent Box (pos n)) (keys (record_size ed) c.count staged)) refl (find_key (row_key parent Box (pos n)) (keys (record_size ed) m table)) refl x
     where
-      by_room : (i : ℕ) → find_key (row_key parent Box (pos n)) (keys (record_size ed) c.count staged) ≡ found.Nothing
-          → find_key (row_key parent Box (pos n)) (keys (record_size ed) m table) ≡ found.At i → Takes (numbers_of Box (row_under ed Box parent (pos n) (row_at (record_size ed) i table))) at → (b : Bool) → ltb c.count c.capacity ≡ b
+      by_room : (i : ℕ) → find_key (row_key parent Box (pos n)) (keys (record_size ed) c.count staged) ≡ None
+          → find_key (row_key parent Box (pos n)) (keys (record_size ed) m table) ≡ Some i → Takes (numbers_of Box (row_under ed Box parent (pos n) (row_at (record_size ed) i table))) at → (b : Bool) → ltb c.count c.capacity ≡ b
           → Sound ed c staged (cond b (stage c.count (c.count + 1) (row_key parent Box (pos n)) (row_flipped (edition_of ed) (sources parent staged c.count table m) n (row_at (record_size ed) i table) at)) (refuse 16))
       by_room i e d x true q =
           staging_new ed c staged (row_key parent Box (pos n)) _ e (ltb-true c.count c.capacity q) (row_key_length parent Box (pos n)) (flipped_size ed parent named n (row_at (record_size ed) i table) (row_most ed i m table _ (found_in _ (record_size ed) m table i _ refl d) in_table refl) at x)
       by_room i e d x false q = tt
 
-      by_found : (f : Found) → find_key (row_key parent Box (pos n)) (keys (record_size ed) c.count staged) ≡ f → (g : Found)
+      by_found : (f : Option ℕ) → find_key (row_key parent Box (pos n)) (keys (record_size ed) c.count staged) ≡ f → (g : Option ℕ)
           → find_key (row_key parent Box (pos n)) (keys (record_size ed) m table) ≡ g → Takes (read_placed (edition_of ed) Box (sources parent staged c.count table m) n (place_of f g)) at
           → Sound ed c staged (stage_from (edition_of ed) (sources parent staged c.count table m) c.capacity n at (place_of f g))
-      by_found (found.At i) e g d x = staging_again ed c staged (row_key parent Box (pos n)) _ i e (row_key_length parent Box (pos n)) (flipped_size ed parent named n (row_at (record_size ed) i staged) (row_most ed i c.count staged _ (found_in _ (record_size ed) c.count staged i _ refl e) in_staged refl) at x)
-      by_found found.Nothing e (found.At i) d x = by_room i e d x (ltb c.count c.capacity) refl
-      by_found found.Nothing e found.Nothing d x = tt
+      by_found (Some i) e g d x = staging_again ed c staged (row_key parent Box (pos n)) _ i e (row_key_length parent Box (pos n)) (flipped_size ed parent named n (row_at (record_size ed) i staged) (row_most ed i c.count staged _ (found_in _ (record_size ed) c.count staged i _ refl e) in_staged refl) at x)
+      by_found None e (Some i) d x = by_room i e d x (ltb c.count c.capacity) refl
+      by_found None e None d x = tt
 
   module _ (t : ℕ) (small : t < 9223372036854775808) (d : Bool) (spills : ℕ) where
     rows_sound : (seen : Bool) → Sound ed c staged (in_rows (edition_of ed) (sources parent staged c.count table m) c.capacity t d spills seen)
@@ -142,8 +139,8 @@ module _ (ed : RowEdition) (parent : List ℕ) (named : length parent ≡ 32) (s
         by_walk l (Failed code) e = tt
 
         by_low : (low : Low) → Sound ed c staged (after_search (edition_of ed) (sources parent staged c.count table m) c.capacity t d seen low)
-        by_low (Upto l) = by_walk l _ refl
-        by_low (Broken code) = tt
+        by_low (Ok l) = by_walk l _ refl
+        by_low (Err code) = tt
 
     order_sound : (zs : List ℤ) → Sound ed c staged (in_order (edition_of ed) (sources parent staged c.count table m) c.capacity t d spills zs)
     unfolding in_order
@@ -176,18 +173,18 @@ module _ (ed : RowEdition) (parent : List ℕ) (named : length parent ≡ 32) (s
 -- ---- what an effect leaves
 
 module _ (ed : RowEdition) (c : ListCounts) (staged : List ℕ) (head head' : List ℤ) (staged' : List ℕ) where
-  accepted_by : (x : Effect) (c' : ListCounts) → Sound ed c staged x → flipping (Done c') head' staged' ≡ done_by (edition_of ed) x c head staged → RecordsOk (record_size ed) (row_limit_of ed) c staged
+  accepted_by : (x : Effect) (c' : ListCounts) → Sound ed c staged x → flipping (Ok c') head' staged' ≡ done_by (edition_of ed) x c head staged → RecordsOk (record_size ed) (row_limit_of ed) c staged
       → RecordsOk (record_size ed) (row_limit_of ed) c' staged' × (length head' ≡ length head)
   unfolding put_record
-  accepted_by (refuse code) c' s e ok = let q : Done c' ≡ Refused code = ap (λ (f : Flipping). f.answer) e in nope (cc)
+  accepted_by (refuse code) c' s e ok = let q : Ok c' ≡ Err code = ap (λ (f : Flipping). f.answer) e in nope (cc)
   accepted_by (flip_head i) c' s e ok =
-      let q : Done c' ≡ Done c = ap (λ (f : Flipping). f.answer) e in
+      let q : Ok c' ≡ Ok c = ap (λ (f : Flipping). f.answer) e in
       let p : c' ≡ c = cc in
       let u : staged' ≡ staged = ap (λ (f : Flipping). f.staged) e in
       let v : head' ≡ flipped_at (At i) head = ap (λ (f : Flipping). f.head) e in
       (rw (p, u) ok, ap length v ∙ length-set head i _)
   accepted_by (stage index count key row) c' s e ok =
-      let q : Done c' ≡ Done (with_count count c) = ap (λ (f : Flipping). f.answer) e in
+      let q : Ok c' ≡ Ok (with_count count c) = ap (λ (f : Flipping). f.answer) e in
       let p : c' ≡ with_count count c = cc in
       let u : staged' ≡ write (index * record_size ed) (record_of (record_size ed) key row) staged = ap (λ (f : Flipping). f.staged) e in
       let v : head' ≡ head = ap (λ (f : Flipping). f.head) e in
@@ -198,14 +195,14 @@ module _ (ed : RowEdition) (c : ListCounts) (staged : List ℕ) (head head' : Li
           (write (slot (find_key key (keys (record_size ed) c.count staged)) c.count * record_size ed) (record_of (record_size ed) key row) staged)
       put_ok s = records_ok_after_put (record_size ed) (row_limit_of ed) c key row staged s.keyed (omega (arith, s.short, sizes ed)) s.short (omega (arith, s.short, limit_most ed)) s.free ok
 
-  refused_by : (x : Effect) (code : ℕ) → flipping (Refused code) head' staged' ≡ done_by (edition_of ed) x c head staged → (head' ≡ head) × (staged' ≡ staged)
+  refused_by : (x : Effect) (code : ℕ) → flipping (Err code) head' staged' ≡ done_by (edition_of ed) x c head staged → (head' ≡ head) × (staged' ≡ staged)
   refused_by (refuse code') code e = (ap (λ (f : Flipping). f.head) e, ap (λ (f : Flipping). f.staged) e)
-  refused_by (flip_head i) code e = let q : Refused code ≡ Done c = ap (λ (f : Flipping). f.answer) e in nope (cc)
-  refused_by (stage index count key row) code e = let q : Refused code ≡ Done (with_count count c) = ap (λ (f : Flipping). f.answer) e in nope (cc)
+  refused_by (flip_head i) code e = let q : Err code ≡ Ok c = ap (λ (f : Flipping). f.answer) e in nope (cc)
+  refused_by (stage index count key row) code e = let q : Err code ≡ Ok (with_count count c) = ap (λ (f : Flipping). f.answer) e in nope (cc)
 
 module _ (ed : RowEdition) (d : Direction) (parent : List ℕ) (h : HeadCounts) (z : ℤ) (c : ListCounts) (staged : List ℕ) (e : ListCounts) (table : List ℕ) (head head' : List ℤ) (staged' : List ℕ) where
   -- an accepted flip keeps what refusal 25 tests
-  pub flip_keeps : length parent ≡ 32 → (c' : ListCounts) → flip_ok (edition_of ed) h c staged e table head ≡ true → flipping (Done c') head' staged' ≡ flip_core (edition_of ed) d parent h z c staged e table head
+  pub flip_keeps : length parent ≡ 32 → (c' : ListCounts) → flip_ok (edition_of ed) h c staged e table head ≡ true → flipping (Ok c') head' staged' ≡ flip_core (edition_of ed) d parent h z c staged e table head
       → flip_ok (edition_of ed) h c' staged' e table head' ≡ true
   unfolding flip_ok flip_core
   flip_keeps named c' ok q =
@@ -218,7 +215,7 @@ module _ (ed : RowEdition) (d : Direction) (parent : List ℕ) (h : HeadCounts) 
       and_true (head_ok h head') _ (rw p.1 a) (and_true _ _ (records_ok_test (record_size ed) (row_limit_of ed) c' staged' p.0) t)
 
   -- a refused flip changes nothing
-  pub flip_refused : (code : ℕ) → flipping (Refused code) head' staged' ≡ flip_core (edition_of ed) d parent h z c staged e table head → (head' ≡ head) × (staged' ≡ staged)
+  pub flip_refused : (code : ℕ) → flipping (Err code) head' staged' ≡ flip_core (edition_of ed) d parent h z c staged e table head → (head' ≡ head) × (staged' ≡ staged)
   unfolding flip_core
   flip_refused code q = refused_by ed c staged head head' staged' (flip_effect (edition_of ed) (sources parent staged c.count table e.count) c.capacity d z h.spills (take h.len head)) code q
 

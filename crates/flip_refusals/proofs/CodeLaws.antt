@@ -13,12 +13,10 @@ use Rattle.entries.specs.Order.{order_ok}
 use Rattle.entries.specs.Flip.{position}
 use Rattle.entries.specs.declared.Position.{Position}
 use Rattle.entries.specs.declared.Position.TheVariants.{At, Seen, Absent}
-use Rattle.vlq_core.specs.declared.Got.{Got}
-use Rattle.vlq_core.specs.declared.Got.TheVariants as got
+use Rattle.vlq_core.specs.Answers.{Got}
 use Rattle.vlq_core.specs.Reading.{read_at}
 use Rattle.vlq_core.proofs.ReadLaws.{read_refusals}
-use Rattle.records.specs.declared.Found.{Found}
-use Rattle.records.specs.declared.Found.TheVariants as found
+use Rattle.std.specs.Prelude.{Option, Some, None, Ok, Err}
 use Rattle.index_types.specs.declared.ListCounts.{ListCounts}
 use Rattle.records.specs.declared.Place.{Place}
 use Rattle.records.specs.declared.Place.TheVariants.{Staged, Table, Missing}
@@ -33,11 +31,8 @@ use Rattle.segment_core.specs.Reading.{Seg, seg, no_seg, segment_at, ended}
 use Rattle.segment_core.proofs.CodecLaws.{Few, segment_refusals}
 use Rattle.index_types.specs.declared.HeadCounts.{HeadCounts}
 use Rattle.buffer_core.specs.declared.Direction.{Direction}
-use Rattle.index_types.specs.declared.Flipped.TheVariants.{Done, Refused}
-use Rattle.buffer_core.specs.declared.Lead.{Lead}
-use Rattle.buffer_core.specs.declared.Lead.TheVariants.{Leads, NoLead}
-use Rattle.buffer_core.specs.declared.Low.{Low}
-use Rattle.buffer_core.specs.declared.Low.TheVariants.{Upto, Broken}
+use Rattle.buffer_core.specs.Answers.{Lead}
+use Rattle.buffer_core.specs.Answers.{Low}
 use Rattle.buffer_core.specs.declared.Look.{Look}
 use Rattle.buffer_core.specs.declared.Look.TheVariants.{Take, Stop, Next, Fail}
 use Rattle.buffer_core.specs.declared.Walk.{Walk}
@@ -122,8 +117,8 @@ module _ (row : List ℕ) where
 
       by_header : (g : Got) → read_at 32 row number_at ≡ g
           → RowCoded Two (numbers_of Box (body_then (λ c at. named (says Two Box parent n row c) (ended true (length row) (segment_at row at))) g))
-      by_header (got.Value c at) e = named_coded (says Two Box parent n row c) (ended true (length row) (segment_at row at)) (body_coded Two at)
-      by_header (got.Refused r) e = number_code r (read_refusals 32 row number_at r (sym e))
+      by_header (Ok (c, at)) e = named_coded (says Two Box parent n row c) (ended true (length row) (segment_at row at)) (body_coded Two at)
+      by_header (Err r) e = number_code r (read_refusals 32 row number_at r (sym e))
 
   row_codes : (ed : RowEdition) (parent : List ℕ) (n : ℤ) → length row ≤ row_limit_of ed → RowCoded ed (numbers_of Box (row_under ed Box parent n row))
   row_codes ed parent n h = subst (λ (g : Seg). RowCoded ed (numbers_of Box g)) (sym (row_within ed Box parent n row h)) (under_coded ed parent n)
@@ -139,12 +134,12 @@ checked_coded ed (good zs) c = by_check (eqb (length zs) 512 && order_ok zs)
 -- ---- the halving and the walk
 
 abbrev LeadCoded : RowEdition → Lead → Type 0
-LeadCoded ed (Leads x) = Unit
-LeadCoded ed (NoLead code) = RowCode ed code
+LeadCoded ed (Ok x) = Unit
+LeadCoded ed (Err code) = RowCode ed code
 
 abbrev LowCoded : RowEdition → Low → Type 0
-LowCoded ed (Upto low) = Unit
-LowCoded ed (Broken code) = RowCode ed code
+LowCoded ed (Ok low) = Unit
+LowCoded ed (Err code) = RowCode ed code
 
 abbrev LookCoded : RowEdition → Look → Type 0
 LookCoded ed (Take i) = Unit
@@ -184,14 +179,14 @@ pick_coded ed true x y p q = p
 pick_coded ed false x y p q = q
 
 half_coded : (ed : RowEdition) (r : Lead) (t : ℕ) (x y : Low) → LeadCoded ed r → LowCoded ed x → LowCoded ed y → LowCoded ed (half r t x y)
-half_coded ed (Leads a) t x y c p q = pick_coded ed (leb a t) x y p q
-half_coded ed (NoLead code) t x y c p q = c
+half_coded ed (Ok a) t x y c p q = pick_coded ed (leb a t) x y p q
+half_coded ed (Err code) t x y c p q = c
 
 search_coded : (ed : RowEdition) (f : ℕ → Lead) → ((n : ℕ) → LeadCoded ed (f n)) → (t k low high : ℕ) → LowCoded ed (search_by f t k low high)
 unfolding search_by
 search_coded ed f c t zero low high = tt
 search_coded ed f c t (suc k) low high =
-    pick_coded ed (ltb low high) _ (Upto low)
+    pick_coded ed (ltb low high) _ (Ok low)
     (half_coded ed (f (middle low high)) t _ _ (c (middle low high)) (search_coded ed f c t k (middle low high + 1) high) (search_coded ed f c t k low (middle low high))) tt
 
 step_coded : (ed : RowEdition) (x : Look) (n : ℕ) (seen : Bool) (rest : Bool → Walk) → LookCoded ed x → ((s : Bool) → WalkCoded ed (rest s)) → WalkCoded ed (walk_by x n seen rest)
@@ -217,11 +212,11 @@ module _ (ed : RowEdition) (parent staged : List ℕ) (m : ℕ) (table : List �
   unfolding spill_read place_at
   spill_coded number = by_found (find_key (row_key parent Box (pos number)) (keys (record_size ed) m staged)) refl (find_key (row_key parent Box (pos number)) (keys (record_size ed) n table)) refl
     where
-      by_found : (f : Found) → f ≡ find_key (row_key parent Box (pos number)) (keys (record_size ed) m staged) → (g : Found) → g ≡ find_key (row_key parent Box (pos number)) (keys (record_size ed) n table)
+      by_found : (f : Option ℕ) → f ≡ find_key (row_key parent Box (pos number)) (keys (record_size ed) m staged) → (g : Option ℕ) → g ≡ find_key (row_key parent Box (pos number)) (keys (record_size ed) n table)
           → RowCoded ed (read_placed (edition_of ed) Box (sources parent staged m table n) number (place_of f g))
-      by_found (found.At i) e g d = row_codes (row_at (record_size ed) i staged) ed parent (pos number) (row_most ed i m staged _ (found_in _ (record_size ed) m staged i (found.At i) e refl) h refl)
-      by_found found.Nothing e (found.At i) d = row_codes (row_at (record_size ed) i table) ed parent (pos number) (row_most ed i n table _ (found_in _ (record_size ed) n table i (found.At i) d refl) k refl)
-      by_found found.Nothing e found.Nothing d = own ed 12 13 12 (omega arith) (omega arith)
+      by_found (Some i) e g d = row_codes (row_at (record_size ed) i staged) ed parent (pos number) (row_most ed i m staged _ (found_in _ (record_size ed) m staged i (Some i) e refl) h refl)
+      by_found None e (Some i) d = row_codes (row_at (record_size ed) i table) ed parent (pos number) (row_most ed i n table _ (found_in _ (record_size ed) n table i (Some i) d refl) k refl)
+      by_found None e None d = own ed 12 13 12 (omega arith) (omega arith)
 
   row_coded : (number : ℕ) → RowCoded ed (row_checked (edition_of ed) (sources parent staged m table n) number)
   row_coded number = checked_coded ed (spill_read (edition_of ed) Box (sources parent staged m table n) number) (spill_coded number)
@@ -235,7 +230,7 @@ module _ (ed : RowEdition) (parent staged : List ℕ) (m : ℕ) (table : List �
       walk_coded ed (look_at (edition_of ed) (sources parent staged m table n) t d) (λ i. look_coded ed (row_checked (edition_of ed) (sources parent staged m table n) i) t d (row_coded i)) l seen
 
   -- the refusal of a row that the halving or the walk reads
-  pub broken_code : (t spills code : ℕ) → search_in (lead_at (edition_of ed) (sources parent staged m table n)) t 0 spills ≡ Broken code → RowCode ed code
+  pub broken_code : (t spills code : ℕ) → search_in (lead_at (edition_of ed) (sources parent staged m table n)) t 0 spills ≡ Err code → RowCode ed code
   broken_code t spills code e = subst (LowCoded ed) e (low_coded t spills)
 
   pub failed_code : (t : ℕ) (d : Bool) (l : ℕ) (seen : Bool) (code : ℕ) → walk_from (look_at (edition_of ed) (sources parent staged m table n) t d) l seen ≡ Failed code → RowCode ed code
@@ -269,8 +264,8 @@ module _ (ed : RowEdition) (parent staged : List ℕ) (m : ℕ) (table : List �
         by_walk (Failed code) p = wider ed code p
 
         by_low : (low : Low) → LowCoded ed low → Coded ed (after_search (edition_of ed) (sources parent staged m table n) capacity t d seen low)
-        by_low (Upto l) p = by_walk (walk_from (look_at (edition_of ed) (sources parent staged m table n) t d) l seen) (walked_coded t d l seen)
-        by_low (Broken code) p = wider ed code p
+        by_low (Ok l) p = by_walk (walk_from (look_at (edition_of ed) (sources parent staged m table n) t d) l seen) (walked_coded t d l seen)
+        by_low (Err code) p = wider ed code p
 
     order_coded : (t : ℕ) (d : Bool) (spills : ℕ) (zs : List ℤ) → Coded ed (in_order (edition_of ed) (sources parent staged m table n) capacity t d spills zs)
     unfolding in_order
@@ -294,16 +289,16 @@ module _ (ed : RowEdition) (parent staged : List ℕ) (m : ℕ) (table : List �
         (own ed 9 16 10 (omega arith) (omega arith)))
 
 refused_code : (ed : RowEdition) (x : Effect) (c : ListCounts) (head head' : List ℤ) (staged staged' : List ℕ) (code : ℕ) → Coded ed x
-    → flipping (Refused code) head' staged' ≡ done_by (edition_of ed) x c head staged → FlipCode ed code
+    → flipping (Err code) head' staged' ≡ done_by (edition_of ed) x c head staged → FlipCode ed code
 refused_code ed (refuse code') c head head' staged staged' code p e =
-    let q : Refused code ≡ Refused code' = ap (λ (f : Flipping). f.answer) e in let d : code' ≡ code = cc in subst (FlipCode ed) d p
-refused_code ed (flip_head i) c head head' staged staged' code p e = let q : Refused code ≡ Done c = ap (λ (f : Flipping). f.answer) e in nope (cc)
+    let q : Err code ≡ Err code' = ap (λ (f : Flipping). f.answer) e in let d : code' ≡ code = cc in subst (FlipCode ed) d p
+refused_code ed (flip_head i) c head head' staged staged' code p e = let q : Err code ≡ Ok c = ap (λ (f : Flipping). f.answer) e in nope (cc)
 refused_code ed (stage index count key row) c head head' staged staged' code p e =
-    let q : Refused code ≡ Done (with_count count c) = ap (λ (f : Flipping). f.answer) e in nope (cc)
+    let q : Err code ≡ Ok (with_count count c) = ap (λ (f : Flipping). f.answer) e in nope (cc)
 
 -- a refused flip says why
 pub flip_codes : (ed : RowEdition) (d : Direction) (parent : List ℕ) (h : HeadCounts) (z : ℤ) (c : ListCounts) (staged : List ℕ) (e : ListCounts) (table : List ℕ) (head head' : List ℤ) (staged' : List ℕ) (code : ℕ)
-    → InBounds (record_size ed) c staged → InBounds (record_size ed) e table → flipping (Refused code) head' staged' ≡ flip_core (edition_of ed) d parent h z c staged e table head → FlipCode ed code
+    → InBounds (record_size ed) c staged → InBounds (record_size ed) e table → flipping (Err code) head' staged' ≡ flip_core (edition_of ed) d parent h z c staged e table head → FlipCode ed code
 unfolding flip_core
 flip_codes ed d parent h z c staged e table head head' staged' code b a q =
     refused_code ed (flip_effect (edition_of ed) (sources parent staged c.count table e.count) c.capacity d z h.spills (take h.len head)) c head head' staged staged' code

@@ -24,9 +24,8 @@ use Rattle.records.specs.Checks.{InBounds}
 use Rattle.segment_id.specs.declared.Kind.TheVariants.{Box}
 use Rattle.index_types.specs.declared.HeadCounts.{HeadCounts}
 use Rattle.buffer_core.specs.declared.Direction.{Direction}
-use Rattle.index_types.specs.declared.Flipped.TheVariants.{Done, Refused}
-use Rattle.buffer_core.specs.declared.Low.{Low}
-use Rattle.buffer_core.specs.declared.Low.TheVariants.{Upto, Broken}
+use Rattle.std.specs.Prelude.{Ok, Err}
+use Rattle.buffer_core.specs.Answers.{Low}
 use Rattle.buffer_core.specs.declared.Look.{Look}
 use Rattle.buffer_core.specs.declared.Look.TheVariants.{Take, Stop, Next, Fail}
 use Rattle.buffer_core.specs.declared.Walk.{Walk}
@@ -37,6 +36,7 @@ use Rattle.buffer_core.specs.Spills.{Sources, sources, place_at}
 use Rattle.buffer_core.specs.Flip.{first_of, last_in, search_in, look_past, look_by, look_in, walk_by, walk_from, Effect, refuse, flip_head, stage, Flipping, flipping, head_first, done_by, spends, lead_at, look_at, stage_from, stage_at, after_walk, after_search, in_rows, in_order, flip_effect, flip_core}
 use Rattle.spill_rows.proofs.CheckedLaws.{nope}
 use Rattle.flip_refusals.proofs.CodeLaws.{not_15, broken_code, failed_code}
+use Rattle.index_types.specs.Answers.{Flipped}
 
 -- ---- the rows that a walk looks at, from spill number n - 1 down: none shows a copy
 
@@ -88,7 +88,7 @@ look_unseen zs t d e = by_last (ltb (last_in zs) t) refl e
 pub record NotSeen (ed : RowEdition) (w : Sources) (t : ℕ) (d : Bool) (spills : ℕ) (zs : List ℤ) : Type 0 where
   pub head : copies t (map nat_abs zs) ≡ 0
   pub low : ℕ
-  pub found : search_in (lead_at (edition_of ed) w) t 0 spills ≡ Upto low
+  pub found : search_in (lead_at (edition_of ed) w) t 0 spills ≡ Ok low
   pub rows : Unseen (look_at (edition_of ed) w t d) low
 
 -- what follows from an effect that refuses with 15
@@ -119,12 +119,12 @@ module _ (ed : RowEdition) (parent staged : List ℕ) (m : ℕ) (table : List �
   unfolding in_rows
   rows_15 t d spills seen zs c = by_low (search_in (lead_at (edition_of ed) (sources parent staged m table n)) t 0 spills) refl
     where
-      by_seen : (l : ℕ) → search_in (lead_at (edition_of ed) (sources parent staged m table n)) t 0 spills ≡ Upto l → (s : Bool)
+      by_seen : (l : ℕ) → search_in (lead_at (edition_of ed) (sources parent staged m table n)) t 0 spills ≡ Ok l → (s : Bool)
           → walk_from (look_at (edition_of ed) (sources parent staged m table n) t d) l seen ≡ Ended s → If_15 (NotSeen ed (sources parent staged m table n) t d spills zs) (refuse (cond s 14 15))
       by_seen l q true e = never _ 14 (λ e. omega arith)
       by_seen l q false e = λ z. let p = walk_unseen (look_at (edition_of ed) (sources parent staged m table n) t d) l seen e in record { head = c p.0; low = l; found = q; rows = p.1 }
 
-      by_walk : (l : ℕ) → search_in (lead_at (edition_of ed) (sources parent staged m table n)) t 0 spills ≡ Upto l → (v : Walk)
+      by_walk : (l : ℕ) → search_in (lead_at (edition_of ed) (sources parent staged m table n)) t 0 spills ≡ Ok l → (v : Walk)
           → walk_from (look_at (edition_of ed) (sources parent staged m table n) t d) l seen ≡ v
           → If_15 (NotSeen ed (sources parent staged m table n) t d spills zs) (after_walk (edition_of ed) (sources parent staged m table n) capacity v)
       by_walk l q (Hit number at) e = stage_15 _ number at
@@ -133,8 +133,8 @@ module _ (ed : RowEdition) (parent staged : List ℕ) (m : ℕ) (table : List �
 
       by_low : (low : Low) → search_in (lead_at (edition_of ed) (sources parent staged m table n)) t 0 spills ≡ low
           → If_15 (NotSeen ed (sources parent staged m table n) t d spills zs) (after_search (edition_of ed) (sources parent staged m table n) capacity t d seen low)
-      by_low (Upto l) q = by_walk l q (walk_from (look_at (edition_of ed) (sources parent staged m table n) t d) l seen) refl
-      by_low (Broken code) q = λ z. absurd (not_15 ed (broken_code ed parent staged m table n h k t spills 15 (q ∙ ap Broken z)))
+      by_low (Ok l) q = by_walk l q (walk_from (look_at (edition_of ed) (sources parent staged m table n) t d) l seen) refl
+      by_low (Err code) q = λ z. absurd (not_15 ed (broken_code ed parent staged m table n h k t spills 15 (q ∙ ap Err z)))
 
   order_15 : (t : ℕ) (d : Bool) (spills : ℕ) (zs : List ℤ)
       → If_15 (NotSeen ed (sources parent staged m table n) t d spills zs) (in_order (edition_of ed) (sources parent staged m table n) capacity t d spills zs)
@@ -158,15 +158,15 @@ module _ (ed : RowEdition) (parent staged : List ℕ) (m : ℕ) (table : List �
       (never X 10 (λ e. omega arith)))
 
 refused_15 : (ed : RowEdition) (X : Type 0) (x : Effect) (c : ListCounts) (head head' : List ℤ) (staged staged' : List ℕ) → If_15 X x
-    → flipping (Refused 15) head' staged' ≡ done_by (edition_of ed) x c head staged → X
+    → flipping (Err 15) head' staged' ≡ done_by (edition_of ed) x c head staged → X
 refused_15 ed X (refuse code) c head head' staged staged' p e =
-    let q : Refused 15 ≡ Refused code = ap (λ (f : Flipping). f.answer) e in let d : code ≡ 15 = cc in p d
-refused_15 ed X (flip_head i) c head head' staged staged' p e = let q : Refused 15 ≡ Done c = ap (λ (f : Flipping). f.answer) e in nope (cc)
+    let q : ◌≡◌ {A = Flipped} (Err 15) (Err code) = ap (λ (f : Flipping). f.answer) e in let d : code ≡ 15 = cc in p d
+refused_15 ed X (flip_head i) c head head' staged staged' p e = let q : ◌≡◌ {A = Flipped} (Err 15) (Ok c) = ap (λ (f : Flipping). f.answer) e in nope (cc)
 refused_15 ed X (stage index count key row) c head head' staged staged' p e =
-    let q : Refused 15 ≡ Done (with_count count c) = ap (λ (f : Flipping). f.answer) e in nope (cc)
+    let q : ◌≡◌ {A = Flipped} (Err 15) (Ok (with_count count c)) = ap (λ (f : Flipping). f.answer) e in nope (cc)
 
 pub flip_15 : (ed : RowEdition) (d : Direction) (parent : List ℕ) (h : HeadCounts) (z : ℤ) (c : ListCounts) (staged : List ℕ) (e : ListCounts) (table : List ℕ) (head head' : List ℤ) (staged' : List ℕ)
-    → InBounds (record_size ed) c staged → InBounds (record_size ed) e table → flipping (Refused 15) head' staged' ≡ flip_core (edition_of ed) d parent h z c staged e table head
+    → InBounds (record_size ed) c staged → InBounds (record_size ed) e table → flipping (Err 15) head' staged' ≡ flip_core (edition_of ed) d parent h z c staged e table head
     → NotSeen ed (sources parent staged c.count table e.count) (nat_abs z) (spends d) (nat_abs h.spills) (take h.len head)
 unfolding flip_core
 flip_15 ed d parent h z c staged e table head head' staged' b a q =

@@ -7,7 +7,7 @@ ghost use Rattle.buffer_core.specs.Spills.{sources};
 ghost use Rattle.buffer_core.specs.Flip.{in_rows};
 ghost use Rattle.flip_stage.specs.Internal.{RowsReady, Stages};
 
-use buffer_core::{Low, Walk};
+use buffer_core::Walk;
 use index_types::{Flipped, ListCounts, RowEdition};
 
 // The halving, the walk, and the match.
@@ -42,7 +42,7 @@ fn flip_hinted(
         spills,
     );
     match found {
-        Low::Upto(low) => {
+        Ok(low) => {
             let walk = flip_walk::walk_down(
                 edition,
                 parent,
@@ -70,12 +70,12 @@ fn flip_hinted(
                 ),
                 Walk::Ended(saw) => {
                     let code = flip_refusals::no_entry(saw);
-                    Flipped::Refused(code)
+                    Err(code)
                 }
-                Walk::Failed(code) => Flipped::Refused(code),
+                Walk::Failed(code) => Err(code),
             }
         }
-        Low::Broken(code) => Flipped::Refused(code),
+        Err(code) => Err(code),
     }
 }
 
@@ -134,7 +134,7 @@ pub fn flip_rows(
 {
     let code = flip_refusals::no_entry(seen);
     if spills == 0 {
-        return Flipped::Refused(code);
+        return Err(code);
     }
     if hints.len() == 0 {
         if record_hints::FEW_RECORDS < table_count {

@@ -9,14 +9,12 @@ use borrow.Author.Tests.{ltb-true, lt-ltb, le-ltb, le-leb, lt-leb}
 use lib.Dec.{ltb, leb}
 use lib.IntN.{ℤ, pos, nat_abs}
 use lib.ListN.{get_or}
-use Rattle.buffer_core.specs.declared.Lead.{Lead}
-use Rattle.buffer_core.specs.declared.Lead.TheVariants.{Leads, NoLead}
-use Rattle.buffer_core.specs.declared.Low.{Low}
-use Rattle.buffer_core.specs.declared.Low.TheVariants.{Upto, Broken}
+use Rattle.std.specs.Prelude.{Ok, Err}
+use Rattle.buffer_core.specs.Answers.{Lead}
+use Rattle.buffer_core.specs.Answers.{Low}
 use Rattle.buffer_core.specs.Edition.{RowRead}
 use Rattle.buffer_core.specs.Flip.{lead_of, half, middle, search_by, search_in}
-use Rattle.spill_rows.specs.declared.Read.{Read}
-use Rattle.spill_rows.specs.declared.Read.TheVariants.{Good, Faulty}
+use Rattle.spill_rows.specs.Answers.{Read}
 use Rattle.spill_rows.specs.Internal.{CheckedInto}
 use Rattle.spill_rows.proofs.CheckedLaws.{nope, faulty}
 
@@ -24,10 +22,10 @@ use Rattle.spill_rows.proofs.CheckedLaws.{nope, faulty}
 
 module _ (x : RowRead) (r : Read) (out : List ℤ) (s : CheckedInto x r out) where
   -- z and m are what locals hold of the first number
-  pub lead_good : r ≡ Good → (z : ℤ) (m : ℕ) → z ≡ get_or out 0 (pos 0) → m ≡ nat_abs z → Leads m ≡ lead_of x
-  lead_good e z m p q = rw (s.numbers e) (ap Leads (q ∙ ap nat_abs p))
+  pub lead_good : r ≡ (Ok tt) → (z : ℤ) (m : ℕ) → z ≡ get_or out 0 (pos 0) → m ≡ nat_abs z → Ok m ≡ lead_of x
+  lead_good e z m p q = rw (s.numbers e) (ap Ok (q ∙ ap nat_abs p))
 
-  pub lead_bad : (code : ℕ) → r ≡ Faulty code → NoLead code ≡ lead_of x
+  pub lead_bad : (code : ℕ) → r ≡ Err code → Err code ≡ lead_of x
   lead_bad code e = rw (faulty x r out s code e)
 
 -- ---- the middle
@@ -81,32 +79,32 @@ search_step f t low high h =
 
 -- ---- each way out of the halving
 
-pub search_end : (f : ℕ → Lead) (t low high : ℕ) → high ≤ low → Upto low ≡ search_in f t low high
+pub search_end : (f : ℕ → Lead) (t low high : ℕ) → high ≤ low → Ok low ≡ search_in f t low high
 unfolding search_by
 search_end f t low high h = let e : high - low ≡ 0 = omega arith in rw e
 
 module _ (f : ℕ → Lead) (t low high : ℕ) (h : low < high) (r : Lead) (e : r ≡ f (middle low high)) where
-  pub search_bad : (c : ℕ) → r ≡ NoLead c → Broken c ≡ search_in f t low high
+  pub search_bad : (c : ℕ) → r ≡ Err c → Err c ≡ search_in f t low high
   search_bad c q = sym (search_step f t low high h ∙ rw (sym e ∙ q))
 
-  pub search_up : (x : ℕ) (s : Low) → r ≡ Leads x → x ≤ t → s ≡ search_in f t (middle low high + 1) high → s ≡ search_in f t low high
+  pub search_up : (x : ℕ) (s : Low) → r ≡ Ok x → x ≤ t → s ≡ search_in f t (middle low high + 1) high → s ≡ search_in f t low high
   search_up x s q l es = es ∙ sym (search_step f t low high h ∙ rw (sym e ∙ q, le-leb x t l))
 
-  pub search_down : (x : ℕ) (s : Low) → r ≡ Leads x → t < x → s ≡ search_in f t low (middle low high) → s ≡ search_in f t low high
+  pub search_down : (x : ℕ) (s : Low) → r ≡ Ok x → t < x → s ≡ search_in f t low (middle low high) → s ≡ search_in f t low high
   search_down x s q l es = es ∙ sym (search_step f t low high h ∙ rw (sym e ∙ q, lt-leb x t l))
 
 -- ---- the answer is at most high
 
-pick_bound : (b : Bool) (x y : Low) (l high : ℕ) → (x ≡ Upto l → l ≤ high) → (y ≡ Upto l → l ≤ high) → cond b x y ≡ Upto l → l ≤ high
+pick_bound : (b : Bool) (x y : Low) (l high : ℕ) → (x ≡ Ok l → l ≤ high) → (y ≡ Ok l → l ≤ high) → cond b x y ≡ Ok l → l ≤ high
 pick_bound true x y l high p q e = p e
 pick_bound false x y l high p q e = q e
 
-half_bound : (r : Lead) (t : ℕ) (x y : Low) (l high : ℕ) → (x ≡ Upto l → l ≤ high) → (y ≡ Upto l → l ≤ high) → half r t x y ≡ Upto l → l ≤ high
-half_bound (Leads a) t x y l high p q e = pick_bound (leb a t) x y l high p q e
-half_bound (NoLead c) t x y l high p q e = nope (cc)
+half_bound : (r : Lead) (t : ℕ) (x y : Low) (l high : ℕ) → (x ≡ Ok l → l ≤ high) → (y ≡ Ok l → l ≤ high) → half r t x y ≡ Ok l → l ≤ high
+half_bound (Ok a) t x y l high p q e = pick_bound (leb a t) x y l high p q e
+half_bound (Err c) t x y l high p q e = nope (cc)
 
-bound_by : (f : ℕ → Lead) (t k low high l : ℕ) → low ≤ high → ((a b : ℕ) → a ≤ b → search_by f t k a b ≡ Upto l → l ≤ b)
-    → (b : Bool) → ltb low high ≡ b → search_by f t (suc k) low high ≡ Upto l → l ≤ high
+bound_by : (f : ℕ → Lead) (t k low high l : ℕ) → low ≤ high → ((a b : ℕ) → a ≤ b → search_by f t k a b ≡ Ok l → l ≤ b)
+    → (b : Bool) → ltb low high ≡ b → search_by f t (suc k) low high ≡ Ok l → l ≤ high
 unfolding search_by
 bound_by f t k low high l g ih true e q =
     let h : low < high = ltb-true low high e in
@@ -115,10 +113,10 @@ bound_by f t k low high l g ih true e q =
     (λ p. ih (middle low high + 1) high (omega arith) p) (λ p. omega (arith, ih low (middle low high) (omega arith) p)) (rw e at q)
 bound_by f t k low high l g ih false e q = let m : low ≡ l = cc (rw e at q) in omega arith
 
-search_bound : (f : ℕ → Lead) (t k low high l : ℕ) → low ≤ high → search_by f t k low high ≡ Upto l → l ≤ high
+search_bound : (f : ℕ → Lead) (t k low high l : ℕ) → low ≤ high → search_by f t k low high ≡ Ok l → l ≤ high
 unfolding search_by
 search_bound f t zero low high l g e = let m : low ≡ l = cc in omega arith
 search_bound f t (suc k) low high l g e = bound_by f t k low high l g (λ a b p q. search_bound f t k a b l p q) (ltb low high) refl e
 
-pub search_most : (f : ℕ → Lead) (t low high l : ℕ) (s : Low) → low ≤ high → s ≡ search_in f t low high → s ≡ Upto l → l ≤ high
+pub search_most : (f : ℕ → Lead) (t low high l : ℕ) (s : Low) → low ≤ high → s ≡ search_in f t low high → s ≡ Ok l → l ≤ high
 search_most f t low high l s g e h = search_bound f t (high - low) low high l g (sym e ∙ h)

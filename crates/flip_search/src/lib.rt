@@ -11,7 +11,6 @@ ghost use Rattle.buffer_core.specs.Flip.{lead_at, search_in};
 
 use buffer_core::{Lead, Low};
 use index_types::{RowEdition, SEGMENT_THRESHOLD};
-use spill_rows::Read;
 
 // The absolute value of the first number of a row.
 pub fn lead_of<'a>(
@@ -40,10 +39,8 @@ pub fn lead_of<'a>(
         hints,
         &mut row,
     );
-    match read {
-        Read::Good => Lead::Leads(signed::magnitude(row[0])),
-        Read::Faulty(code) => Lead::NoLead(code),
-    }
+    read?;
+    Ok(signed::magnitude(row[0]))
 }
 
 // How many rows, from spill 0 on, lie at or before the newest whose first absolute value is at most the target.
@@ -76,7 +73,7 @@ pub fn search<'a>(
             hints,
         );
         match lead {
-            Lead::Leads(first) => {
+            Ok(first) => {
                 if first <= target {
                     search(
                         edition,
@@ -105,9 +102,9 @@ pub fn search<'a>(
                     )
                 }
             }
-            Lead::NoLead(code) => Low::Broken(code),
+            Err(code) => Err(code),
         }
     } else {
-        Low::Upto(low)
+        Ok(low)
     }
 }

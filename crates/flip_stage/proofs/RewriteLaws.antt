@@ -13,8 +13,8 @@ use Rattle.stores.specs.Stores.{write, Put}
 use Rattle.stores.proofs.StoreLaws.{write_whole}
 use Rattle.stores.specs.Equal.{same_bytes}
 use Rattle.vlq_core.specs.Groups.{enc}
-use Rattle.vlq_core.specs.declared.Got.{Got}
-use Rattle.vlq_core.specs.declared.Got.TheVariants.{Value, Refused}
+use Rattle.std.specs.Prelude.{Ok, Err}
+use Rattle.vlq_core.specs.Answers.{Got}
 use Rattle.vlq_core.proofs.GroupLaws.{enc_length}
 use Rattle.vlq_core.proofs.ReadLaws.{read_fits}
 use Rattle.records.proofs.CheckLaws.{and_right}
@@ -48,7 +48,7 @@ flipped_row v parent n row ts bs b t m at e = rw e
 pub record Body (v : RowEdition) (parent : List ℕ) (n : ℕ) (row : List ℕ) (g : Seg) : Type 0 where
   pub coded : ℕ
   pub start : ℕ
-  pub stands : body_at v row ≡ Value coded start
+  pub stands : body_at v row ≡ Ok (coded, start)
   pub said : says v Box parent (pos n) row coded ≡ true
   pub holds : ended true (length row) (segment_at row start) ≡ g
 
@@ -63,9 +63,9 @@ body_of v parent n row fits ts bs b t m e = by_header (body_at v row) refl (sym 
 
     by_header : (g : Got) → body_at v row ≡ g
         → body_then (λ c at. named (says v Box parent (pos n) row c) (ended true (length row) (segment_at row at))) g ≡ seg ts bs b t m → Body v parent n row (seg ts bs b t m)
-    by_header (Value c o) d q =
+    by_header (Ok (c, o)) d q =
         let w = by_name (says v Box parent (pos n) row c) _ q in record { coded = c; start = o; stands = d; said = w.0; holds = w.1 }
-    by_header (Refused r) d q = nope (cc)
+    by_header (Err r) d q = nope (cc)
 
 -- a row of edition 2 that was read writes its spill number in 32 bits, so that its header is short
 pub header_short : (v : RowEdition) (parent : List ℕ) → length parent ≡ 32 → (n : ℕ) (row : List ℕ) (g : Seg) → Body v parent n row g
@@ -97,7 +97,7 @@ pub record Parsed (v : RowEdition) (parent : List ℕ) (n : ℕ) (row : List ℕ
 module _ (v : RowEdition) (parent : List ℕ) (num : ℕ) (row : List ℕ) (fits : length row ≤ row_limit_of v) (at : ℕ)
     (x : Takes (numbers_of Box (row_under v Box parent (pos num) row)) at) (o : ℕ) (eo : BodyStart (body_at v row) o)
     (r : Loaded) (l m l' m' : List ℤ) (e : loading r l' m' ≡ load (ended true (length row) (segment_at row o)) l m) where
-  starts : (c p : ℕ) → body_at v row ≡ Value c p → o ≡ p
+  starts : (c p : ℕ) → body_at v row ≡ Ok (c, p) → o ≡ p
   starts c p q = rw q at eo
 
   of_row : (ts bs : List ℤ) (b t : ℤ) (n : ℕ) → Body v parent num row (seg ts bs b t n) → loading r l' m' ≡ load (seg ts bs b t n) l m

@@ -4,7 +4,7 @@ use Rattle.index_types.specs.declared.ListCounts.{ListCounts}
 use Rattle.records.specs.Records.{keys}
 use Rattle.records.specs.Find.{distinct}
 use Rattle.records.specs.Checks.{InBounds}
-use Rattle.index_types.specs.declared.Flipped.{Flipped}
+use Rattle.index_types.specs.Answers.{Flipped}
 use Rattle.index_types.specs.declared.RowEdition.{RowEdition}
 use Rattle.buffer_core.specs.Edition.{RowRead, good, record_size, row_limit_of, edition_of}
 use Rattle.buffer_core.specs.Spills.{sources}

@@ -91,17 +91,17 @@ pub fn stage_under(
         Place::Staged(i) => {
             let n = rewrite_record(edition, parent, number, staged, i, at, &mut row);
             let count = record_changes::put(staged, size, held, key, &row[..n]);
-            Flipped::Done(ListCounts { count, capacity })
+            Ok(ListCounts { count, capacity })
         }
         Place::Table(i) => {
             if capacity <= held {
-                return Flipped::Refused(refusal::STAGING_FULL);
+                return Err(refusal::STAGING_FULL);
             }
             let n = rewrite_record(edition, parent, number, table, i, at, &mut row);
             let count = record_changes::put(staged, size, held, key, &row[..n]);
-            Flipped::Done(ListCounts { count, capacity })
+            Ok(ListCounts { count, capacity })
         }
-        Place::Missing => Flipped::Refused(refusal::ROW_MISSING),
+        Place::Missing => Err(refusal::ROW_MISSING),
     }
 }
 

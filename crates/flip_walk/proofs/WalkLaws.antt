@@ -18,18 +18,18 @@ use Rattle.buffer_core.specs.declared.Walk.{Walk}
 use Rattle.buffer_core.specs.declared.Walk.TheVariants.{Hit, Ended, Failed}
 use Rattle.buffer_core.specs.Edition.{RowRead}
 use Rattle.buffer_core.specs.Flip.{first_of, last_in, look_past, look_by, look_in, look_of, walk_by, walk_from}
-use Rattle.spill_rows.specs.declared.Read.{Read}
-use Rattle.spill_rows.specs.declared.Read.TheVariants.{Good, Faulty}
+use Rattle.std.specs.Prelude.{Ok, Err}
+use Rattle.spill_rows.specs.Answers.{Read}
 use Rattle.spill_rows.specs.Internal.{CheckedInto}
 use Rattle.spill_rows.proofs.CheckedLaws.{nope, faulty}
 
 -- ---- what a row shows; x is the checked row
 
 module _ (x : RowRead) (r : Read) (out : List ℤ) (s : CheckedInto x r out) where
-  pub look_good : r ≡ Good → (t : ℕ) (d : Bool) (l : Look) → l ≡ look_in out t d → l ≡ look_of x t d
+  pub look_good : r ≡ (Ok tt) → (t : ℕ) (d : Bool) (l : Look) → l ≡ look_in out t d → l ≡ look_of x t d
   look_good e t d l p = rw (s.numbers e) p
 
-  pub look_bad : (code : ℕ) → r ≡ Faulty code → (t : ℕ) (d : Bool) → Fail code ≡ look_of x t d
+  pub look_bad : (code : ℕ) → r ≡ Err code → (t : ℕ) (d : Bool) → Fail code ≡ look_of x t d
   look_bad code e t d = rw (faulty x r out s code e)
 
 pub past_stop : (first t : ℕ) (seen : Bool) → first < t → Stop seen ≡ look_past (ltb first t) seen

@@ -14,7 +14,6 @@ ghost use Rattle.buffer_core.specs.Flip.{look_past, look_in, look_at, walk_from}
 use buffer_core::{Look, Walk};
 use entries::Position;
 use index_types::{RowEdition, SEGMENT_THRESHOLD};
-use spill_rows::Read;
 
 // What a row shows that has no entry to take.
 fn look_past(first: u64, target: u64, seen: bool) -> Look
@@ -74,8 +73,8 @@ pub fn look_at<'a>(
         &mut row,
     );
     match read {
-        Read::Good => look_in(&row, target, spend),
-        Read::Faulty(code) => Look::Fail(code),
+        Ok(()) => look_in(&row, target, spend),
+        Err(code) => Look::Fail(code),
     }
 }
 
@@ -104,10 +103,8 @@ pub fn walk_down<'a>(
         × (distinct (keys (record_size edition) table_count table.now) ≡ true) }
     ensures { result ≡ walk_from (look_at (edition_of edition) (sources parent.now staged.now staged_count table.now table_count) target spend) from seen }
 {
-    let mut low = from;
     let mut saw = seen;
-    while 0 < low {
-        low -= 1;
+    for low in (0..from).rev() {
         let look = look_at(
             edition,
             parent,

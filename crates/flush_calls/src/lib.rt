@@ -42,5 +42,5 @@ pub fn flush_staged_spills(
             &mut none[..0],
         );
     }
-    Flushed::Refused(refusal::BUFFERS)
+    Err(refusal::BUFFERS)
 }

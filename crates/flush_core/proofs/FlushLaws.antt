@@ -10,7 +10,7 @@ use borrow.Author.Tests.{le-leb, leb-true}
 use Rattle.records.specs.Records.{records, keys}
 use Rattle.records.specs.Changes.{with_count, clear_records}
 use Rattle.records.proofs.TurnLaws.{keys_past, length_keys}
-use Rattle.index_types.specs.declared.Flushed.TheVariants.{Done, Refused}
+use Rattle.std.specs.Prelude.{Ok, Err}
 use Rattle.index_types.specs.declared.RowEdition.{RowEdition}
 use Rattle.buffer_core.specs.Edition.{edition_of, record_size}
 use Rattle.buffer_core.specs.Pop.{Lists}
@@ -55,7 +55,7 @@ module _ (v : RowEdition) where
           let k = leb-true (new_keys (edition_of v) b) (b.table_counts.capacity - b.table_counts.count) (sym e ∙ t) in
           fewer v (b.table_counts.count + new_keys (edition_of v) b) 0 b.table_counts.capacity _ (omega (arith, f.in_table.counted)) f.in_table.room
 
-      pub flush_22 : r ≡ false → flushing (Refused 22) b.table b.staged b.deleted ≡ flush_core (edition_of v) b
+      pub flush_22 : r ≡ false → flushing (Err 22) b.table b.staged b.deleted ≡ flush_core (edition_of v) b
       unfolding flush_core
       flush_22 t = rw (← e, t)
 
@@ -67,6 +67,6 @@ module _ (v : RowEdition) where
         → listed (with_count n b.table_counts) table ≡ remove_keys (edition_of v) (deleted_keys (edition_of v) b)
         (put_undeleted (edition_of v) (deleted_keys (edition_of v) b) (records size b.staged_counts.count b.staged) (listed b.table_counts b.table))
         → staged ≡ clear_records size b.staged_counts.capacity b.staged → deleted ≡ clear_records 32 b.deleted_counts.capacity b.deleted
-        → flushing (Done (with_count n b.table_counts) (with_count 0 b.staged_counts) (with_count 0 b.deleted_counts)) table staged deleted ≡ flushed (edition_of v) b
+        → flushing (Ok (with_count n b.table_counts, with_count 0 b.staged_counts, with_count 0 b.deleted_counts)) table staged deleted ≡ flushed (edition_of v) b
     unfolding flushed table_after
     flush_is n table staged deleted e f g = rw (← e, f, g)

@@ -16,7 +16,7 @@ use Rattle.records.specs.Changes.{with_count, full_for, clear_records}
 use Rattle.records.specs.Checks.{lengths_ok, RecordsOk}
 use Rattle.records.proofs.RecordLaws.{row_room}
 use Rattle.records.proofs.CheckLaws.{and_left, and_right, records_ok_after_put, records_ok_after_clear, keys_ok_after_clear}
-use Rattle.index_types.specs.declared.Flushed.TheVariants.{Done, Refused}
+use Rattle.std.specs.Prelude.{Ok, Err}
 use Rattle.index_types.specs.declared.RowEdition.{RowEdition}
 use Rattle.buffer_core.specs.Edition.{edition_of, record_size, row_limit_of}
 use Rattle.buffer_core.specs.Pop.{Lists, lists, lists_ok}
@@ -27,6 +27,7 @@ use Rattle.buffer_core.proofs.ListLaws.{ListsFit, lists_fit, fit_lists, without_
 use Rattle.flush_table.specs.Internal.{is_new, put_unless_deleted}
 use Rattle.flush_table.proofs.TableLaws.{put_room}
 use Rattle.flush_core.specs.Internal.{FlushReady}
+use Rattle.index_types.proofs.AnswerLaws.{triple_same}
 
 module _ (v : RowEdition) where
   abbrev size : ℕ
@@ -123,16 +124,16 @@ module _ (v : RowEdition) where
 
   -- where the answer gives counts, they pass with the lists at exit
   abbrev pub FlushKept : Flushing → Type 0
-  FlushKept o = (t c d : ListCounts) → o.answer ≡ Done t c d → lists_ok (edition_of v) (lists c o.staged t o.table d o.deleted) ≡ true
+  FlushKept o = (t c d : ListCounts) → o.answer ≡ Ok (t, c, d) → lists_ok (edition_of v) (lists c o.staged t o.table d o.deleted) ≡ true
 
-  kept_refused : (code : ℕ) (table staged deleted : List ℕ) → FlushKept (flushing (Refused code) table staged deleted)
+  kept_refused : (code : ℕ) (table staged deleted : List ℕ) → FlushKept (flushing (Err code) table staged deleted)
   kept_refused code table staged deleted t c d e = let z : ◌≡◌ {A = ℕ} 0 1 = cc in absurd (omega arith)
 
   kept_done : (t c d : ListCounts) (table staged deleted : List ℕ) → ListsFit (edition_of v) (lists c staged t table d deleted)
-      → FlushKept (flushing (Done t c d) table staged deleted)
+      → FlushKept (flushing (Ok (t, c, d)) table staged deleted)
   kept_done t c d table staged deleted ok t' c' d' e =
-      let p : t ≡ t' = cc in let q : c ≡ c' = cc in let r : d ≡ d' = cc in
-      rw (← p, ← q, ← r) (fit_lists (edition_of v) (lists c staged t table d deleted) ok)
+      let q = triple_same e in
+      rw (← q.0, ← q.1, ← q.2) (fit_lists (edition_of v) (lists c staged t table d deleted) ok)
 
   module _ (b : Lists) (ok : ListsFit (edition_of v) b) where
     table_ok : new_keys (edition_of v) b ≤ b.table_counts.capacity - b.table_counts.count → TableOk (table_after (edition_of v) b)
@@ -158,11 +159,11 @@ module _ (v : RowEdition) where
     core_kept = by_test (leb (new_keys (edition_of v) b) (b.table_counts.capacity - b.table_counts.count)) refl
       where
         by_test : (a : Bool) → leb (new_keys (edition_of v) b) (b.table_counts.capacity - b.table_counts.count) ≡ a
-            → FlushKept (cond a (flushed (edition_of v) b) (flushing (Refused 22) b.table b.staged b.deleted))
+            → FlushKept (cond a (flushed (edition_of v) b) (flushing (Err 22) b.table b.staged b.deleted))
         by_test true e = flushed_kept (leb-true _ _ e)
         by_test false e = kept_refused 22 b.table b.staged b.deleted
 
   -- an accepted flush keeps what 25 tests
-  pub flush_keeps : (b : Lists) → lists_ok (edition_of v) b ≡ true → (t c d : ListCounts) → (flush_core (edition_of v) b).answer ≡ Done t c d
+  pub flush_keeps : (b : Lists) → lists_ok (edition_of v) b ≡ true → (t c d : ListCounts) → (flush_core (edition_of v) b).answer ≡ Ok (t, c, d)
       → lists_ok (edition_of v) (lists c (flush_core (edition_of v) b).staged t (flush_core (edition_of v) b).table d (flush_core (edition_of v) b).deleted) ≡ true
   flush_keeps b e = core_kept b (lists_fit (edition_of v) b e)

@@ -13,7 +13,6 @@ ghost use Rattle.flush_table.specs.Internal.{is_new};
 ghost use Rattle.flush_core.specs.Internal.{FlushReady, RoomReady};
 
 use index_types::{Flushed, ListCounts, RowEdition};
-use records::Found;
 
 // 1 where a key stands neither among the deleted ones nor in the table, else 0.
 fn count_key(
@@ -35,8 +34,8 @@ fn count_key(
     let size = buffer_core::record_size(edition);
     let found = record_hints::find_hinted(table, size, table_count, key, hints);
     match found {
-        Found::At(_) => 0,
-        Found::Nothing => 1,
+        Some(_) => 0,
+        None => 1,
     }
 }
 
@@ -58,9 +57,8 @@ fn count_new(
 {
     let size = buffer_core::record_size(edition);
     let mut n = 0;
-    let mut i = 0;
-    let mut at = 0;
-    while i < staged_count {
+    for i in 0..staged_count {
+        let at = i * size;
         let end = at + 32;
         n += count_key(
             edition,
@@ -71,8 +69,6 @@ fn count_new(
             &staged[at..end],
             hints,
         );
-        i += 1;
-        at += size;
     }
     n
 }
@@ -138,7 +134,7 @@ fn flush_lists(
     let size = buffer_core::record_size(edition);
     record_changes::clear_list(staged, size, staged_counts.capacity);
     record_changes::clear_list(deleted, 32, deleted_counts.capacity);
-    Flushed::Done(
+    Ok((
         ListCounts {
             count: left,
             capacity: table_counts.capacity,
@@ -151,7 +147,7 @@ fn flush_lists(
             count: 0,
             capacity: deleted_counts.capacity,
         },
-    )
+    ))
 }
 
 // Refusal 22, or the flush.
@@ -190,5 +186,5 @@ pub fn flush(
             hints,
         );
     }
-    Flushed::Refused(refusal::TABLE_FULL)
+    Err(refusal::TABLE_FULL)
 }

@@ -1,15 +1,15 @@
 -- Laws of the table of a flush: the turns of its loops, and the room that the new keys need.
-use Prim.Native.Nat.{ℕ, suc, ◌+◌, ◌*◌, ◌-◌, ◌≤◌, ◌<◌}
-use mathlib.Core.Path.{◌≡◌, refl, sym, ap, subst}
+use Prim.Native.Nat.{ℕ, zero, suc, ◌+◌, ◌*◌, ◌-◌, ◌≤◌, ◌<◌}
+use mathlib.Core.Path.{◌≡◌, refl, sym, ap, ◌∙◌, subst}
 use mathlib.Core.Bool.{Bool, true, false, not, ◌&&◌, cond}
 use mathlib.Core.List.{List, [], ◌∷◌, ◌++◌}
 use native.Mathlib.Omega.{arith}
 use native.Mathlib.Nat.{mul-le-mul_right}
-use lib.ListN.{length, take, drop, length-take, length-drop}
-use lib.Seq.{take-take}
+use lib.ListN.{length, get_or, take, drop, length-take, length-drop}
+use lib.Seq.{take-take, drop-drop, get_or-take}
+use Rattle.std.specs.Simd.{first_chunks}
 use Rattle.stores.specs.Equal.{same_bytes}
-use Rattle.records.specs.declared.Found.{Found}
-use Rattle.records.specs.declared.Found.TheVariants.{At, Nothing}
+use Rattle.std.specs.Prelude.{Option, Some, None}
 use Rattle.index_types.specs.declared.ListCounts.{ListCounts}
 use Rattle.records.specs.Records.{records, keys, stored_row, record_of}
 use Rattle.records.specs.Find.{find_from, find_key, is_found, distinct}
@@ -28,6 +28,16 @@ use Rattle.entries.specs.Tally.{one_if}
 use Rattle.buffer_core.proofs.SizeLaws.{sizes, slot_in}
 use Rattle.flush_table.specs.Internal.{is_new, put_unless_deleted}
 
+-- ---- a list of keys in parts of 32 bytes
+
+part_at : (k i : ℕ) (l : List ℕ) → i < k → get_or (first_chunks 32 k l) i [] ≡ take 32 (drop (i * 32) l)
+part_at zero i l h = absurd (omega arith)
+part_at (suc k) zero l h = refl
+part_at (suc k) (suc i) l h = part_at k i (drop 32 l) (omega arith) ∙ ap (take 32) (drop-drop (i * 32) 32 l ∙ ap (λ (m : ℕ). drop m l) (omega arith))
+
+pub key_at : (parts : List (List ℕ)) (k m i : ℕ) (l : List ℕ) → parts ≡ first_chunks 32 k l → m ≤ k → i < m → get_or (take m parts) i [] ≡ take 32 (drop (i * 32) l)
+key_at parts k m i l e h q = get_or-take m parts i [] q ∙ ap (λ (p : List (List ℕ)). get_or p i []) e ∙ part_at k i l (omega arith)
+
 -- ---- the keys that are still new
 
 -- they fall as records are put
@@ -36,9 +46,9 @@ unfolding find_from
 found_more k key i [] h = absurd (clash h refl)
 found_more k key i (x ∷ xs) h = by_test (same_bytes x k) h (found_more k key (suc i) xs)
   where
-    by_test : (t : Bool) → is_found (cond t (At i) (find_from k (suc i) xs)) ≡ true
+    by_test : (t : Bool) → is_found (cond t (Some i) (find_from k (suc i) xs)) ≡ true
         → (is_found (find_from k (suc i) xs) ≡ true → is_found (find_from k (suc i) (xs ++ key ∷ [])) ≡ true)
-        → is_found (cond t (At i) (find_from k (suc i) (xs ++ key ∷ []))) ≡ true
+        → is_found (cond t (Some i) (find_from k (suc i) (xs ++ key ∷ []))) ≡ true
     by_test true h r = refl
     by_test false h r = r h
 
@@ -103,9 +113,9 @@ module _ (v : RowEdition) where
   unfolding remove_key
   remove_less k t = by_case (find_key k (keys size t.counts.count t.bytes))
     where
-      by_case : (f : Found) → (count_without f t.counts).count ≤ t.counts.count
-      by_case (At i) = omega arith
-      by_case Nothing = omega arith
+      by_case : (f : Option ℕ) → (count_without f t.counts).count ≤ t.counts.count
+      by_case (Some i) = omega arith
+      by_case None = omega arith
 
   -- ---- a staged record's turn
 
@@ -130,12 +140,12 @@ module _ (v : RowEdition) where
       → (n * size ≤ length l) × (slot (find_key key (keys size n l)) n * size + size ≤ length l)
   slot_new n key l deleted d h = by_case (find_key key (keys size n l)) refl (rw d at h)
     where
-      by_case : (f : Found) → f ≡ find_key key (keys size n l) → (n + one_if (not (is_found f))) * size ≤ length l
+      by_case : (f : Option ℕ) → f ≡ find_key key (keys size n l) → (n + one_if (not (is_found f))) * size ≤ length l
           → (n * size ≤ length l) × (slot f n * size + size ≤ length l)
-      by_case (At i) e h =
+      by_case (Some i) e h =
           let m : n * size ≤ length l = omega (arith, mul-le-mul_right {m = n} {n = n + 0} size (omega arith)) in
-          (m, omega (arith, below_mul size n i (found_in key size n l i (At i) e refl)))
-      by_case Nothing e h = (omega (arith, below_mul size (n + 1) n (omega arith)), omega (arith, below_mul size (n + 1) n (omega arith)))
+          (m, omega (arith, below_mul size n i (found_in key size n l i (Some i) e refl)))
+      by_case None e h = (omega (arith, below_mul size (n + 1) n (omega arith)), omega (arith, below_mul size (n + 1) n (omega arith)))
 
   module _ (n at : ℕ) (staged l : List ℕ) (deleted : List (List ℕ)) (c : ListCounts) (in_staged : at + size ≤ length staged)
       (room : (n + one_if (is_new (keys size n l) deleted (take 32 (drop at staged)))) * size ≤ length l) where
@@ -217,13 +227,13 @@ module _ (v : RowEdition) where
   unfolding remove_key
   remove_apart k n n' l l' c e h apart = by_case (find_key k (keys size n l)) refl e
     where
-      by_case : (f : Found) → f ≡ find_key k (keys size n l)
+      by_case : (f : Option ℕ) → f ≡ find_key k (keys size n l)
           → listed (with_count n' c) l' ≡ listed (count_without f (with_count n c)) (bytes_without size f (with_count n c) l)
           → distinct (keys size n' l') ≡ true
-      by_case (At i) g e =
+      by_case (Some i) g e =
           subst (λ (t : Listed). distinct (keys size t.counts.count t.bytes) ≡ true) (sym e)
-          (distinct_after_remove size n i l (found_in k size n l i (At i) g refl) h apart)
-      by_case Nothing g e = subst (λ (t : Listed). distinct (keys size t.counts.count t.bytes) ≡ true) (sym e) apart
+          (distinct_after_remove size n i l (found_in k size n l i (Some i) g refl) h apart)
+      by_case None g e = subst (λ (t : Listed). distinct (keys size t.counts.count t.bytes) ≡ true) (sym e) apart
 
   pub remove_within : (k : List ℕ) (n n' : ℕ) (l l' : List ℕ) (c : ListCounts) (len : ℕ) → listed (with_count n' c) l' ≡ remove_key (edition_of v) k (listed (with_count n c) l)
       → n * size ≤ len → n' * size ≤ len

@@ -11,7 +11,6 @@ ghost use Rattle.entries.specs.Tally.{one_if};
 ghost use Rattle.flush_table.specs.Internal.{is_new, put_unless_deleted};
 
 use index_types::{ListCounts, RowEdition};
-use records::Found;
 
 // Whether a key stands in a list.
 pub fn holds_key(list: &[u8], size: usize, count: usize, key: &[u8]) -> bool
@@ -20,8 +19,8 @@ pub fn holds_key(list: &[u8], size: usize, count: usize, key: &[u8]) -> bool
 {
     let found = records::find(list, size, count, key);
     match found {
-        Found::At(_) => true,
-        Found::Nothing => false,
+        Some(_) => true,
+        None => false,
     }
 }
 
@@ -72,9 +71,7 @@ fn put_undeleted(
 {
     let size = buffer_core::record_size(edition);
     let mut n = counts.count;
-    let mut i = 0;
-    let mut at = 0;
-    while i < staged_count {
+    for i in 0..staged_count {
         let now_counts = ListCounts {
             count: n,
             capacity: counts.capacity,
@@ -84,13 +81,11 @@ fn put_undeleted(
             table,
             now_counts,
             staged,
-            at,
+            i * size,
             deleted,
             deleted_count,
             hints,
         );
-        i += 1;
-        at += size;
     }
     n
 }
@@ -111,11 +106,11 @@ fn remove_key(
     let count = counts.count;
     let found = record_hints::find_hinted(list, size, count, key, hints);
     match found {
-        Found::At(i) => {
+        Some(i) => {
             hinted_changes::remove(list, size, count, i, hints);
             count - 1
         }
-        Found::Nothing => count,
+        None => count,
     }
 }
 
@@ -132,18 +127,14 @@ fn remove_deleted(
         × (distinct (keys (record_size edition) counts.count table.old) ≡ true) }
     ensures { listed (with_count result counts) table.new ≡ remove_keys (edition_of edition) (keys 32 deleted_count deleted.now) (listed counts table.old) }
 {
+    let (keys, _) = deleted.as_chunks::<32>();
     let mut n = counts.count;
-    let mut i = 0;
-    let mut at = 0;
-    while i < deleted_count {
-        let end = at + 32;
+    for key in &keys[..deleted_count] {
         let now_counts = ListCounts {
             count: n,
             capacity: counts.capacity,
         };
-        n = remove_key(edition, table, now_counts, &deleted[at..end], hints);
-        i += 1;
-        at = end;
+        n = remove_key(edition, table, now_counts, key, hints);
     }
     n
 }

@@ -16,8 +16,8 @@ use Rattle.call_steps.specs.State.{State, state, Ready}
 use Rattle.call_steps.specs.Steps.{spill_counts, lists_with}
 use Rattle.load_core.specs.declared.Source.{Source}
 use Rattle.load_core.specs.Draw.{source}
-use Rattle.index_types.specs.declared.TriedForks.{TriedForks}
-use Rattle.index_types.specs.declared.TriedForks.TheVariants.{Figures, Refused}
+use Rattle.std.specs.Prelude.{Ok, Err}
+use Rattle.index_types.specs.Answers.{TriedForks}
 use Rattle.trial_core.specs.Trial.{neither, Stood, Trial, Going, on, ended, steps_to, zero_state, figures, run_of, tried}
 use Rattle.trial_laws.proofs.Enough.{zero_ready}
 use Rattle.standing_calls.specs.declared.TrialState.{TrialState}
@@ -32,15 +32,15 @@ use Rattle.fork_trials.specs.Internal.{start_run, told, Zeroed, Sized, RunsSized
 -- ---- the figures
 module _ (h : Held) (l : List Stood) (g : Source) (b : ℕ) where
   abbrev said : Held → TriedForks
-  said k = cond (eqb k.end 0) (Figures k.staged k.deleted) (Refused k.end)
+  said k = cond (eqb k.end 0) (Ok (k.staged, k.deleted)) (Err k.end)
 
   figures_said : (G : Going) → Goes h l g b G → said h ≡ figures G
   figures_said (on t) k =
-      ap (λ (w : Bool). cond w (Figures h.staged h.deleted) (Refused h.end)) (eq-eqb h.end 0 k.0)
-      ∙ ap (λ (u : Trial). Figures u.staged u.deleted) (sym k.2)
+      ap (λ (w : Bool). cond w (Ok (h.staged, h.deleted)) (Err h.end)) (eq-eqb h.end 0 k.0)
+      ∙ ap (λ (u : Trial). Ok (u.staged, u.deleted)) (sym k.2)
   figures_said (ended j) k =
-      ap (λ (w : Bool). cond w (Figures h.staged h.deleted) (Refused h.end)) (ne_eqb h.end 0 (λ e. k.1 (sym k.0 ∙ e)))
-      ∙ ap Refused k.0
+      ap (λ (w : Bool). cond w (Ok (h.staged, h.deleted)) (Err h.end)) (ne_eqb h.end 0 (λ e. k.1 (sym k.0 ∙ e)))
+      ∙ ap Err k.0
 
 -- ---- the run over zeros
 module _ (x T S D room : ℕ) (zs : List ℤ) (table staged deleted : List ℕ) (standing : List ℤ) (Z : Zeroed T S D room zs table staged deleted standing) where
@@ -67,7 +67,7 @@ module _ (x T S D room : ℕ) (zs : List ℤ) (table staged deleted : List ℕ) 
 
   pub run_told : (r : TrialRun) → r ≡ start_run x T S D → (g' : Source) (b' : ℕ) (h' : Held) (l' : List ℤ)
       → RunBy room zs r.source r.blocks (held r.state (replicate 4128 0) (replicate 1153 (pos 0)) (replicate 3 0) (replicate 2 (pos 0)) staged table deleted) standing g' b' h' l'
-      → cond (eqb h'.end 0) (Figures h'.staged h'.deleted) (Refused h'.end) ≡ figures (run_of x zs T S D room)
+      → cond (eqb h'.end 0) (Ok (h'.staged, h'.deleted)) (Err h'.end) ≡ figures (run_of x zs T S D room)
   unfolding standing_of
   run_told r q g' b' h' l' R =
       figures_said h' (standing_of h'.stood l') g' b' (run_of x zs T S D room)
@@ -121,10 +121,10 @@ module _ (x T S D room : ℕ) (zs : List ℤ) (table staged deleted : List ℕ) 
     same_25 : {A : Type 0} (z : A) (n : ℕ) (l : List A) → l ≡ cond ok (cond (eqb x 0) l (cleared z n l)) l
     same_25 z n l = λ i. cond (sym p i) (cond (eqb x 0) l (cleared z n l)) l
 
-    tries_25 : Tries x T S D room zs table staged deleted standing (Refused 25) table staged deleted standing
+    tries_25 : Tries x T S D room zs table staged deleted standing (Err 25) table staged deleted standing
     tries_25 =
         record {
-          answer = λ i. cond (sym p i) (tried x zs T S D room) (Refused 25);
+          answer = λ i. cond (sym p i) (tried x zs T S D room) (Err 25);
           table = same_25 0 (record_bytes T) table;
           staged = same_25 0 (record_bytes S) staged;
           deleted = same_25 0 (key_bytes D) deleted;
@@ -135,12 +135,12 @@ module _ (x T S D room : ℕ) (zs : List ℤ) (table staged deleted : List ℕ) 
     same_38 : {A : Type 0} (z : A) (n : ℕ) (l : List A) → l ≡ cond ok (cond (eqb x 0) l (cleared z n l)) l
     same_38 z n l = let v = eq-eqb x 0 q in λ i. cond (sym p i) (cond (sym v i) l (cleared z n l)) l
 
-    tries_38 : Tries x T S D room zs table staged deleted standing (Refused 38) table staged deleted standing
+    tries_38 : Tries x T S D room zs table staged deleted standing (Err 38) table staged deleted standing
     unfolding tried
     tries_38 =
         let v = eq-eqb x 0 q in
         record {
-          answer = λ i. cond (sym p i) (cond (sym v i) (Refused 38) (figures (run_of x zs T S D room))) (Refused 25);
+          answer = λ i. cond (sym p i) (cond (sym v i) (Err 38) (figures (run_of x zs T S D room))) (Err 25);
           table = same_38 0 (record_bytes T) table;
           staged = same_38 0 (record_bytes S) staged;
           deleted = same_38 0 (key_bytes D) deleted;
@@ -156,7 +156,7 @@ module _ (x T S D room : ℕ) (zs : List ℤ) (table staged deleted : List ℕ) 
     unfolding tried
     tries_run r t s d k R =
         record {
-          answer = R.answer ∙ (let v = ne_eqb x 0 q in λ i. cond (sym p i) (cond (sym v i) (Refused 38) (figures (run_of x zs T S D room))) (Refused 25));
+          answer = R.answer ∙ (let v = ne_eqb x 0 q in λ i. cond (sym p i) (cond (sym v i) (Err 38) (figures (run_of x zs T S D room))) (Err 25));
           table = zeroed_by 0 (record_bytes T) table t R.table;
           staged = zeroed_by 0 (record_bytes S) staged s R.staged;
           deleted = zeroed_by 0 (key_bytes D) deleted d R.deleted;
@@ -164,10 +164,10 @@ module _ (x T S D room : ℕ) (zs : List ℤ) (table staged deleted : List ℕ) 
         }
 
   -- turned away
-  pub tries_refused : (k : ℕ) → k ≡ refused_by x ok → (k ≡ 0 → ⊥) → Tries x T S D room zs table staged deleted standing (Refused k) table staged deleted standing
-  tries_refused k e n = subst (λ (j : ℕ). Tries x T S D room zs table staged deleted standing (Refused j) table staged deleted standing) (sym e) (by ok (eqb x 0) refl refl (λ z. n (e ∙ z)))
+  pub tries_refused : (k : ℕ) → k ≡ refused_by x ok → (k ≡ 0 → ⊥) → Tries x T S D room zs table staged deleted standing (Err k) table staged deleted standing
+  tries_refused k e n = subst (λ (j : ℕ). Tries x T S D room zs table staged deleted standing (Err j) table staged deleted standing) (sym e) (by ok (eqb x 0) refl refl (λ z. n (e ∙ z)))
     where
-      by : (w v : Bool) → ok ≡ w → eqb x 0 ≡ v → (code_by w v ≡ 0 → ⊥) → Tries x T S D room zs table staged deleted standing (Refused (code_by w v)) table staged deleted standing
+      by : (w v : Bool) → ok ≡ w → eqb x 0 ≡ v → (code_by w v ≡ 0 → ⊥) → Tries x T S D room zs table staged deleted standing (Err (code_by w v)) table staged deleted standing
       by true true p q n = tries_38 p (eqb-true x 0 q)
       by true false p q n = absurd (n refl)
       by false v p q n = tries_25 p
@@ -207,11 +207,11 @@ module _ (x T S D room : ℕ) (zs : List ℤ) (table staged deleted : List ℕ) 
       }
 
 -- ---- what a trial came to
-pub told_figures : (t : TrialState) → t.end ≡ 0 → Figures t.staged t.deleted ≡ told t
-told_figures t e = ap (λ (w : Bool). cond w (Figures t.staged t.deleted) (Refused t.end)) (sym (eq-eqb t.end 0 e))
+pub told_figures : (t : TrialState) → t.end ≡ 0 → Ok (t.staged, t.deleted) ≡ told t
+told_figures t e = ap (λ (w : Bool). cond w (Ok (t.staged, t.deleted)) (Err t.end)) (sym (eq-eqb t.end 0 e))
 
-pub told_refused : (t : TrialState) → (t.end ≡ 0 → ⊥) → Refused t.end ≡ told t
-told_refused t e = ap (λ (w : Bool). cond w (Figures t.staged t.deleted) (Refused t.end)) (sym (ne_eqb t.end 0 e))
+pub told_refused : (t : TrialState) → (t.end ≡ 0 → ⊥) → Err t.end ≡ told t
+told_refused t e = ap (λ (w : Bool). cond w (Ok (t.staged, t.deleted)) (Err t.end)) (sym (ne_eqb t.end 0 e))
 
 -- ---- zeros before the run and after it
 module _ (T S D room : ℕ) (zs : List ℤ) (t s d : List ℕ) (k : List ℤ) (Q : Sized T S D room zs t s d k) where

@@ -1,9 +1,8 @@
 -- What the steps of a trial over borrowed buffers ask and give.
-use Rattle.std.specs.Prelude.{ℕ, ◌≤◌, ◌≡◌, cond, List, eqb, ℤ, pos, length, replicate}
+use Rattle.std.specs.Prelude.{ℕ, ◌≤◌, ◌≡◌, cond, List, eqb, ℤ, pos, length, replicate, Ok, Err}
 use Rattle.load_core.specs.Draw.{source}
 use Rattle.call_steps.specs.Steps.{spill_counts}
-use Rattle.index_types.specs.declared.TriedForks.{TriedForks}
-use Rattle.index_types.specs.declared.TriedForks.TheVariants.{Figures, Refused}
+use Rattle.index_types.specs.Answers.{TriedForks}
 use Rattle.trial_core.specs.Trial.{step_limit, figures, run_of}
 use Rattle.standing_calls.specs.declared.Side.TheVariants.{Neither}
 use Rattle.standing_calls.specs.declared.TrialState.{TrialState}
@@ -27,7 +26,7 @@ start_run x T S D =
     }
 
 abbrev pub told : TrialState → TriedForks
-told t = cond (eqb t.end 0) (Figures t.staged t.deleted) (Refused t.end)
+told t = cond (eqb t.end 0) (Ok (t.staged, t.deleted)) (Err t.end)
 
 -- ---- the working buffers once they are zero
 pub record Zeroed (T S D room : ℕ) (zs : List ℤ) (t s d : List ℕ) (k : List ℤ) : Type 0 where

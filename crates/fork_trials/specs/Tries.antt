@@ -1,8 +1,7 @@
 -- A trial of staging sizes with made-up forks (document 02, U12), with 25 and over borrowed buffers.
-use Rattle.std.specs.Prelude.{ℕ, ◌≡◌, Bool, cond, List, eqb, ℤ, pos, length, replicate}
+use Rattle.std.specs.Prelude.{ℕ, ◌≡◌, Bool, cond, List, eqb, ℤ, pos, length, replicate, Err}
 use Rattle.stores.specs.Stores.{write}
-use Rattle.index_types.specs.declared.TriedForks.{TriedForks}
-use Rattle.index_types.specs.declared.TriedForks.TheVariants.{Refused}
+use Rattle.index_types.specs.Answers.{TriedForks}
 use Rattle.trial_core.specs.Trial.{tried}
 use Rattle.trial_buffers.specs.Sizes.{record_bytes, key_bytes, stood_numbers, sizes_ok}
 
@@ -16,7 +15,7 @@ module _ (x T S D room : ℕ) (zs : List ℤ) (t s d : List ℕ) (k : List ℤ) 
   passes = sizes_ok T S D room (length zs) (length t) (length s) (length d) (length k)
 
   abbrev pub try_of : TriedForks
-  try_of = cond passes (tried x zs T S D room) (Refused 25)
+  try_of = cond passes (tried x zs T S D room) (Err 25)
 
   abbrev pub after : {A : Type 0} → A → ℕ → List A → List A
   after z n l = cond passes (cond (eqb x 0) l (cleared z n l)) l

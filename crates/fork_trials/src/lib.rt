@@ -60,9 +60,9 @@ fn told(t: TrialState) -> TriedForks
 {
     let end = t.end;
     if end == 0 {
-        return TriedForks::Figures(t.staged, t.deleted);
+        return Ok((t.staged, t.deleted));
     }
-    TriedForks::Refused(end)
+    Err(end)
 }
 
 // The run, over working buffers that are zero.
@@ -185,5 +185,5 @@ pub fn try_forks(
             &mut standing[..n],
         );
     }
-    TriedForks::Refused(code)
+    Err(code)
 }

@@ -23,7 +23,7 @@ use Rattle.records.specs.Checks.{RecordsOk, records_ok}
 use Rattle.records.proofs.CheckLaws.{and_true, records_ok_after_put, records_ok_test}
 use Rattle.segment_id.specs.declared.Kind.{Kind}
 use Rattle.index_types.specs.declared.HeadCounts.{HeadCounts}
-use Rattle.index_types.specs.declared.Appended.TheVariants.{Done, Refused}
+use Rattle.std.specs.Prelude.{Ok, Err}
 use Rattle.buffer_core.specs.Edition.{Edition}
 use Rattle.buffer_core.specs.Spills.{head_ok}
 use Rattle.buffer_core.specs.Append.{Appending, appending, counts_of, one_number, counts_with, bytes_with, spilled, spill_of, append_core, append_ok, append_of}
@@ -91,7 +91,7 @@ module _ (E : Edition) (ids : Parent → List ℕ) (L : EditionLaws E ids) (caps
     end o = result_of (after_append b ch o.answer o.head o.staged)
 
     abbrev no_append : ℕ → Appending
-    no_append k = appending (Refused k) p.places l
+    no_append k = appending (Err k) p.places l
 
     hf : HeadFits p
     hf = head_fits p (I.heads_in ch)
@@ -108,7 +108,7 @@ module _ (E : Edition) (ids : Parent → List ℕ) (L : EditionLaws E ids) (caps
 
     -- at the end of the head
     abbrev longer : ℤ → Appending
-    longer n = appending (Done (counts_of (len + 1) p.head.spills) c) (set p.places len n) l
+    longer n = appending (Ok (counts_of (len + 1) p.head.spills, c)) (set p.places len n) l
 
     longer_same : (n : ℤ) → len < 512 → map_res abs (end (longer n)) ≡ done (St.with_head W (abs b) ch ((abs b).heads ch ++ n ∷ []))
     longer_same n h =

@@ -17,10 +17,9 @@ use Rattle.signed.specs.Sign.{wanted}
 use Rattle.entries.specs.Flip.{position, flipped_at}
 use Rattle.entries.specs.declared.Position.{Position}
 use Rattle.entries.specs.declared.Position.TheVariants.{At, Seen, Absent}
-use Rattle.buffer_core.specs.declared.Lead.{Lead}
-use Rattle.buffer_core.specs.declared.Lead.TheVariants.{Leads, NoLead}
-use Rattle.buffer_core.specs.declared.Low.{Low}
-use Rattle.buffer_core.specs.declared.Low.TheVariants.{Upto, Broken}
+use Rattle.std.specs.Prelude.{Ok, Err}
+use Rattle.buffer_core.specs.Answers.{Lead}
+use Rattle.buffer_core.specs.Answers.{Low}
 use Rattle.buffer_core.specs.declared.Look.{Look}
 use Rattle.buffer_core.specs.declared.Look.TheVariants.{Take, Stop, Next, Fail}
 use Rattle.buffer_core.specs.declared.Walk.{Walk}
@@ -220,12 +219,12 @@ order_same lo (z ∷ zs) h =
 
 -- ---- the halving
 abbrev pub lead_res : Res (List ℤ) → Lead
-lead_res (done l) = Leads (first_abs l)
-lead_res (refused c) = NoLead c
+lead_res (done l) = Ok (first_abs l)
+lead_res (refused c) = Err c
 
 abbrev pub low_of : Res ℕ → Low
-low_of (done n) = Upto n
-low_of (refused c) = Broken c
+low_of (done n) = Ok n
+low_of (refused c) = Err c
 
 ite_lt : {A : Type 0} (m n : ℕ) (w : Dec (m < n)) (a b : A) → ite w a b ≡ cond (ltb m n) a b
 unfolding ite
@@ -251,7 +250,7 @@ module _ (f : ℕ → Lead) (rd : ℕ → Res (List ℤ)) (t most : ℕ) (h : (n
       ∙ low_if (leb (first_abs l) t) (St.halve rd t k (suc (half_way lo hi)) hi) (St.halve rd t k lo (half_way lo hi))
       ∙ ap low_of (sym (ite_le (first_abs l) t (dec_le (first_abs l) t) (St.halve rd t k (suc (half_way lo hi)) hi) (St.halve rd t k lo (half_way lo hi))))
 
-  search_test : (u : Bool) (lo : ℕ) (a : Low) (x : Res ℕ) → (u ≡ true → a ≡ low_of x) → cond u a (Upto lo) ≡ low_of (cond u x (done lo))
+  search_test : (u : Bool) (lo : ℕ) (a : Low) (x : Res ℕ) → (u ≡ true → a ≡ low_of x) → cond u a (Ok lo) ≡ low_of (cond u x (done lo))
   search_test true lo a x e = e refl
   search_test false lo a x e = refl
 

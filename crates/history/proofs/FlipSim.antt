@@ -18,8 +18,7 @@ use Rattle.entries.specs.Order.{order_ok}
 use Rattle.entries.specs.Flip.{position, flipped_at}
 use Rattle.entries.specs.declared.Position.{Position}
 use Rattle.entries.specs.declared.Position.TheVariants.{At, Seen, Absent}
-use Rattle.records.specs.declared.Found.{Found}
-use Rattle.records.specs.declared.Found.TheVariants as found
+use Rattle.std.specs.Prelude.{Option, Some, None}
 use Rattle.records.specs.declared.Place.TheVariants.{Staged, Table, Missing}
 use Rattle.index_types.specs.declared.ListCounts.{ListCounts}
 use Rattle.records.specs.Records.{records, keys, stored_row, record_of}
@@ -33,7 +32,7 @@ use Rattle.segment_id.specs.declared.Kind.TheVariants.{Box}
 use Rattle.index_types.specs.declared.HeadCounts.{HeadCounts}
 use Rattle.buffer_core.specs.declared.Direction.{Direction}
 use Rattle.buffer_core.specs.declared.Direction.TheVariants.{Spend, Unspend}
-use Rattle.buffer_core.specs.declared.Lead.{Lead}
+use Rattle.buffer_core.specs.Answers.{Lead}
 use Rattle.buffer_core.specs.declared.Look.{Look}
 use Rattle.buffer_core.specs.declared.Walk.{Walk}
 use Rattle.buffer_core.specs.declared.Walk.TheVariants.{Hit, Ended, Failed}
@@ -174,13 +173,13 @@ module _ (E : Edition) (ids : Parent → List ℕ) (L : EditionLaws E ids) (caps
       abbrev key : List ℕ
       key = key_at E Box w n
 
-      abbrev f₁ : Found
+      abbrev f₁ : Option ℕ
       f₁ = find_key key (keys E.size c.count x.staged)
 
-      abbrev f₂ : Found
+      abbrev f₂ : Option ℕ
       f₂ = find_key key (keys E.size x.table_counts.count x.table)
 
-      put_does : (f : Found) → f ≡ f₁ → (row : List ℕ) → length row ≤ E.limit → full_for E.size c key x.staged ≡ false
+      put_does : (f : Option ℕ) → f ≡ f₁ → (row : List ℕ) → length row ≤ E.limit → full_for E.size c key x.staged ≡ false
           → Does (stage (slot f c.count) (count_after f c.count) key row) (done (St.with_staging W (abs b) (put (abs b).staging key row)))
       unfolding put_record
       put_does f e row m g =
@@ -201,7 +200,7 @@ module _ (E : Edition) (ids : Parent → List ℕ) (L : EditionLaws E ids) (caps
                 rw (← z) (inv_part v (with_count (count_after f c.count) c) l (I.heads_in (boxes p)) refl ok refl);
           }
 
-      full_val : (f : Found) → f ≡ f₁ → full_for E.size c key x.staged ≡ not (is_found f) && leb cap c.count
+      full_val : (f : Option ℕ) → f ≡ f₁ → full_for E.size c key x.staged ≡ not (is_found f) && leb cap c.count
       unfolding full_for
       full_val f e = rw e
 
@@ -209,22 +208,22 @@ module _ (E : Edition) (ids : Parent → List ℕ) (L : EditionLaws E ids) (caps
       stage_is r = full_is E.size c caps.staged key x.staged (refused 16) (done (put (abs b).staging key r)) I.staged_at
 
       -- the row's bytes, by where its key was found
-      abbrev row_by : Found → Found → List ℕ
-      row_by (found.At i) g = row_at E.size i x.staged
-      row_by found.Nothing (found.At j) = row_at E.size j x.table
-      row_by found.Nothing found.Nothing = []
+      abbrev row_by : Option ℕ → Option ℕ → List ℕ
+      row_by (Some i) g = row_at E.size i x.staged
+      row_by None (Some j) = row_at E.size j x.table
+      row_by None None = []
 
-      read_by : (f g : Found) (l : List ℤ) → read_placed E Box w n (place_of f g) ≡ good l → E.decode Box (ids p) (pos n) (row_by f g) ≡ good l
-      read_by (found.At i) g l h = h
-      read_by found.Nothing (found.At j) l h = h
-      read_by found.Nothing found.Nothing l h = let z : ◌≡◌ {A = ℕ} 0 1 = cc in absurd (omega arith)
+      read_by : (f g : Option ℕ) (l : List ℤ) → read_placed E Box w n (place_of f g) ≡ good l → E.decode Box (ids p) (pos n) (row_by f g) ≡ good l
+      read_by (Some i) g l h = h
+      read_by None (Some j) l h = h
+      read_by None None l h = let z : ◌≡◌ {A = ℕ} 0 1 = cc in absurd (omega arith)
 
-      redo_found : (f g : Found) → f ≡ f₁ → g ≡ f₂ → (l new : List ℤ) → read_placed E Box w n (place_of f g) ≡ good l
+      redo_found : (f g : Option ℕ) → f ≡ f₁ → g ≡ f₂ → (l new : List ℤ) → read_placed E Box w n (place_of f g) ≡ good l
           → St.found_redone W (boxes p) n (or_else (row_opt f (records E.size c.count x.staged)) (row_opt g (records E.size x.table_counts.count x.table))) new ≡ E.with_boxes (ids p) (pos n) (row_by f g) new
-      redo_found (found.At i) g e d l new h = ap (λ (r : List ℕ). E.with_boxes (ids p) (pos n) (stored_row r) new) (record_at E.size c.count i x.staged (found_in key E.size c.count x.staged i (found.At i) e refl))
-      redo_found found.Nothing (found.At j) e d l new h =
-          ap (λ (r : List ℕ). E.with_boxes (ids p) (pos n) (stored_row r) new) (record_at E.size x.table_counts.count j x.table (found_in key E.size x.table_counts.count x.table j (found.At j) d refl))
-      redo_found found.Nothing found.Nothing e d l new h = let z : ◌≡◌ {A = ℕ} 0 1 = cc in absurd (omega arith)
+      redo_found (Some i) g e d l new h = ap (λ (r : List ℕ). E.with_boxes (ids p) (pos n) (stored_row r) new) (record_at E.size c.count i x.staged (found_in key E.size c.count x.staged i (Some i) e refl))
+      redo_found None (Some j) e d l new h =
+          ap (λ (r : List ℕ). E.with_boxes (ids p) (pos n) (stored_row r) new) (record_at E.size x.table_counts.count j x.table (found_in key E.size x.table_counts.count x.table j (Some j) d refl))
+      redo_found None None e d l new h = let z : ◌≡◌ {A = ℕ} 0 1 = cc in absurd (omega arith)
 
       redo_same : (l new : List ℤ) → read_spill n ≡ good l → St.redone W (abs b) (boxes p) n new ≡ E.with_boxes (ids p) (pos n) (row_by f₁ f₂) new
       unfolding spill_read place_at
@@ -239,28 +238,28 @@ module _ (E : Edition) (ids : Parent → List ℕ) (L : EditionLaws E ids) (caps
         abbrev new : List ℤ
         new = flipped_at (At i) l
 
-        by_room : found.Nothing ≡ f₁ → (row : List ℕ) → length row ≤ E.limit → (u : Bool) → ltb c.count cap ≡ u
+        by_room : None ≡ f₁ → (row : List ℕ) → length row ≤ E.limit → (u : Bool) → ltb c.count cap ≡ u
             → Does (cond u (stage c.count (c.count + 1) key row) (refuse 16)) (then_do (cond (leb cap c.count) (refused 16) (done (put (abs b).staging key row))) finish)
         by_room e row m true h =
             let y = lt-leb cap c.count (ltb-true c.count cap h) in
-            rw y (put_does found.Nothing e row m (full_val found.Nothing e ∙ y))
+            rw y (put_does None e row m (full_val None e ∙ y))
         by_room e row m false h = rw (le-leb cap c.count (ltb-false c.count cap h)) (no 16)
 
         flipped_row : (row : List ℕ) → E.decode Box (ids p) (pos n) row ≡ good l → row_flipped E w n row i ≡ E.with_boxes (ids p) (pos n) row new
         unfolding row_flipped
         flipped_row row h = ap (λ (r : RowRead). E.with_boxes (ids p) (pos n) row (flipped_at (At i) (boxes_in E r))) h
 
-        by_find : (f g : Found) → f ≡ f₁ → g ≡ f₂ → read_placed E Box w n (place_of f g) ≡ good l
+        by_find : (f g : Option ℕ) → f ≡ f₁ → g ≡ f₂ → read_placed E Box w n (place_of f g) ≡ good l
             → Does (stage_from E w cap n i (place_of f g))
             (then_do (cond (not (is_found f) && leb cap c.count) (refused 16) (done (put (abs b).staging key (E.with_boxes (ids p) (pos n) (row_by f g) new)))) finish)
-        by_find (found.At j) g e d h =
+        by_find (Some j) g e d h =
             let row : List ℕ = row_at E.size j x.staged in
-            from (ap (λ (y : List ℕ). stage j c.count key y) (flipped_row row h)) (put_does (found.At j) e (E.with_boxes (ids p) (pos n) row new) (L.redo_length p n row l new low h few little) (full_val (found.At j) e))
-        by_find found.Nothing (found.At k) e d h =
+            from (ap (λ (y : List ℕ). stage j c.count key y) (flipped_row row h)) (put_does (Some j) e (E.with_boxes (ids p) (pos n) row new) (L.redo_length p n row l new low h few little) (full_val (Some j) e))
+        by_find None (Some k) e d h =
             let row : List ℕ = row_at E.size k x.table in
             from (ap (λ (y : List ℕ). cond (ltb c.count cap) (stage c.count (c.count + 1) key y) (refuse 16)) (flipped_row row h))
             (by_room e (E.with_boxes (ids p) (pos n) row new) (L.redo_length p n row l new low h few little) (ltb c.count cap) refl)
-        by_find found.Nothing found.Nothing e d h = let z : ◌≡◌ {A = ℕ} 0 1 = cc in absurd (omega arith)
+        by_find None None e d h = let z : ◌≡◌ {A = ℕ} 0 1 = cc in absurd (omega arith)
 
         stage_does : read_spill n ≡ good l → Does (stage_at E w cap n i) (then_do (St.stage W (abs b) key (St.redone W (abs b) (boxes p) n new)) finish)
         unfolding stage_at spill_read place_at

@@ -11,8 +11,7 @@ use lib.Seq.{length-take-le}
 use lib.Dec.{leb}
 use lib.IntN.{ℤ, nat_abs}
 use borrow.Author.Tests.{leb-true, leb-false, lt-leb}
-use Rattle.records.specs.declared.Found.{Found}
-use Rattle.records.specs.declared.Found.TheVariants.{At, Nothing}
+use Rattle.std.specs.Prelude.{Option, Some, None, Err}
 use Rattle.index_types.specs.declared.ListCounts.{ListCounts}
 use Rattle.records.specs.Records.{records, keys, key_of, stored_row, stored_length, record_of}
 use Rattle.records.specs.Find.{find_key, is_found}
@@ -26,7 +25,6 @@ use Rattle.records.proofs.TurnLaws.{length_records}
 use Rattle.records.proofs.RecordLaws.{record_sized, row_room, record_length, record_key}
 use Rattle.records.proofs.PutLaws.{keys_after_put, slot_room}
 use Rattle.records.proofs.CheckLaws.{and_right, records_ok_after_put, records_ok_after_clear, keys_ok_after_clear, lengths_at}
-use Rattle.index_types.specs.declared.Flushed.TheVariants.{Done, Refused}
 use Rattle.buffer_core.specs.Edition.{Edition}
 use Rattle.buffer_core.specs.Pop.{Lists, lists, lists_ok, count_without, bytes_without}
 use Rattle.buffer_core.specs.Flush.{Flushing, flushing, new_count, Listed, listed, found_in, put_staged, put_undeleted, remove_key, remove_keys, deleted_keys, table_after, flushed, new_keys, flush_core, flush_of}
@@ -90,18 +88,18 @@ new_less key ks dels (k ∷ rest) =
       new_one_less (not (is_found (find_key k dels))) (is_found (find_key k ks)) (is_found (find_key k (put_at (find_key key ks) key ks))) (found_more key k ks),
     )
 
-count_is : (f : Found) (n : ℕ) → count_after f n ≡ n + one_if (not (is_found f))
-count_is (At i) n = omega arith
-count_is Nothing n = refl
+count_is : (f : Option ℕ) (n : ℕ) → count_after f n ≡ n + one_if (not (is_found f))
+count_is (Some i) n = omega arith
+count_is None n = refl
 
 -- a key that is not deleted, with room for it if it is new
 not_full : (size : ℕ) (c : ListCounts) (key l : List ℕ) → c.count ≤ c.capacity → c.count + one_if (not (is_found (find_key key (keys size c.count l)))) ≤ c.capacity → full_for size c key l ≡ false
 unfolding full_for
 not_full size c key l b h = by_case (find_key key (keys size c.count l)) h
   where
-    by_case : (g : Found) → c.count + one_if (not (is_found g)) ≤ c.capacity → not (is_found g) && leb c.capacity c.count ≡ false
-    by_case (At i) h = refl
-    by_case Nothing h = lt-leb c.capacity c.count (omega arith)
+    by_case : (g : Option ℕ) → c.count + one_if (not (is_found g)) ≤ c.capacity → not (is_found g) && leb c.capacity c.count ≡ false
+    by_case (Some i) h = refl
+    by_case None h = lt-leb c.capacity c.count (omega arith)
 
 module _ (E : Edition) (ids : Parent → List ℕ) (L : EditionLaws E ids) (dels : List (List ℕ)) where
   abbrev tabled : Listed → Table
@@ -175,7 +173,7 @@ module _ (E : Edition) (ids : Parent → List ℕ) (L : EditionLaws E ids) (dels
   unfolding remove_keys remove_key
   remove_all_does [] t ok = record { same = refl; keeps = ok; cap = refl }
   remove_all_does (k ∷ ks) t ok =
-      let f : Found = found_in E k t in
+      let f : (Option ℕ) = found_in E k t in
       let u : Listed = listed (count_without f t.counts) (bytes_without E.size f t.counts t.bytes) in
       let a = remove_all_does ks u (remove_keeps E.size E.limit t.counts k t.bytes ok) in
       record {
@@ -233,7 +231,7 @@ module _ (E : Edition) (ids : Parent → List ℕ) (L : EditionLaws E ids) (caps
     end o = result_of (after_flush b o.answer o.table o.staged o.deleted)
 
     abbrev refuse : Flushing
-    refuse = flushing (Refused 22) x.table x.staged x.deleted
+    refuse = flushing (Err 22) x.table x.staged x.deleted
 
     lf : ListsFit E x
     lf = lists_fit E x I.lists_in

@@ -8,8 +8,7 @@ use native.Mathlib.Decide.{dec_le}
 use lib.ListN.{length, length-map}
 use lib.Dec.{leb}
 use borrow.Author.Tests.{leb-true, leb-false, le-leb, lt-leb}
-use Rattle.records.specs.declared.Found.{Found}
-use Rattle.records.specs.declared.Found.TheVariants.{At, Nothing}
+use Rattle.std.specs.Prelude.{Option, Some, None}
 use Rattle.index_types.specs.declared.ListCounts.{ListCounts}
 use Rattle.records.specs.Records.{records, keys, key_of, stored_row, record_of}
 use Rattle.records.specs.Find.{find_key, is_found}
@@ -101,27 +100,27 @@ put_table size limit c key row l k r w f ok =
 
 -- ---- a key's record taken out
 module _ (size limit : ℕ) (c : ListCounts) (key l : List ℕ) (ok : RecordsOk size limit c l) where
-  abbrev at : Found
+  abbrev at : Option ℕ
   at = find_key key (keys size c.count l)
 
   pub remove_table : tab (records size (count_without at c).count (bytes_without size at c l)) ≡ remove (tab (records size c.count l)) key
   remove_table = by_case at refl ∙ sym (remove_is (records size c.count l) key)
     where
-      by_case : (g : Found) → g ≡ at → tab (records size (count_without g c).count (bytes_without size g c l)) ≡ tab (remove_found g (records size c.count l))
-      by_case (At i) e = ap tab (records_after_remove size c.count i l (found_in key size c.count l i (At i) e refl) ok.bounds.within)
-      by_case Nothing e = refl
+      by_case : (g : Option ℕ) → g ≡ at → tab (records size (count_without g c).count (bytes_without size g c l)) ≡ tab (remove_found g (records size c.count l))
+      by_case (Some i) e = ap tab (records_after_remove size c.count i l (found_in key size c.count l i (Some i) e refl) ok.bounds.within)
+      by_case None e = refl
 
   pub remove_keeps : RecordsOk size limit (count_without at c) (bytes_without size at c l)
   remove_keeps = by_case at refl
     where
-      by_case : (g : Found) → g ≡ at → RecordsOk size limit (count_without g c) (bytes_without size g c l)
-      by_case (At i) e = records_ok_after_remove size limit i c l (found_in key size c.count l i (At i) e refl) ok
-      by_case Nothing e = ok
+      by_case : (g : Option ℕ) → g ≡ at → RecordsOk size limit (count_without g c) (bytes_without size g c l)
+      by_case (Some i) e = records_ok_after_remove size limit i c l (found_in key size c.count l i (Some i) e refl) ok
+      by_case None e = ok
 
 -- the capacity stays
-pub capacity_without : (f : Found) (c : ListCounts) → (count_without f c).capacity ≡ c.capacity
-capacity_without (At i) c = refl
-capacity_without Nothing c = refl
+pub capacity_without : (f : Option ℕ) (c : ListCounts) → (count_without f c).capacity ≡ c.capacity
+capacity_without (Some i) c = refl
+capacity_without None c = refl
 
 -- ---- a key put into the key list
 pub put_keys : (c : ListCounts) (key l : List ℕ) → length key ≡ 32 → full_for 32 c key l ≡ false → KeysOk c l

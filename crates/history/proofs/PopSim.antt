@@ -13,8 +13,7 @@ use borrow.Author.Tests.{ltb-true, ltb-false, eqb-true, eqb-false, ne_eqb}
 use Rattle.stores.specs.Stores.{write}
 use Rattle.stores.proofs.StoreLaws.{length_write}
 use Rattle.signed.specs.Sign.{is_negative}
-use Rattle.records.specs.declared.Found.{Found}
-use Rattle.records.specs.declared.Found.TheVariants.{At, Nothing}
+use Rattle.std.specs.Prelude.{Option, Some, None, Ok, Err}
 use Rattle.index_types.specs.declared.ListCounts.{ListCounts}
 use Rattle.records.specs.declared.Place.{Place}
 use Rattle.records.specs.declared.Place.TheVariants.{Staged, Table, Missing}
@@ -28,7 +27,6 @@ use Rattle.records.proofs.CheckLaws.{and_true, keys_ok_after_put}
 use Rattle.segment_id.specs.declared.Kind.{Kind}
 use Rattle.segment_core.specs.Loading.{padded}
 use Rattle.index_types.specs.declared.HeadCounts.{HeadCounts}
-use Rattle.index_types.specs.declared.Popped.TheVariants.{Number, Refused}
 use Rattle.buffer_core.specs.Edition.{Edition, RowRead, bad, good}
 use Rattle.buffer_core.specs.Spills.{Sources, place_at, read_placed, spill_read, head_ok}
 use Rattle.buffer_core.specs.Append.{counts_of}
@@ -64,14 +62,14 @@ module _ (E : Edition) (ids : Parent → List ℕ) (caps : Capacities) where
     abbrev n₁ : ℕ
     n₁ = b.lists.table_counts.count
 
-    by_found : (f g : Found) → f ≡ find_key k₁ (keys E.size m₁ b.lists.staged) → g ≡ find_key k₁ (keys E.size n₁ b.lists.table)
+    by_found : (f g : Option ℕ) → f ≡ find_key k₁ (keys E.size m₁ b.lists.staged) → g ≡ find_key k₁ (keys E.size n₁ b.lists.table)
         → to_res (read_placed E (kind_of ch) (sources_of E ids b ch) s (place_of f g))
         ≡ St.decoded W₁ ch s (or_else (row_opt f (records E.size m₁ b.lists.staged)) (row_opt g (records E.size n₁ b.lists.table)))
-    by_found (At i) g e d =
-        ap (λ (r : List ℕ). to_res (E.decode (kind_of ch) (id_of E ids ch) (pos s) (stored_row r))) (sym (record_at E.size m₁ i b.lists.staged (found_in k₁ E.size m₁ b.lists.staged i (At i) e refl)))
-    by_found Nothing (At j) e d =
-        ap (λ (r : List ℕ). to_res (E.decode (kind_of ch) (id_of E ids ch) (pos s) (stored_row r))) (sym (record_at E.size n₁ j b.lists.table (found_in k₁ E.size n₁ b.lists.table j (At j) d refl)))
-    by_found Nothing Nothing e d = refl
+    by_found (Some i) g e d =
+        ap (λ (r : List ℕ). to_res (E.decode (kind_of ch) (id_of E ids ch) (pos s) (stored_row r))) (sym (record_at E.size m₁ i b.lists.staged (found_in k₁ E.size m₁ b.lists.staged i (Some i) e refl)))
+    by_found None (Some j) e d =
+        ap (λ (r : List ℕ). to_res (E.decode (kind_of ch) (id_of E ids ch) (pos s) (stored_row r))) (sym (record_at E.size n₁ j b.lists.table (found_in k₁ E.size n₁ b.lists.table j (Some j) d refl)))
+    by_found None None e d = refl
 
     pub read_same : row_of_spill E ids b ch s ≡ St.store_row W₁ (S.abs E ids caps b) ch s
     unfolding spill_read place_at
@@ -141,7 +139,7 @@ module _ (E : Edition) (ids : Parent → List ℕ) (L : EditionLaws E ids) (caps
     end o = result_of (after_pop b ch o.answer o.head o.staged o.deleted)
 
     abbrev no_pop : ℕ → Popping
-    no_pop k = popping (Refused k) p.places x.staged x.deleted
+    no_pop k = popping (Err k) p.places x.staged x.deleted
 
     hf : HeadFits p
     hf = head_fits p (I.heads_in ch)
@@ -155,7 +153,7 @@ module _ (E : Edition) (ids : Parent → List ℕ) (L : EditionLaws E ids) (caps
 
     -- of the head
     abbrev last : Popping
-    last = popping (Number (last_of len p.places) (counts_of (len - 1) p.head.spills) x.staged_counts x.deleted_counts) (without_last len p.places) x.staged x.deleted
+    last = popping (Ok (last_of len p.places, counts_of (len - 1) p.head.spills, x.staged_counts, x.deleted_counts)) (without_last len p.places) x.staged x.deleted
 
     last_same : 0 < len → map_res (map_pop abs) (end last) ≡ St.pop_store W (abs b) ch
     last_same h =
@@ -249,7 +247,7 @@ module _ (E : Edition) (ids : Parent → List ℕ) (L : EditionLaws E ids) (caps
       restore_keeps zs g m f d e =
           let n : ℕ = length zs in
           let v : Part = part (counts_of (n - 1) (pos s)) (without_last n (row_head zs p.places)) in
-          let at : Found = staged_at E key x in
+          let at : (Option ℕ) = staged_at E key x in
           let y : Lists = lists (count_without at x.staged_counts) (bytes_without E.size at x.staged_counts x.staged) x.table_counts x.table
           (with_count (count_after (deleted_at E key x) x.deleted_counts.count) x.deleted_counts) (put_record 32 x.deleted_counts.count key key x.deleted) in
           let z : Index = index (set_part b.parts ch v) y in

@@ -5,14 +5,11 @@ use mathlib.Core.List.{List}
 use Prim.Native.Nat.{ℕ}
 use lib.IntN.{ℤ}
 use lib.ListN.{length}
-use Rattle.index_types.specs.declared.Appended.{Appended}
-use Rattle.index_types.specs.declared.Appended.TheVariants as appended
-use Rattle.index_types.specs.declared.Popped.{Popped}
-use Rattle.index_types.specs.declared.Popped.TheVariants as popped
-use Rattle.index_types.specs.declared.Flipped.{Flipped}
-use Rattle.index_types.specs.declared.Flipped.TheVariants as flipped
-use Rattle.index_types.specs.declared.Flushed.{Flushed}
-use Rattle.index_types.specs.declared.Flushed.TheVariants as flushed
+use Rattle.std.specs.Prelude.{Ok, Err}
+use Rattle.index_types.specs.Answers.{Appended}
+use Rattle.index_types.specs.Answers.{Popped}
+use Rattle.index_types.specs.Answers.{Flipped}
+use Rattle.index_types.specs.Answers.{Flushed}
 use Rattle.buffer_core.specs.declared.Direction.{Direction}
 use Rattle.buffer_core.specs.declared.Direction.TheVariants.{Spend, Unspend}
 use Rattle.buffer_core.specs.Edition.{Edition}
@@ -53,22 +50,22 @@ module _ (b : Index) where
 
   pub append_by : (ch : Series) (a : Appended) (head : List ℤ) (staged : List ℕ) → AppendSame (b.parts ch).places b.lists.staged (appending a head staged)
       → Leaves b (after_append b ch a head staged)
-  append_by ch (appended.Done h c) head staged same = tt
-  append_by ch (appended.Refused code) head staged same = let e = same code refl in anew ch e.0 e.1 refl
+  append_by ch (Ok (h, c)) head staged same = tt
+  append_by ch (Err code) head staged same = let e = same code refl in anew ch e.0 e.1 refl
 
   pub pop_by : (ch : Series) (a : Popped) (head : List ℤ) (staged deleted : List ℕ) → PopSame (b.parts ch).places b.lists (popping a head staged deleted)
       → Leaves b (after_pop b ch a head staged deleted)
-  pop_by ch (popped.Number n h c d) head staged deleted same = tt
-  pop_by ch (popped.Refused code) head staged deleted same = let e = same code refl in anew ch e.0 e.1 e.2
+  pop_by ch (Ok (n, h, c, d)) head staged deleted same = tt
+  pop_by ch (Err code) head staged deleted same = let e = same code refl in anew ch e.0 e.1 e.2
 
   pub flip_by : (p : Parent) (a : Flipped) (head : List ℤ) (staged : List ℕ) → FlipSame (b.parts (boxes p)).places b.lists.staged (flipping a head staged)
       → Leaves b (after_flip b (boxes p) a head staged)
-  flip_by p (flipped.Done c) head staged same = tt
-  flip_by p (flipped.Refused code) head staged same = let e = same code refl in anew (boxes p) e.0 e.1 refl
+  flip_by p (Ok c) head staged same = tt
+  flip_by p (Err code) head staged same = let e = same code refl in anew (boxes p) e.0 e.1 refl
 
   pub flush_by : (a : Flushed) (table staged deleted : List ℕ) → FlushSame b.lists (flushing a table staged deleted) → Leaves b (after_flush b a table staged deleted)
-  flush_by (flushed.Done t c d) table staged deleted same = tt
-  flush_by (flushed.Refused code) table staged deleted same =
+  flush_by (Ok (t, c, d)) table staged deleted same = tt
+  flush_by (Err code) table staged deleted same =
       let e = same code refl in
       λ i. index b.parts (lists b.lists.staged_counts (e.1 i) b.lists.table_counts (e.0 i) b.lists.deleted_counts (e.2 i))
 

@@ -6,8 +6,7 @@ use mathlib.Core.Bool.{Bool, true, false, not, ◌&&◌, cond}
 use Prim.Native.Nat.{ℕ, zero, suc, ◌+◌, ◌*◌, ◌-◌, ◌≤◌, ◌<◌}
 use native.Mathlib.Omega.{arith}
 use lib.ListN.{length, get_or, take, set, length-map}
-use Rattle.records.specs.declared.Found.{Found}
-use Rattle.records.specs.declared.Found.TheVariants.{At, Nothing}
+use Rattle.std.specs.Prelude.{Option, Some, None}
 use Rattle.stores.specs.Equal.{same_bytes}
 use Rattle.records.specs.Records.{key_of, stored_row}
 use Rattle.records.specs.Find.{find_from, find_key, is_found}
@@ -45,35 +44,35 @@ unfolding ite
 ite_same x y (yes e) a b = rw (same_eq x y e)
 ite_same x y (no n) a b = rw (same_false x y n)
 
-abbrev bump : Found → Found
-bump (At i) = At (suc i)
-bump Nothing = Nothing
+abbrev bump : Option ℕ → Option ℕ
+bump (Some i) = Some (suc i)
+bump None = None
 
-bump_pick : (t : Bool) (i : ℕ) (f : Found) → cond t (At (suc i)) (bump f) ≡ bump (cond t (At i) f)
+bump_pick : (t : Bool) (i : ℕ) (f : Option ℕ) → cond t (Some (suc i)) (bump f) ≡ bump (cond t (Some i) f)
 bump_pick true i f = refl
 bump_pick false i f = refl
 
 find_bump : (k : Bytes) (i : ℕ) (ks : List Bytes) → find_from k (suc i) ks ≡ bump (find_from k i ks)
 unfolding find_from
 find_bump k i [] = refl
-find_bump k i (x ∷ ks) = ap (cond (same_bytes x k) (At (suc i))) (find_bump k (suc i) ks) ∙ bump_pick (same_bytes x k) i (find_from k (suc i) ks)
+find_bump k i (x ∷ ks) = ap (cond (same_bytes x k) (Some (suc i))) (find_bump k (suc i) ks) ∙ bump_pick (same_bytes x k) i (find_from k (suc i) ks)
 
-find_cons : (k x : Bytes) (ks : List Bytes) → find_key k (x ∷ ks) ≡ cond (same_bytes x k) (At 0) (bump (find_key k ks))
+find_cons : (k x : Bytes) (ks : List Bytes) → find_key k (x ∷ ks) ≡ cond (same_bytes x k) (Some 0) (bump (find_key k ks))
 unfolding find_from
-find_cons k x ks = ap (cond (same_bytes x k) (At 0)) (find_bump k 0 ks)
+find_cons k x ks = ap (cond (same_bytes x k) (Some 0)) (find_bump k 0 ks)
 
 -- ---- lookup
-abbrev pub row_opt : Found → List Bytes → Tb.Found Bytes
-row_opt (At i) rs = found (stored_row (get_or rs i []))
-row_opt Nothing rs = missing
+abbrev pub row_opt : Option ℕ → List Bytes → Tb.Found Bytes
+row_opt (Some i) rs = found (stored_row (get_or rs i []))
+row_opt None rs = missing
 
 abbrev pub lookup : Table → Bytes → Tb.Found Bytes
 lookup t k = Tb.lookup Bytes Bytes id_dec t k
 
-look_step : (t : Bool) (f : Found) (r : Bytes) (rs : List Bytes) → cond t (found (stored_row r)) (row_opt f rs) ≡ row_opt (cond t (At 0) (bump f)) (r ∷ rs)
+look_step : (t : Bool) (f : Option ℕ) (r : Bytes) (rs : List Bytes) → cond t (found (stored_row r)) (row_opt f rs) ≡ row_opt (cond t (Some 0) (bump f)) (r ∷ rs)
 look_step true f r rs = refl
-look_step false (At i) r rs = refl
-look_step false Nothing r rs = refl
+look_step false (Some i) r rs = refl
+look_step false None r rs = refl
 
 pub lookup_is : (rs : List Bytes) (k : Bytes) → lookup (tab rs) k ≡ row_opt (find_key k (map key_of rs)) rs
 unfolding find_from
@@ -82,17 +81,17 @@ lookup_is (r ∷ rs) k =
     ite_same (key_of r) k (id_dec (key_of r) k) (found (stored_row r)) (lookup (tab rs) k)
     ∙ ap (cond (same_bytes (key_of r) k) (found (stored_row r))) (lookup_is rs k)
     ∙ look_step (same_bytes (key_of r) k) (find_key k (map key_of rs)) r rs
-    ∙ ap (λ (f : Found). row_opt f (r ∷ rs)) (sym (find_cons k (key_of r) (map key_of rs)))
+    ∙ ap (λ (f : Option ℕ). row_opt f (r ∷ rs)) (sym (find_cons k (key_of r) (map key_of rs)))
 
 -- ---- put
 abbrev pub put : Table → Bytes → Bytes → Table
 put t k l = Tb.put Bytes Bytes id_dec t k l
 
-put_step : (t : Bool) (f : Found) (r new : Bytes) (rs : List Bytes) (k l : Bytes) → rec_of new ≡ rec k l
-    → cond t (rec k l ∷ tab rs) (rec_of r ∷ tab (put_at f new rs)) ≡ tab (put_at (cond t (At 0) (bump f)) new (r ∷ rs))
+put_step : (t : Bool) (f : Option ℕ) (r new : Bytes) (rs : List Bytes) (k l : Bytes) → rec_of new ≡ rec k l
+    → cond t (rec k l ∷ tab rs) (rec_of r ∷ tab (put_at f new rs)) ≡ tab (put_at (cond t (Some 0) (bump f)) new (r ∷ rs))
 put_step true f r new rs k l e = ap (λ (x : Rec). x ∷ tab rs) (sym e)
-put_step false (At i) r new rs k l e = refl
-put_step false Nothing r new rs k l e = refl
+put_step false (Some i) r new rs k l e = refl
+put_step false None r new rs k l e = refl
 
 pub put_is : (rs : List Bytes) (k l new : Bytes) → rec_of new ≡ rec k l → put (tab rs) k l ≡ tab (put_at (find_key k (map key_of rs)) new rs)
 unfolding find_from
@@ -101,15 +100,15 @@ put_is (r ∷ rs) k l new e =
     ite_same (key_of r) k (id_dec (key_of r) k) (rec k l ∷ tab rs) (rec_of r ∷ put (tab rs) k l)
     ∙ ap (λ (t : Table). cond (same_bytes (key_of r) k) (rec k l ∷ tab rs) (rec_of r ∷ t)) (put_is rs k l new e)
     ∙ put_step (same_bytes (key_of r) k) (find_key k (map key_of rs)) r new rs k l e
-    ∙ ap (λ (f : Found). tab (put_at f new (r ∷ rs))) (sym (find_cons k (key_of r) (map key_of rs)))
+    ∙ ap (λ (f : Option ℕ). tab (put_at f new (r ∷ rs))) (sym (find_cons k (key_of r) (map key_of rs)))
 
 -- ---- removal
 abbrev pub remove : Table → Bytes → Table
 remove t k = Tb.remove Bytes Bytes id_dec t k
 
-abbrev pub remove_found : Found → List Bytes → List Bytes
-remove_found (At i) rs = remove_at [] i rs
-remove_found Nothing rs = rs
+abbrev pub remove_found : Option ℕ → List Bytes → List Bytes
+remove_found (Some i) rs = remove_at [] i rs
+remove_found None rs = rs
 
 last_first : (y : Bytes) (t : List Bytes) → Tb.newest_first Bytes Bytes id_dec (rec_of y) (tab t) ≡ tab (get_or (y ∷ t) (length t) [] ∷ take (length t) (y ∷ t))
 last_first y [] = refl
@@ -127,13 +126,13 @@ remove_cons r y t i =
     let d : suc (length t) - 1 ≡ length t = omega arith in
     rw (e, d)
 
-rem_step : (t : Bool) (f : Found) (r y : Bytes) (rs : List Bytes)
-    → cond t (Tb.gapped Bytes Bytes id_dec (tab (y ∷ rs))) (rec_of r ∷ tab (remove_found f (y ∷ rs))) ≡ tab (remove_found (cond t (At 0) (bump f)) (r ∷ y ∷ rs))
+rem_step : (t : Bool) (f : Option ℕ) (r y : Bytes) (rs : List Bytes)
+    → cond t (Tb.gapped Bytes Bytes id_dec (tab (y ∷ rs))) (rec_of r ∷ tab (remove_found f (y ∷ rs))) ≡ tab (remove_found (cond t (Some 0) (bump f)) (r ∷ y ∷ rs))
 rem_step true f r y rs = gap_first r (y ∷ rs)
-rem_step false (At i) r y rs = ap tab (sym (remove_cons r y rs i))
-rem_step false Nothing r y rs = refl
+rem_step false (Some i) r y rs = ap tab (sym (remove_cons r y rs i))
+rem_step false None r y rs = refl
 
-rem_one : (t : Bool) (r : Bytes) → cond t [] (rec_of r ∷ []) ≡ tab (remove_found (cond t (At 0) Nothing) (r ∷ []))
+rem_one : (t : Bool) (r : Bytes) → cond t [] (rec_of r ∷ []) ≡ tab (remove_found (cond t (Some 0) None) (r ∷ []))
 unfolding remove_at
 rem_one true r = refl
 rem_one false r = refl
@@ -144,21 +143,21 @@ remove_is [] k = refl
 remove_is (r ∷ []) k =
     ite_same (key_of r) k (id_dec (key_of r) k) [] (rec_of r ∷ [])
     ∙ rem_one (same_bytes (key_of r) k) r
-    ∙ ap (λ (f : Found). tab (remove_found f (r ∷ []))) (sym (find_cons k (key_of r) []))
+    ∙ ap (λ (f : Option ℕ). tab (remove_found f (r ∷ []))) (sym (find_cons k (key_of r) []))
 remove_is (r ∷ y ∷ rs) k =
     ite_same (key_of r) k (id_dec (key_of r) k) (Tb.gapped Bytes Bytes id_dec (tab (y ∷ rs))) (rec_of r ∷ remove (tab (y ∷ rs)) k)
     ∙ ap (λ (t : Table). cond (same_bytes (key_of r) k) (Tb.gapped Bytes Bytes id_dec (tab (y ∷ rs))) (rec_of r ∷ t)) (remove_is (y ∷ rs) k)
     ∙ rem_step (same_bytes (key_of r) k) (find_key k (map key_of (y ∷ rs))) r y rs
-    ∙ ap (λ (f : Found). tab (remove_found f (r ∷ y ∷ rs))) (sym (find_cons k (key_of r) (map key_of (y ∷ rs))))
+    ∙ ap (λ (f : Option ℕ). tab (remove_found f (r ∷ y ∷ rs))) (sym (find_cons k (key_of r) (map key_of (y ∷ rs))))
 
 -- ---- keys
 abbrev pub In : Bytes → List Bytes → Type 0
 In k ks = Tb.In Bytes Bytes id_dec k ks
 
-found_pick : (t : Bool) (f : Found) → is_found (cond t (At 0) (bump f)) ≡ cond t true (is_found f)
+found_pick : (t : Bool) (f : Option ℕ) → is_found (cond t (Some 0) (bump f)) ≡ cond t true (is_found f)
 found_pick true f = refl
-found_pick false (At i) = refl
-found_pick false Nothing = refl
+found_pick false (Some i) = refl
+found_pick false None = refl
 
 pub in_found : (k : Bytes) (ks : List Bytes) → In k ks → is_found (find_key k ks) ≡ true
 unfolding find_from
@@ -191,7 +190,7 @@ ite_in k ks (no n) a b = rw (bool_eq (is_found (find_key k ks)) (λ e. n (found_
 abbrev pub in_dec : (k : Bytes) (ks : List Bytes) → Dec (In k ks)
 in_dec k ks = Tb.in_dec Bytes Bytes id_dec k ks
 
-found_cond : {A : Type 0} (f : Found) (t : Bool) (a b : A) → is_found f ≡ t → cond (is_found f) a b ≡ cond t a b
+found_cond : {A : Type 0} (f : Option ℕ) (t : Bool) (a b : A) → is_found f ≡ t → cond (is_found f) a b ≡ cond t a b
 found_cond f t a b e = rw e
 
 -- a key put into the deletion list
@@ -223,10 +222,10 @@ new_one false true (no a) (no b) n p q = omega arith
 new_one false false (no a) (yes b) n p q = omega arith
 new_one false false (no a) (no b) n p q = absurd (let z : ◌≡◌ {A = ℕ} 1 0 = q 0 1 in omega arith)
 
-lacks_opt : {A : Type 0} (f : Found) (rs : List Bytes) (g : Tb.Found Bytes) → g ≡ row_opt f rs → (a b : A) → ite (Tb.lacks_dec Bytes Bytes id_dec g) a b ≡ cond (not (is_found f)) a b
+lacks_opt : {A : Type 0} (f : Option ℕ) (rs : List Bytes) (g : Tb.Found Bytes) → g ≡ row_opt f rs → (a b : A) → ite (Tb.lacks_dec Bytes Bytes id_dec g) a b ≡ cond (not (is_found f)) a b
 unfolding ite Tb.lacks_dec
-lacks_opt (At i) rs g e a b = rw e
-lacks_opt Nothing rs g e a b = rw e
+lacks_opt (Some i) rs g e a b = rw e
+lacks_opt None rs g e a b = rw e
 
 pub ite_lacks : {A : Type 0} (rs : List Bytes) (k : Bytes) (a b : A) → ite (Tb.lacks_dec Bytes Bytes id_dec (lookup (tab rs) k)) a b ≡ cond (not (is_found (find_key k (map key_of rs)))) a b
 ite_lacks rs k a b = lacks_opt (find_key k (map key_of rs)) rs (lookup (tab rs) k) (lookup_is rs k) a b

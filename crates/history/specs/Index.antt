@@ -1,20 +1,16 @@
 -- The index as the calls leave it: each parent's heads with their counts, the staged spills, the segments table and the deleted spills, in bytes; and its
 -- operations, each the very definition that the contract of the public function cites, run on the part of the index that the function borrows.
 use Rattle.ledger.specs.Run.{flat}
-use Rattle.std.specs.Prelude.{List, [], ◌++◌, ℕ, ℤ, pos, nat_abs, take}
+use Rattle.std.specs.Prelude.{List, [], ◌++◌, ℕ, ℤ, pos, nat_abs, take, Ok, Err}
 use Rattle.index_types.specs.declared.ListCounts.{ListCounts}
 use Rattle.segment_id.specs.declared.Kind.{Kind}
 use Rattle.segment_id.specs.declared.Kind.TheVariants.{Box, Tx}
 use Rattle.index_types.specs.declared.HeadCounts.{HeadCounts}
 use Rattle.buffer_core.specs.declared.Direction.{Direction}
-use Rattle.index_types.specs.declared.Appended.{Appended}
-use Rattle.index_types.specs.declared.Appended.TheVariants as appended
-use Rattle.index_types.specs.declared.Popped.{Popped}
-use Rattle.index_types.specs.declared.Popped.TheVariants as popped
-use Rattle.index_types.specs.declared.Flipped.{Flipped}
-use Rattle.index_types.specs.declared.Flipped.TheVariants as flipped
-use Rattle.index_types.specs.declared.Flushed.{Flushed}
-use Rattle.index_types.specs.declared.Flushed.TheVariants as flushed
+use Rattle.index_types.specs.Answers.{Appended}
+use Rattle.index_types.specs.Answers.{Popped}
+use Rattle.index_types.specs.Answers.{Flipped}
+use Rattle.index_types.specs.Answers.{Flushed}
 use Rattle.buffer_core.specs.Edition.{Edition, RowRead, bad, good}
 use Rattle.buffer_core.specs.Spills.{Sources, sources, spill_read}
 use Rattle.buffer_core.specs.Append.{Appending, append_of}
@@ -54,28 +50,28 @@ with_staged c staged b = lists c staged b.table_counts b.table b.deleted_counts 
 -- ---- the index after each call: the counts that an accepted call answers (a refused one answers none, so they stay), and the places and bytes that the
 -- definition leaves, accepted or refused
 abbrev pub after_append : Index → Series → Appended → List ℤ → List ℕ → Made Index Index
-after_append b ch (appended.Done h c) head staged = accepted (index (set_part b.parts ch (part h head)) (with_staged c staged b.lists))
-after_append b ch (appended.Refused code) head staged =
+after_append b ch (Ok (h, c)) head staged = accepted (index (set_part b.parts ch (part h head)) (with_staged c staged b.lists))
+after_append b ch (Err code) head staged =
     refused_leaving code (index (set_part b.parts ch (part (b.parts ch).head head)) (with_staged b.lists.staged_counts staged b.lists))
 
 abbrev pub after_pop : Index → Series → Popped → List ℤ → (staged deleted : List ℕ) → Made Index (Mc.Popped Index)
-after_pop b ch (popped.Number n h c d) head staged deleted =
+after_pop b ch (Ok (n, h, c, d)) head staged deleted =
     accepted (record {
       left = index (set_part b.parts ch (part h head)) (lists c staged b.lists.table_counts b.lists.table d deleted);
       value = n;
     })
-after_pop b ch (popped.Refused code) head staged deleted =
+after_pop b ch (Err code) head staged deleted =
     refused_leaving code (index (set_part b.parts ch (part (b.parts ch).head head))
     (lists b.lists.staged_counts staged b.lists.table_counts b.lists.table b.lists.deleted_counts deleted))
 
 abbrev pub after_flip : Index → Series → Flipped → List ℤ → List ℕ → Made Index Index
-after_flip b ch (flipped.Done c) head staged = accepted (index (set_part b.parts ch (part (b.parts ch).head head)) (with_staged c staged b.lists))
-after_flip b ch (flipped.Refused code) head staged =
+after_flip b ch (Ok c) head staged = accepted (index (set_part b.parts ch (part (b.parts ch).head head)) (with_staged c staged b.lists))
+after_flip b ch (Err code) head staged =
     refused_leaving code (index (set_part b.parts ch (part (b.parts ch).head head)) (with_staged b.lists.staged_counts staged b.lists))
 
 abbrev pub after_flush : Index → Flushed → (table staged deleted : List ℕ) → Made Index Index
-after_flush b (flushed.Done t c d) table staged deleted = accepted (index b.parts (lists c staged t table d deleted))
-after_flush b (flushed.Refused code) table staged deleted =
+after_flush b (Ok (t, c, d)) table staged deleted = accepted (index b.parts (lists c staged t table d deleted))
+after_flush b (Err code) table staged deleted =
     refused_leaving code (index b.parts (lists b.lists.staged_counts staged b.lists.table_counts table b.lists.deleted_counts deleted))
 
 abbrev pub to_res : RowRead → Res (List ℤ)

@@ -5,7 +5,6 @@
 ghost use Rattle.std.specs.Prelude.{◌≡◌, ◌≤◌, length, take};
 ghost use Rattle.history_growth.specs.Listing.{histories, bytes_of};
 
-use index_types::Wrote;
 use short_histories::HISTORIES_LENGTH;
 use std::io;
 use std::io::Write;
@@ -35,13 +34,11 @@ fn print_history<W: Write>(to: &mut W, list: &[u8], at: usize, end: usize) -> io
     if at == end {
         to.write_all(b"no call")?;
     }
-    let mut i = at;
-    while i < end {
-        if at < i {
+    for (i, &number) in list[at..end].iter().enumerate() {
+        if 0 < i {
             to.write_all(b", ")?;
         }
-        print_call(to, list[i])?;
-        i += 1;
+        print_call(to, number)?;
     }
     to.write_all(b"\n")
 }
@@ -66,7 +63,7 @@ fn print_histories<W: Write>(to: &mut W, list: &[u8], end: usize) -> io::Result<
 fn main(rt: HostRuntime) -> io::Result<()> {
     let mut out = [0u8; HISTORIES_LENGTH];
     match short_histories::list_histories(&mut out) {
-        Wrote::Next(end) => print_histories(&mut rt.stdout(), &out, end),
-        Wrote::Refused(_) => rt.eprintln("history_printer: the output is too short (32)"),
+        Ok(end) => print_histories(&mut rt.stdout(), &out, end),
+        Err(_) => rt.eprintln("history_printer: the output is too short (32)"),
     }
 }

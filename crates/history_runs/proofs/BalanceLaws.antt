@@ -13,10 +13,8 @@ use lib.Seq.{get_or-set_same, get_or-set_other, set-get_or}
 use borrow.Rule.Slice.PartMut.{mid_of, put_mid, put_same}
 use Rattle.stores.specs.Stores.{write}
 use Rattle.stores.proofs.StoreLaws.{length_part, length_write, write_one}
-use Rattle.signed.specs.declared.Checked.{Checked}
-use Rattle.signed.specs.declared.Checked.TheVariants.{Is, Out}
-use Rattle.refusal.specs.declared.Answer.{Answer}
-use Rattle.refusal.specs.declared.Answer.TheVariants.{Accepted, Refused}
+use Rattle.std.specs.Prelude.{Option, Some, None, Ok, Err}
+use Rattle.refusal.specs.Answers.{Answer}
 use Rattle.balance.specs.declared.Balance.{Balance}
 use Rattle.balance.specs.declared.Outcome.{Outcome}
 use Rattle.balance.specs.Tokens.{Changed, held, refused_by, change_tokens}
@@ -158,12 +156,12 @@ module _ (s : State) (p : ℕ) (w : Within p s.ids s.numbers s.lengths s.spills)
     put_ids = λ x q. ids_part (q * 4128) 32 (tokens_id p q) x
 
   -- ---- the call
-  by_answer : (a : Answer) (c : Balance) → (a ≡ Accepted → Fits (held_by c)) → ((code : ℕ) → a ≡ Refused code → c ≡ b)
+  by_answer : (a : Answer) (c : Balance) → (a ≡ (Ok tt) → Fits (held_by c)) → ((code : ℕ) → a ≡ Err code → c ≡ b)
       → SameBalance s p (of_change (changed_by (record { answer = a; balance = c }) p s.ids s.numbers s.lengths) s) (answered a c)
-  by_answer Accepted c fits same =
+  by_answer (Ok tt) c fits same =
       let f = fits refl in
       (refl, put_balance c f.ids_in f.amounts_in, put_view c f.ids_in f.amounts_in, put_ids c f.ids_in f.amounts_in)
-  by_answer (Refused code) c fits same = (refl, ap put (same code refl) ∙ put_back)
+  by_answer (Err code) c fits same = (refl, ap put (same code refl) ∙ put_back)
 
   module _ (adding : Bool) (nanos : ℤ) (ts : Tokens) where
     -- of a box, its tokens laid out as the theorem does
@@ -175,7 +173,7 @@ module _ (s : State) (p : ℕ) (w : Within p s.ids s.numbers s.lengths s.spills)
     as_changed false = refl
 
     abbrev Unchanged : Outcome → Type 0
-    Unchanged o = (code : ℕ) → o.answer ≡ Refused code → o.balance ≡ b
+    Unchanged o = (code : ℕ) → o.answer ≡ Err code → o.balance ≡ b
 
     refused_same : Unchanged out
     unfolding change_box
@@ -186,14 +184,14 @@ module _ (s : State) (p : ℕ) (w : Within p s.ids s.numbers s.lengths s.spills)
         by_tokens v (held h) code e = let z : ◌≡◌ {A = ℕ} 0 1 = cc in absurd (omega arith)
         by_tokens v (refused_by y) code e = refl
 
-        by_nanos : (x : Checked) → Unchanged (box_by adding b (ids_of ts) (amounts_of ts) (length ts) x)
-        by_nanos (Is v) = by_tokens v (change_tokens adding (ids_of ts) (amounts_of ts) 0 (length ts) (held_by b))
-        by_nanos Out = λ code e. refl
+        by_nanos : (x : Option ℤ) → Unchanged (box_by adding b (ids_of ts) (amounts_of ts) (length ts) x)
+        by_nanos (Some v) = by_tokens v (change_tokens adding (ids_of ts) (amounts_of ts) 0 (length ts) (held_by b))
+        by_nanos None = λ code e. refl
 
-    accepted_fits : Typed ts → out.answer ≡ Accepted → Fits (held_by out.balance)
+    accepted_fits : Typed ts → out.answer ≡ (Ok tt) → Fits (held_by out.balance)
     accepted_fits typed e = by_count (dec_le b.count 128)
       where
-        by_adding : Fits (held_by b) → (t : Bool) → (c : Balance) → result_of (changed t b nanos ts) ≡ result_of (answered Accepted c) → Fits (held_by c)
+        by_adding : Fits (held_by b) → (t : Bool) → (c : Balance) → result_of (changed t b nanos ts) ≡ result_of (answered (Ok tt) c) → Fits (held_by c)
         by_adding f true c q = (add_same b f nanos ts typed).keeps c q
         by_adding f false c q = (sub_same b f nanos ts typed).keeps c q
 
@@ -203,7 +201,7 @@ module _ (s : State) (p : ℕ) (w : Within p s.ids s.numbers s.lengths s.spills)
             (ap result_of (sym (as_changed adding) ∙ ap (λ (a : Answer). answered a out.balance) e))
         by_count (no f) =
             let o = box_25 adding b nanos (ids_of ts) (amounts_of ts) (length ts) (sym (count_above b.count (ids_of ts) (amounts_of ts) (length ts) (omega (arith, f)))) in
-            let y : Refused 25 ≡ out.answer = ap (λ (x : Outcome). x.answer) o in
+            let y : Err 25 ≡ out.answer = ap (λ (x : Outcome). x.answer) o in
             let z : ◌≡◌ {A = ℕ} 0 1 = cc in absurd (omega arith)
 
     change_in : Typed ts → SameBalance s p (change_in_place adding p nanos (ids_of ts) (amounts_of ts) (length ts) s) (changed adding b nanos ts)

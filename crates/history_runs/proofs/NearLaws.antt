@@ -5,14 +5,11 @@ use Prim.Native.Nat.{ℕ, ◌<◌}
 use lib.IntN.{ℤ}
 use Rattle.index_types.specs.declared.ListCounts.{ListCounts}
 use Rattle.buffer_core.specs.declared.Direction.{Direction}
-use Rattle.index_types.specs.declared.Appended.{Appended}
-use Rattle.index_types.specs.declared.Appended.TheVariants as appended
-use Rattle.index_types.specs.declared.Popped.{Popped}
-use Rattle.index_types.specs.declared.Popped.TheVariants as popped
-use Rattle.index_types.specs.declared.Flipped.{Flipped}
-use Rattle.index_types.specs.declared.Flipped.TheVariants as flipped
-use Rattle.index_types.specs.declared.Flushed.{Flushed}
-use Rattle.index_types.specs.declared.Flushed.TheVariants as flushed
+use Rattle.std.specs.Prelude.{Ok, Err}
+use Rattle.index_types.specs.Answers.{Appended}
+use Rattle.index_types.specs.Answers.{Popped}
+use Rattle.index_types.specs.Answers.{Flipped}
+use Rattle.index_types.specs.Answers.{Flushed}
 use Rattle.buffer_core.specs.Edition.{edition_1}
 use Rattle.buffer_core.specs.Append.{Appending, append_of}
 use Rattle.buffer_core.specs.Pop.{Popping, Lists, lists, pop_of}
@@ -50,8 +47,8 @@ module _ (parents : ℕ) where
 
     module _ (ch : Series) (h : parent_of ch < parents) (named : names (parent_of ch) ≡ ids (parent_of ch)) where
       append_answer : (a : Appended) (head : List ℤ) (staged : List ℕ) → NearRes (after_append b ch a head staged) (after_append c ch a head staged)
-      append_answer (appended.Done n x) head staged = near_set ch (part n head) (part n head) _ _ refl (near_lists x staged)
-      append_answer (appended.Refused code) head staged = refl
+      append_answer (Ok (n, x)) head staged = near_set ch (part n head) (part n head) _ _ refl (near_lists x staged)
+      append_answer (Err code) head staged = refl
 
       pub append_near : (n : ℤ) → NearRes (do_append edition_1 names b ch n) (do_append edition_1 ids c ch n)
       append_near n =
@@ -62,9 +59,9 @@ module _ (parents : ℕ) where
           (append_answer o.answer o.head o.staged)
 
       pop_answer : (a : Popped) (head : List ℤ) (staged deleted : List ℕ) → NearPop (after_pop b ch a head staged deleted) (after_pop c ch a head staged deleted)
-      pop_answer (popped.Number z n x y) head staged deleted =
+      pop_answer (Ok (z, n, x, y)) head staged deleted =
           (refl, near_set ch (part n head) (part n head) _ _ refl (λ i. lists x staged (N.lists i).table_counts (N.lists i).table y deleted))
-      pop_answer (popped.Refused code) head staged deleted = refl
+      pop_answer (Err code) head staged deleted = refl
 
       pub pop_near : NearPop (do_pop edition_1 names b ch) (do_pop edition_1 ids c ch)
       pop_near =
@@ -76,9 +73,9 @@ module _ (parents : ℕ) where
 
     module _ (p : Parent) (h : p < parents) (named : names p ≡ ids p) where
       flip_answer : (a : Flipped) (head : List ℤ) (staged : List ℕ) → NearRes (after_flip b (boxes p) a head staged) (after_flip c (boxes p) a head staged)
-      flip_answer (flipped.Done x) head staged =
+      flip_answer (Ok x) head staged =
           near_set (boxes p) (part (b.parts (boxes p)).head head) (part (c.parts (boxes p)).head head) _ _ (λ i. part (N.parts (boxes p) h i).head head) (near_lists x staged)
-      flip_answer (flipped.Refused code) head staged = refl
+      flip_answer (Err code) head staged = refl
 
       pub flip_near : (d : Direction) (t : ℤ) → NearRes (do_flip edition_1 names d b p t) (do_flip edition_1 ids d c p t)
       flip_near d t =
@@ -89,8 +86,8 @@ module _ (parents : ℕ) where
           (flip_answer o.answer o.head o.staged)
 
     flush_answer : (a : Flushed) (table staged deleted : List ℕ) → NearRes (after_flush b a table staged deleted) (after_flush c a table staged deleted)
-    flush_answer (flushed.Done t x d) table staged deleted = record { parts = N.parts; lists = refl }
-    flush_answer (flushed.Refused code) table staged deleted = refl
+    flush_answer (Ok (t, x, d)) table staged deleted = record { parts = N.parts; lists = refl }
+    flush_answer (Err code) table staged deleted = refl
 
     pub flush_near : NearRes (do_flush edition_1 names b) (do_flush edition_1 ids c)
     flush_near =

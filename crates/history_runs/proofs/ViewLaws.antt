@@ -11,15 +11,12 @@ use Rattle.stores.proofs.StoreLaws.{length_part}
 use Rattle.segment_id.specs.declared.Kind.{Kind}
 use Rattle.segment_id.specs.declared.Kind.TheVariants.{Box}
 use Rattle.index_types.specs.declared.HeadCounts.{HeadCounts}
-use Rattle.index_types.specs.declared.Appended.{Appended}
-use Rattle.index_types.specs.declared.Appended.TheVariants as appended
+use Rattle.std.specs.Prelude.{Ok, Err}
+use Rattle.index_types.specs.Answers.{Appended}
 use Rattle.buffer_core.specs.declared.Direction.{Direction}
-use Rattle.index_types.specs.declared.Popped.{Popped}
-use Rattle.index_types.specs.declared.Popped.TheVariants as popped
-use Rattle.index_types.specs.declared.Flipped.{Flipped}
-use Rattle.index_types.specs.declared.Flipped.TheVariants as flipped
-use Rattle.index_types.specs.declared.Flushed.{Flushed}
-use Rattle.index_types.specs.declared.Flushed.TheVariants as flushed
+use Rattle.index_types.specs.Answers.{Popped}
+use Rattle.index_types.specs.Answers.{Flipped}
+use Rattle.index_types.specs.Answers.{Flushed}
 use Rattle.buffer_core.specs.Edition.{edition_1}
 use Rattle.buffer_core.specs.Append.{appending, counts_of, append_ok, append_of}
 use Rattle.buffer_core.specs.Pop.{Lists, lists, lists_ok, popping, pop_ok, pop_of}
@@ -109,8 +106,8 @@ module _ (s : State) (ch : Series) (w : Within (parent_of ch) s.ids s.numbers s.
   -- ---- append
   append_by_answer : (a : Appended) (new : List ℤ) (staged : List ℕ) → length new ≡ 512 → AppendSame head s.lists.staged (appending a new staged)
       → Same s (of_append (appended_by (appending a new staged) k p (counts_in s.lists) s.numbers s.lengths s.spills) s) (after_append (view s) ch a new staged)
-  append_by_answer (appended.Done n c) new staged long same = (refl, put_view n new long _, put_beside n new long s.lists, refl)
-  append_by_answer (appended.Refused code) new staged long same =
+  append_by_answer (Ok (n, c)) new staged long same = (refl, put_view n new long _, put_beside n new long s.lists, refl)
+  append_by_answer (Err code) new staged long same =
       let e = same code refl in
       let b = s.lists in
       (refl, λ i. state s.ids (put_back new e.0 i) s.lengths s.spills (lists b.staged_counts (e.1 i) b.table_counts b.table b.deleted_counts b.deleted))
@@ -129,8 +126,8 @@ module _ (s : State) (ch : Series) (w : Within (parent_of ch) s.ids s.numbers s.
   pop_by_answer : (a : Popped) (new : List ℤ) (staged deleted : List ℕ) → length new ≡ 512 → PopSame head s.lists (popping a new staged deleted)
       → SamePop s (of_pop (popped_by (popping a new staged deleted) k p (counts_in s.lists) s.numbers s.lengths s.spills) s)
       (after_pop (view s) ch a new staged deleted)
-  pop_by_answer (popped.Number z n c e) new staged deleted long same = (refl, put_view n new long _, put_beside n new long s.lists, refl)
-  pop_by_answer (popped.Refused code) new staged deleted long same =
+  pop_by_answer (Ok (z, n, c, e)) new staged deleted long same = (refl, put_view n new long _, put_beside n new long s.lists, refl)
+  pop_by_answer (Err code) new staged deleted long same =
       let e = same code refl in
       let b = s.lists in
       (refl, λ i. state s.ids (put_back new e.0 i) s.lengths s.spills (lists b.staged_counts (e.1 i) b.table_counts b.table b.deleted_counts (e.2 i)))
@@ -164,8 +161,8 @@ module _ (s : State) (p : ℕ) (w : Within p s.ids s.numbers s.lengths s.spills)
 
   flip_by_answer : (a : Flipped) (new : List ℤ) (staged : List ℕ) → length new ≡ 512 → FlipSame head_now s.lists.staged (flipping a new staged)
       → Same s (of_flip (flipped_by (flipping a new staged) p (counts_in s.lists) s.numbers) s) (after_flip (view s) (boxes p) a new staged)
-  flip_by_answer (flipped.Done c) new staged long same = (refl, head_view s (boxes p) w new long _, head_beside s (boxes p) w new long s.lists, refl)
-  flip_by_answer (flipped.Refused code) new staged long same =
+  flip_by_answer (Ok c) new staged long same = (refl, head_view s (boxes p) w new long _, head_beside s (boxes p) w new long s.lists, refl)
+  flip_by_answer (Err code) new staged long same =
       let e = same code refl in
       let b = s.lists in
       (refl, λ i. state s.ids (put_back s (boxes p) w new e.0 i) s.lengths s.spills (lists b.staged_counts (e.1 i) b.table_counts b.table b.deleted_counts b.deleted))
@@ -184,8 +181,8 @@ module _ (s : State) (p : ℕ) (w : Within p s.ids s.numbers s.lengths s.spills)
 module _ (s : State) where
   flush_by_answer : (a : Flushed) (table staged deleted : List ℕ) → FlushSame s.lists (flushing a table staged deleted)
       → Same s (of_flush (flushed_by (flushing a table staged deleted) (counts_in s.lists)) s) (after_flush (view s) a table staged deleted)
-  flush_by_answer (flushed.Done t c d) table staged deleted same = (refl, refl, refl, refl)
-  flush_by_answer (flushed.Refused code) table staged deleted same =
+  flush_by_answer (Ok (t, c, d)) table staged deleted same = (refl, refl, refl, refl)
+  flush_by_answer (Err code) table staged deleted same =
       let e = same code refl in
       let b = s.lists in
       (refl, λ i. state s.ids s.numbers s.lengths s.spills (lists b.staged_counts (e.1 i) b.table_counts (e.0 i) b.deleted_counts (e.2 i)))

@@ -4,14 +4,11 @@ use mathlib.Core.List.{List}
 use Prim.Native.Nat.{ℕ}
 use native.Mathlib.Omega.{arith}
 use lib.IntN.{ℤ}
-use Rattle.index_types.specs.declared.Appended.{Appended}
-use Rattle.index_types.specs.declared.Appended.TheVariants as appended
-use Rattle.index_types.specs.declared.Popped.{Popped}
-use Rattle.index_types.specs.declared.Popped.TheVariants as popped
-use Rattle.index_types.specs.declared.Flipped.{Flipped}
-use Rattle.index_types.specs.declared.Flipped.TheVariants as flipped
-use Rattle.index_types.specs.declared.Flushed.{Flushed}
-use Rattle.index_types.specs.declared.Flushed.TheVariants as flushed
+use Rattle.std.specs.Prelude.{Ok, Err}
+use Rattle.index_types.specs.Answers.{Appended}
+use Rattle.index_types.specs.Answers.{Popped}
+use Rattle.index_types.specs.Answers.{Flipped}
+use Rattle.index_types.specs.Answers.{Flushed}
 use Rattle.summary_core.proofs.AcceptedLaws.{IsAppended, IsPopped, IsFlushed}
 use Rattle.summary_core.proofs.FlipLaws.{IsFlipped}
 use Rattle.ledger.specs.Ledger.{Parent, Series, parent_dec}
@@ -27,20 +24,20 @@ not_refused e = let z : ◌≡◌ {A = ℕ} 0 1 = cc in omega arith
 
 -- ---- an accepted call was answered so
 pub is_appended : (b : Index) (ch : Series) (a : Appended) (head : List ℤ) (staged : List ℕ) (c : Index) → after_append b ch a head staged ≡ accepted c → IsAppended a
-is_appended b ch (appended.Done h d) head staged c e = tt
-is_appended b ch (appended.Refused code) head staged c e = absurd (not_refused e)
+is_appended b ch (Ok (h, d)) head staged c e = tt
+is_appended b ch (Err code) head staged c e = absurd (not_refused e)
 
 pub is_popped : (b : Index) (ch : Series) (a : Popped) (head : List ℤ) (staged deleted : List ℕ) (r : Mc.Popped Index) → after_pop b ch a head staged deleted ≡ accepted r → IsPopped a
-is_popped b ch (popped.Number n h c d) head staged deleted r e = tt
-is_popped b ch (popped.Refused code) head staged deleted r e = absurd (not_refused e)
+is_popped b ch (Ok (n, h, c, d)) head staged deleted r e = tt
+is_popped b ch (Err code) head staged deleted r e = absurd (not_refused e)
 
 pub is_flipped : (b : Index) (ch : Series) (a : Flipped) (head : List ℤ) (staged : List ℕ) (c : Index) → after_flip b ch a head staged ≡ accepted c → IsFlipped a
-is_flipped b ch (flipped.Done d) head staged c e = tt
-is_flipped b ch (flipped.Refused code) head staged c e = absurd (not_refused e)
+is_flipped b ch (Ok d) head staged c e = tt
+is_flipped b ch (Err code) head staged c e = absurd (not_refused e)
 
 pub is_flushed : (b : Index) (a : Flushed) (table staged deleted : List ℕ) (c : Index) → after_flush b a table staged deleted ≡ accepted c → IsFlushed a
-is_flushed b (flushed.Done t d e) table staged deleted c q = tt
-is_flushed b (flushed.Refused code) table staged deleted c q = absurd (not_refused q)
+is_flushed b (Ok (t, d, e)) table staged deleted c q = tt
+is_flushed b (Err code) table staged deleted c q = absurd (not_refused q)
 
 -- ---- the index and the summaries after it
 pub with_done : (S : Parent → List ℕ) (X : Made Index Index) (c : SummaryIndex) → with_summaries S X ≡ accepted c → (X ≡ accepted c.index) × (c.summaries ≡ S)

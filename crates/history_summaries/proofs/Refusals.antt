@@ -3,12 +3,10 @@ use mathlib.Core.Path.{◌≡◌, refl, ap, ◌∙◌, fun_ext}
 use mathlib.Core.List.{List}
 use Prim.Native.Nat.{ℕ}
 use lib.IntN.{ℤ}
-use Rattle.index_types.specs.declared.Appended.{Appended}
-use Rattle.index_types.specs.declared.Appended.TheVariants as appended
-use Rattle.index_types.specs.declared.Popped.{Popped}
-use Rattle.index_types.specs.declared.Popped.TheVariants as popped
-use Rattle.index_types.specs.declared.Flipped.{Flipped}
-use Rattle.index_types.specs.declared.Flipped.TheVariants as flipped
+use Rattle.std.specs.Prelude.{Ok, Err}
+use Rattle.index_types.specs.Answers.{Appended}
+use Rattle.index_types.specs.Answers.{Popped}
+use Rattle.index_types.specs.Answers.{Flipped}
 use Rattle.buffer_core.specs.declared.Direction.{Direction}
 use Rattle.buffer_core.specs.declared.Direction.TheVariants.{Spend, Unspend}
 use Rattle.buffer_core.specs.Edition.{Edition, edition_of}
@@ -46,11 +44,11 @@ module _ (b : SummaryIndex) where
   module _ (E : Edition) (ids : Parent → List ℕ) (lines : Parent → ℕ) where
     append_left : (p : Parent) (n : ℤ) (a : Appended) → (appending_with E ids lines b p n).result.answer ≡ a
         → Leaves b (with_summaries (set_summary b.summaries p (appending_with E ids lines b p n).summary) (after_append b.index (boxes p) a (appending_with E ids lines b p n).result.head (appending_with E ids lines b p n).result.staged))
-    append_left p n (appended.Done h c) e = tt
-    append_left p n (appended.Refused code) e =
+    append_left p n (Ok (h, c)) e = tt
+    append_left p n (Err code) e =
         let o = appending_with E ids lines b p n in
         let t = append_lines_same E (ids p) (b.index.parts (boxes p)).head (lines p) (b.summaries p) n b.index.lists.staged_counts (b.index.parts (boxes p)).places b.index.lists.staged code e in
-        λ i. summary_index (append_by b.index (boxes p) (appended.Refused code) o.result.head o.result.staged (λ k q. (t.0, t.1)) i) (set_back b.summaries p o.summary t.2 i)
+        λ i. summary_index (append_by b.index (boxes p) (Err code) o.result.head o.result.staged (λ k q. (t.0, t.1)) i) (set_back b.summaries p o.summary t.2 i)
 
     append_kept_leaves : (ch : Series) (n : ℤ) → Leaves b (append_kept E ids lines b ch n)
     append_kept_leaves (boxes p) n = append_left p n (appending_with E ids lines b p n).result.answer refl
@@ -59,11 +57,11 @@ module _ (b : SummaryIndex) where
     pop_left : (p : Parent) (a : Popped) → (popping_with E ids lines b p).result.answer ≡ a
         → Leaves b (pop_with_summaries (set_summary b.summaries p (popping_with E ids lines b p).summary)
         (after_pop b.index (boxes p) a (popping_with E ids lines b p).result.head (popping_with E ids lines b p).result.staged (popping_with E ids lines b p).result.deleted))
-    pop_left p (popped.Number n h c d) e = tt
-    pop_left p (popped.Refused code) e =
+    pop_left p (Ok (n, h, c, d)) e = tt
+    pop_left p (Err code) e =
         let o = popping_with E ids lines b p in
         let t = pop_lines_same E (ids p) (b.index.parts (boxes p)).head (lines p) (b.summaries p) b.index.lists (b.index.parts (boxes p)).places code e in
-        λ i. summary_index (pop_by b.index (boxes p) (popped.Refused code) o.result.head o.result.staged o.result.deleted (λ k q. (t.0, t.1, t.2)) i) (set_back b.summaries p o.summary t.3 i)
+        λ i. summary_index (pop_by b.index (boxes p) (Err code) o.result.head o.result.staged o.result.deleted (λ k q. (t.0, t.1, t.2)) i) (set_back b.summaries p o.summary t.3 i)
 
     pop_kept_leaves : (ch : Series) → Leaves b (pop_kept E ids lines b ch)
     pop_kept_leaves (boxes p) = pop_left p (popping_with E ids lines b p).result.answer refl
@@ -71,11 +69,11 @@ module _ (b : SummaryIndex) where
 
     flip_left : (d : Direction) (p : Parent) (t : ℤ) (a : Flipped) → (flipping_with E ids lines d b p t).result.answer ≡ a
         → Leaves b (with_summaries (set_summary b.summaries p (flipping_with E ids lines d b p t).summary) (after_flip b.index (boxes p) a (flipping_with E ids lines d b p t).result.head (flipping_with E ids lines d b p t).result.staged))
-    flip_left d p t (flipped.Done c) e = tt
-    flip_left d p t (flipped.Refused code) e =
+    flip_left d p t (Ok c) e = tt
+    flip_left d p t (Err code) e =
         let o = flipping_with E ids lines d b p t in
         let s = flip_lines_same E (ids p) b.index.lists.staged_counts b.index.lists.staged b.index.lists.table_counts b.index.lists.table (b.index.parts (boxes p)).head (b.index.parts (boxes p)).places d t (lines p) (b.summaries p) code e in
-        λ i. summary_index (flip_by b.index p (flipped.Refused code) o.result.head o.result.staged (λ k q. (s.0, s.1)) i) (set_back b.summaries p o.summary s.2 i)
+        λ i. summary_index (flip_by b.index p (Err code) o.result.head o.result.staged (λ k q. (s.0, s.1)) i) (set_back b.summaries p o.summary s.2 i)
 
     flip_with_leaves : (d : Direction) (p : Parent) (t : ℤ) → Leaves b (flip_with E ids lines d b p t)
     flip_with_leaves d p t = flip_left d p t (flipping_with E ids lines d b p t).result.answer refl

@@ -11,7 +11,7 @@ use Rattle.buffer_core.specs.Edition.{Edition, good}
 use Rattle.buffer_core.specs.Spills.{spill_read}
 use Rattle.buffer_core.specs.Pop.{Lists}
 use Rattle.buffer_core.specs.Flip.{row_checked}
-use Rattle.index_types.specs.declared.Summarized.{Summarized}
+use Rattle.index_types.specs.Answers.{Summarized}
 use Rattle.summary_core.specs.Lines.{line_of, no_line, put_line, WithSummary}
 use Rattle.summary_core.proofs.LineLaws.{line_at, length_line, line_put_same, line_put_other, length_put_line}
 use Rattle.summary_core.proofs.MakingLaws as Mk

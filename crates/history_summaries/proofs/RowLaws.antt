@@ -12,8 +12,8 @@ use borrow.Author.Tests.{eqb-true}
 use Rattle.stores.specs.Equal.{same_bytes}
 use Rattle.vlq_core.specs.Zigzag.{zig}
 use Rattle.vlq_core.specs.Groups.{groups, enc}
-use Rattle.vlq_core.specs.declared.Got.{Got}
-use Rattle.vlq_core.specs.declared.Got.TheVariants.{Value, Refused}
+use Rattle.std.specs.Prelude.{Ok, Err}
+use Rattle.vlq_core.specs.Answers.{Got}
 use Rattle.vlq_core.specs.Reading.{read_at}
 use Rattle.vlq_core.proofs.ReadLaws.{read_fits}
 use Rattle.segment_id.specs.declared.Kind.{Kind}
@@ -85,8 +85,8 @@ low_read p n s l e = by_limit (leb (length s) (row_limit_of Two)) (read_at 32 s 
     by_limit : (x : Bool) (g : Got) → read_at 32 s number_at ≡ g
         → numbers_of Box (cond x (body_then (λ c at. named (says Two Box p (pos n) s c) (ended true (length s) (segment_at s at))) g) (no_seg 25)) ≡ good l → n < 2147483648
     by_limit false g q e = let w : ◌≡◌ {A = ℕ} 0 1 = cc in absurd (omega arith)
-    by_limit true (Refused r) q e = let w : ◌≡◌ {A = ℕ} 0 1 = cc in absurd (omega arith)
-    by_limit true (Value c at) q e =
+    by_limit true (Err r) q e = let w : ◌≡◌ {A = ℕ} 0 1 = cc in absurd (omega arith)
+    by_limit true (Ok (c, at)) q e =
         by_name c (read_fits 32 s number_at c at (sym q)) (same_bytes (take 32 s) p) (eqb (get_or s 32 0) (kind_byte Box)) (eqb c (2 * n)) refl (ended true (length s) (segment_at s at)) e
 
 -- in edition 1 the spill number is not written

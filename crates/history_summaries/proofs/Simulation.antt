@@ -11,7 +11,7 @@ use lib.IntN.{ℤ, pos, nat_abs}
 use lib.ListN.{length, take, length-take}
 use lib.Seq.{length-take-le}
 use borrow.Author.Tests.{le-leb, eq-eqb}
-use Rattle.index_types.specs.declared.Appended.{Appended}
+use Rattle.index_types.specs.Answers.{Appended}
 use Rattle.entries.specs.Order.{order_ok}
 use Rattle.segment_id.specs.declared.Kind.TheVariants.{Box}
 use Rattle.buffer_core.specs.declared.Direction.{Direction}

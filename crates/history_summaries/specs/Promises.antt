@@ -1,10 +1,8 @@
 -- What is promised of summaries: they stay current, fork undo of the calls with summaries, that the summaries are current after every history, and that with
 -- lines enough a history with summaries is the one without.
-use Rattle.std.specs.Prelude.{◌≡◌, ◌≢◌, List, ℕ, suc, ◌<◌, ℤ, pos, nat_abs, length}
+use Rattle.std.specs.Prelude.{◌≡◌, ◌≢◌, List, ℕ, suc, ◌<◌, ℤ, pos, nat_abs, length, Ok}
 use Rattle.index_types.specs.declared.RowEdition.{RowEdition}
-use Rattle.index_types.specs.declared.Summarized.TheVariants.{Done}
 use Rattle.index_types.specs.declared.Tally.{Tally}
-use Rattle.index_types.specs.declared.Tallied.TheVariants.{Counts}
 use Rattle.buffer_core.specs.declared.Direction.{Direction}
 use Rattle.buffer_core.specs.Edition.{Edition, edition_of}
 use Rattle.summary_core.specs.Lines.{with_summary}
@@ -27,11 +25,11 @@ module _ (E : Edition) (ids : Parent → List ℕ) (lines : Parent → ℕ) wher
 
   -- "head and rows pass the checks of a spend": a tally makes them, of the head and of every row, and is accepted
   abbrev pub Passes : SummaryIndex → Parent → Type 0
-  Passes b q = (t : Tally) × (tallied E ids lines b q ≡ Counts t)
+  Passes b q = (t : Tally) × (tallied E ids lines b q ≡ Ok t)
 
   -- "it equalled the summary made afresh": making it is accepted and changes nothing
   abbrev pub Current : SummaryIndex → Parent → Type 0
-  Current b q = afresh E ids lines b q ≡ with_summary Done (b.summaries q)
+  Current b q = afresh E ids lines b q ≡ with_summary (Ok tt) (b.summaries q)
 
   -- "If it equalled the summary made afresh before an accepted call, it does so after, where .. head and rows pass the checks of a spend each time, and no two
   -- spills share a key": of one parent's summary, from b before the call to c after it

@@ -2,8 +2,8 @@
 -- the very definition that the contract of the public function cites; a call without one is that of the index alone.
 use Rattle.std.specs.Prelude.{◌≡◌, List, ℕ, ◌*◌, ◌≤◌, ℤ, length, take, replicate}
 use Rattle.index_types.specs.Limits.{summary_line}
-use Rattle.index_types.specs.declared.Summarized.{Summarized}
-use Rattle.index_types.specs.declared.Tallied.{Tallied}
+use Rattle.index_types.specs.Answers.{Summarized}
+use Rattle.index_types.specs.Answers.{Tallied}
 use Rattle.buffer_core.specs.declared.Direction.{Direction}
 use Rattle.buffer_core.specs.declared.Direction.TheVariants.{Spend, Unspend}
 use Rattle.buffer_core.specs.Edition.{Edition}

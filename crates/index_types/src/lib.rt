@@ -58,11 +58,7 @@ pub struct HeadCounts {
 }
 
 // The counts of the head and of the staged spills after an append.
-#[derive(Clone, Copy)]
-pub enum Appended {
-    Done(HeadCounts, ListCounts),
-    Refused(u8),
-}
+pub type Appended = Result<(HeadCounts, ListCounts), u8>;
 
 // The number of a box and the number of a transaction; neither takes the other's place.
 #[derive(Clone, Copy)]
@@ -72,31 +68,15 @@ pub struct BoxNumber(pub i64);
 pub struct TxNumber(pub i64);
 
 // The number that was popped, and the counts of the head, of the staged and of the deleted spills after it.
-#[derive(Clone, Copy)]
-pub enum Popped {
-    Number(i64, HeadCounts, ListCounts, ListCounts),
-    Refused(u8),
-}
+pub type Popped = Result<(i64, HeadCounts, ListCounts, ListCounts), u8>;
 
 // The number that was popped, and the counts of the head, of the staged and of the deleted spills after it.
-#[derive(Clone, Copy)]
-pub enum PoppedBox {
-    Number(BoxNumber, HeadCounts, ListCounts, ListCounts),
-    Refused(u8),
-}
+pub type PoppedBox = Result<(BoxNumber, HeadCounts, ListCounts, ListCounts), u8>;
 
-#[derive(Clone, Copy)]
-pub enum PoppedTx {
-    Number(TxNumber, HeadCounts, ListCounts, ListCounts),
-    Refused(u8),
-}
+pub type PoppedTx = Result<(TxNumber, HeadCounts, ListCounts, ListCounts), u8>;
 
 // The counts of the staged spills after a spend or an unspend.
-#[derive(Clone, Copy)]
-pub enum Flipped {
-    Done(ListCounts),
-    Refused(u8),
-}
+pub type Flipped = Result<ListCounts, u8>;
 
 // How many entries are unspent, spent and unknown: above, below and equal to 0.
 #[derive(Clone, Copy)]
@@ -107,67 +87,31 @@ pub struct Tally {
 }
 
 // The figures of a tally.
-#[derive(Clone, Copy)]
-pub enum Tallied {
-    Counts(Tally),
-    Refused(u8),
-}
+pub type Tallied = Result<Tally, u8>;
 
 // A summary was made afresh.
-#[derive(Clone, Copy)]
-pub enum Summarized {
-    Done,
-    Refused(u8),
-}
+pub type Summarized = Result<(), u8>;
 
 // How many numbers stand in a page.
-#[derive(Clone, Copy)]
-pub enum Paged {
-    Numbers(usize),
-    Refused(u8),
-}
+pub type Paged = Result<usize, u8>;
 
 // The counts of the table, the staged and the deleted spills after a flush.
-#[derive(Clone, Copy)]
-pub enum Flushed {
-    Done(ListCounts, ListCounts, ListCounts),
-    Refused(u8),
-}
+pub type Flushed = Result<(ListCounts, ListCounts, ListCounts), u8>;
 
 // How many numbers stand in a flat list after an append, a spend or an unspend.
-#[derive(Clone, Copy)]
-pub enum FlatChanged {
-    Done(usize),
-    Refused(u8),
-}
+pub type FlatChanged = Result<usize, u8>;
 
 // The number that was popped from a flat list, and how many stand in it after.
-#[derive(Clone, Copy)]
-pub enum FlatPopped {
-    Number(BoxNumber, usize),
-    Refused(u8),
-}
+pub type FlatPopped = Result<(BoxNumber, usize), u8>;
 
 // A signed 64-bit number that was read and the position after it, or the refusal code.
-#[derive(Clone, Copy)]
-pub enum Long {
-    Number(i64, usize),
-    Refused(u8),
-}
+pub type Long = Result<(i64, usize), u8>;
 
 // A signed 32-bit number that was read and the position after it, or the refusal code.
-#[derive(Clone, Copy)]
-pub enum Int {
-    Number(i32, usize),
-    Refused(u8),
-}
+pub type Int = Result<(i32, usize), u8>;
 
 // What a writer answers: the position after the bytes that it wrote, or the refusal code.
-#[derive(Clone, Copy)]
-pub enum Wrote {
-    Next(usize),
-    Refused(u8),
-}
+pub type Wrote = Result<usize, u8>;
 
 // A segment that was read: how many transactions and boxes, the spill counts, and the position after it; or the refusal code.
 #[derive(Clone, Copy)]
@@ -191,11 +135,7 @@ pub struct SpillCounts {
 }
 
 // The largest number of staged rows and of deleted keys at any one time, or the number that ended the trial.
-#[derive(Clone, Copy)]
-pub enum TriedForks {
-    Figures(usize, usize),
-    Refused(u8),
-}
+pub type TriedForks = Result<(usize, usize), u8>;
 
 // How the first of two values stands to the second.
 #[derive(Clone, Copy)]
@@ -218,18 +158,7 @@ pub struct AddressCounts {
 }
 
 // How two addresses rank, or the refusal code.
-#[derive(Clone, Copy)]
-pub enum Ranked {
-    Ranks(Order),
-    Refused(u8),
-}
-
-// Nothing is missing, or the row of a spill number, whose key is `segment_id::row_key` of it.
-#[derive(Clone, Copy)]
-pub enum Missing {
-    Nothing,
-    Spill(usize),
-}
+pub type Ranked = Result<Order, u8>;
 
 // How far a batch of a driver's calls has come: the counts of the lists, the next byte, the calls made, the journal's bytes and its standing calls, and how it
 // ended: one of the numbers above; the refusal 12, 16, 21 or 22 that the call at the next byte said, which the driver lifts; 31 at what is no call; or 25 where

@@ -3,7 +3,7 @@ use Prim.Native.Nat.{ℕ, zero, suc, ◌+◌, ◌-◌, ◌*◌, ◌<◌, ◌≤�
 use native.Mathlib.Omega.{arith}
 use native.Mathlib.Nat.{le_refl}
 use mathlib.Core.Path.{◌≡◌, refl, sym, subst, ◌∙◌}
-use mathlib.Core.Bool.{Bool, true, false, cond, ◌&&◌}
+use mathlib.Core.Bool.{Bool, true, false, cond}
 use mathlib.Core.List.{List, [], ◌∷◌}
 use lib.ListN.{length, get_or, set, length-set}
 use lib.Dec.{ltb}
@@ -13,8 +13,8 @@ use borrow.Author.Tests.{ltb-true, ltb-false}
 use Rattle.signed.specs.Checked.{checked}
 use Rattle.signed.proofs.SignedLaws.{natAbs_mag, natAbs_neg, checked_is}
 use Rattle.balance_tokens.specs.Tokens.{Held, Changed, held, refused_by, id_at, place_of, closed_up, with_amount, with_token, without_token, sum_at, difference_at, add_token, subtract_token, change_token, and_then, change_tokens, left_in}
-use Rattle.balance_tokens.specs.declared.Counted.{Counted}
-use Rattle.balance_tokens.specs.declared.Counted.TheVariants as counted
+use Rattle.std.specs.Prelude.{Ok, Err}
+use Rattle.balance_tokens.specs.Answers.{Counted}
 use Rattle.balance.specs.Parts.{Small, Passed, Kept}
 use Rattle.balance_tokens.proofs.CloseLaws.{closed_length, closed_lo, closed_hi}
 
@@ -164,20 +164,8 @@ module _ (adding : Bool) (ids : List ℕ) (amounts : List ℤ) where
       (record { few = f; long = l; room = r; below = λ k q. natAbs_mag (get_or sums k (pos 0)) 4611686018427387904 (t k q) })
       (λ k p q. s k (omega arith)) (omega arith)
 
--- ---- the pass over the amounts: a turn, where s is what it found so far and m the absolute value of number i
-
-pub small_turn : (bound : ℕ) (l : List ℤ) (i m : ℕ) (s : Bool) → (s ≡ true → Small bound l i) → m ≡ nat_abs (get_or l i (pos 0)) → s && ltb m bound ≡ true → Small bound l (i + 1)
-small_turn bound l i m false h em e k q = let z : ◌≡◌ {A = ℕ} 0 1 = cc in absurd (omega arith)
-small_turn bound l i m true h em e k q = by_place (ltb k i) refl
-  where
-    by_place : (t : Bool) → ltb k i ≡ t → nat_abs (get_or l k (pos 0)) < bound
-    by_place true f = h refl k (ltb-true k i f)
-    by_place false f =
-        let o : k ≡ i = omega (arith, ltb-false k i f) in
-        rw (o, ← em) (ltb-true m bound e)
-
 -- ---- where no token was refused, the arrays left are those of what is held
 
 pub kept : (r : Counted) (ids : List ℕ) (amounts : List ℤ) (ids' : List ℕ) (amounts' : List ℤ) (x : Changed) → left_in r ids' amounts' ≡ x → Passed x → Kept r ids amounts ids' amounts' x
-kept (counted.Count n) ids amounts ids' amounts' x e p = e
-kept (counted.Refused code) ids amounts ids' amounts' x e p = absurd (subst Passed (sym e) p)
+kept (Ok n) ids amounts ids' amounts' x e p = e
+kept (Err code) ids amounts ids' amounts' x e p = absurd (subst Passed (sym e) p)

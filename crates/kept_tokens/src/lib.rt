@@ -15,12 +15,8 @@ fn all_small(numbers: &[i64], n: usize, bound: u64) -> bool
     ensures { result ≡ true → Small bound numbers.now n }
 {
     let mut small = true;
-    let mut i = 0;
-    while i < n {
-        let x = numbers[i];
-        let size = signed::magnitude(x);
-        small = small & (size < bound);
-        i += 1;
+    for &x in &numbers[..n] {
+        small &= signed::magnitude(x) < bound;
     }
     small
 }
@@ -72,12 +68,12 @@ fn change_copies(
         amounts,
         n,
     ) {
-        Counted::Count(m) => {
+        Ok(m) => {
             stores::copy_bytes(table, 0, &new_table);
             stores::copy_numbers(sums, 0, &new_sums);
-            Counted::Count(m)
+            Ok(m)
         }
-        Counted::Refused(code) => Counted::Refused(code),
+        Err(code) => Err(code),
     }
 }
 

@@ -5,14 +5,11 @@ use mathlib.Core.List.{List}
 use native.Mathlib.Omega.{arith}
 use borrow.Rule.Slice.PartMut.{put_same}
 use lib.IntN.{ℤ}
-use Rattle.index_types.specs.declared.Appended.{Appended}
-use Rattle.index_types.specs.declared.Appended.TheVariants as appended
-use Rattle.index_types.specs.declared.Popped.{Popped}
-use Rattle.index_types.specs.declared.Popped.TheVariants as popped
-use Rattle.index_types.specs.declared.Flipped.{Flipped}
-use Rattle.index_types.specs.declared.Flipped.TheVariants as flipped
-use Rattle.index_types.specs.declared.Flushed.{Flushed}
-use Rattle.index_types.specs.declared.Flushed.TheVariants as flushed
+use Rattle.std.specs.Prelude.{Ok, Err}
+use Rattle.index_types.specs.Answers.{Appended}
+use Rattle.index_types.specs.Answers.{Popped}
+use Rattle.index_types.specs.Answers.{Flipped}
+use Rattle.index_types.specs.Answers.{Flushed}
 use Rattle.segment_id.specs.declared.Kind.{Kind}
 use Rattle.segment_id.specs.declared.Kind.TheVariants.{Box}
 use Rattle.buffer_core.specs.declared.Direction.{Direction}
@@ -38,38 +35,38 @@ module _ (s : State) where
     put_head : (head : List ℤ) → head ≡ head_of k p s.numbers → Rattle.call_steps.specs.State.with_head k p head s.numbers ≡ s.numbers
     put_head head e = ap (λ (h : List ℤ). Rattle.call_steps.specs.State.with_head k p h s.numbers) e ∙ put_same (head_at k p) 512 s.numbers
 
-    append_left : (a : Appended) (head : List ℤ) (staged : List ℕ) → ((code : ℕ) → a ≡ appended.Refused code → (head ≡ head_of k p s.numbers) × (staged ≡ s.lists.staged))
+    append_left : (a : Appended) (head : List ℤ) (staged : List ℕ) → ((code : ℕ) → a ≡ Err code → (head ≡ head_of k p s.numbers) × (staged ≡ s.lists.staged))
         → Left s (of_append (appended_by (record { answer = a; head = head; staged = staged }) k p (counts_in s.lists) s.numbers s.lengths s.spills) s)
-    append_left (appended.Done h c) head staged q z = absurd (omega (arith, z))
-    append_left (appended.Refused code) head staged q z =
+    append_left (Ok (h, c)) head staged q z = absurd (omega (arith, z))
+    append_left (Err code) head staged q z =
         let l = q code refl in
         let n = put_head head l.0 in
         λ i. state s.ids (n i) s.lengths s.spills (lists s.lists.staged_counts (l.1 i) s.lists.table_counts s.lists.table s.lists.deleted_counts s.lists.deleted)
 
     pop_left : (a : Popped) (head : List ℤ) (staged deleted : List ℕ)
-        → ((code : ℕ) → a ≡ popped.Refused code → (head ≡ head_of k p s.numbers) × (staged ≡ s.lists.staged) × (deleted ≡ s.lists.deleted))
+        → ((code : ℕ) → a ≡ Err code → (head ≡ head_of k p s.numbers) × (staged ≡ s.lists.staged) × (deleted ≡ s.lists.deleted))
         → Left s (of_pop (popped_by (record { answer = a; head = head; staged = staged; deleted = deleted }) k p (counts_in s.lists) s.numbers s.lengths s.spills) s)
-    pop_left (popped.Number y h c d) head staged deleted q z = absurd (omega (arith, z))
-    pop_left (popped.Refused code) head staged deleted q z =
+    pop_left (Ok (y, h, c, d)) head staged deleted q z = absurd (omega (arith, z))
+    pop_left (Err code) head staged deleted q z =
         let l = q code refl in
         let n = put_head head l.0 in
         λ i. state s.ids (n i) s.lengths s.spills (lists s.lists.staged_counts (l.1 i) s.lists.table_counts s.lists.table s.lists.deleted_counts (l.2 i))
 
   -- ---- spend and unspend
-  flip_left : (p : ℕ) (a : Flipped) (head : List ℤ) (staged : List ℕ) → ((code : ℕ) → a ≡ flipped.Refused code → (head ≡ head_of Box p s.numbers) × (staged ≡ s.lists.staged))
+  flip_left : (p : ℕ) (a : Flipped) (head : List ℤ) (staged : List ℕ) → ((code : ℕ) → a ≡ Err code → (head ≡ head_of Box p s.numbers) × (staged ≡ s.lists.staged))
       → Left s (of_flip (flipped_by (record { answer = a; head = head; staged = staged }) p (counts_in s.lists) s.numbers) s)
-  flip_left p (flipped.Done c) head staged q z = absurd (omega (arith, z))
-  flip_left p (flipped.Refused code) head staged q z =
+  flip_left p (Ok c) head staged q z = absurd (omega (arith, z))
+  flip_left p (Err code) head staged q z =
       let l = q code refl in
       let n = put_head Box p head l.0 in
       λ i. state s.ids (n i) s.lengths s.spills (lists s.lists.staged_counts (l.1 i) s.lists.table_counts s.lists.table s.lists.deleted_counts s.lists.deleted)
 
   -- ---- flush
   flush_left : (a : Flushed) (table staged deleted : List ℕ)
-      → ((code : ℕ) → a ≡ flushed.Refused code → (table ≡ s.lists.table) × (staged ≡ s.lists.staged) × (deleted ≡ s.lists.deleted))
+      → ((code : ℕ) → a ≡ Err code → (table ≡ s.lists.table) × (staged ≡ s.lists.staged) × (deleted ≡ s.lists.deleted))
       → Left s (of_flush (flushed_by (record { answer = a; table = table; staged = staged; deleted = deleted }) (counts_in s.lists)) s)
-  flush_left (flushed.Done t c d) table staged deleted q z = absurd (omega (arith, z))
-  flush_left (flushed.Refused code) table staged deleted q z =
+  flush_left (Ok (t, c, d)) table staged deleted q z = absurd (omega (arith, z))
+  flush_left (Err code) table staged deleted q z =
       let l = q code refl in
       λ i. state s.ids s.numbers s.lengths s.spills (lists s.lists.staged_counts (l.1 i) s.lists.table_counts (l.0 i) s.lists.deleted_counts (l.2 i))
 

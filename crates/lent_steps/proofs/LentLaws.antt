@@ -8,8 +8,8 @@ use native.Mathlib.Omega.{arith}
 use native.Mathlib.Nat.{mul-le-mul_right}
 use lib.IntN.{ℤ}
 use lib.ListN.{length, take}
-use Rattle.refusal.specs.declared.Answer.{Answer}
-use Rattle.refusal.specs.declared.Answer.TheVariants as answer
+use Rattle.std.specs.Prelude.{Ok, Err}
+use Rattle.refusal.specs.Answers.{Answer}
 use Rattle.balance.specs.Boxes.{change_box}
 use Rattle.index_types.specs.declared.ListCounts.{ListCounts}
 use Rattle.segment_id.specs.declared.Kind.TheVariants.{Box, Tx}
@@ -168,8 +168,8 @@ module _ (parents : ℕ) (w t : State) (L : Lent parents w t) where
       (box_coded (λ (r : ℕ). may_be_lifted r ≡ false) refl refl refl adding b n (token_ids ts) (token_amounts ts) (length ts))
     where
       by : (x : Answer) → AnswerHas (λ (r : ℕ). may_be_lifted r ≡ false) x → may_be_lifted (said_by x).code ≡ false
-      by answer.Accepted k = refl
-      by (answer.Refused r) k = k
+      by (Ok tt) k = refl
+      by (Err r) k = k
 
   changed : (adding : Bool) (p : ℕ) → p < parents → (n : ℤ) (ts : Tokens) → table.Outcome parents m t (change_with adding p n ts m) (change_with adding p n ts t)
       → Out (change_with adding p n ts w) (change_with adding p n ts t)

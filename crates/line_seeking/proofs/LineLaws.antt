@@ -1,5 +1,5 @@
 -- Laws of looking over the lines for the row that is missing: a row that shows something is there, a line that is passed over asks for none; one law for each way out.
-use Prim.Native.Nat.{ℕ, zero, suc, ◌-◌, ◌<◌, ◌≤◌}
+use Prim.Native.Nat.{ℕ, suc, ◌-◌, ◌<◌, ◌≤◌}
 use mathlib.Core.Path.{◌≡◌, refl, sym, ap, ◌∙◌}
 use mathlib.Core.Bool.{Bool, true, false, cond}
 use mathlib.Core.List.{List, [], ◌∷◌}
@@ -13,23 +13,20 @@ use Rattle.entries.specs.Flip.{position}
 use Rattle.entries.specs.declared.Position.{Position}
 use Rattle.entries.specs.declared.Position.TheVariants.{At, Seen, Absent}
 use Rattle.segment_id.specs.declared.Kind.TheVariants.{Box}
-use Rattle.index_types.specs.declared.Missing.{Missing}
-use Rattle.index_types.specs.declared.Missing.TheVariants.{Nothing}
+use Rattle.std.specs.Prelude.{Option, None, Ok, Err}
 use Rattle.buffer_core.specs.declared.Look.{Look}
 use Rattle.buffer_core.specs.declared.Look.TheVariants.{Take, Stop, Next, Fail}
-use Rattle.buffer_core.specs.declared.Low.{Low}
-use Rattle.buffer_core.specs.declared.Low.TheVariants.{Upto}
+use Rattle.buffer_core.specs.Answers.{Low}
 use Rattle.buffer_core.specs.Edition.{Edition, RowRead}
 use Rattle.buffer_core.specs.Spills.{Sources, sources}
 use Rattle.buffer_core.specs.Flip.{look_by, row_checked, search_in}
-use Rattle.spill_rows.specs.declared.Read.{Read}
-use Rattle.spill_rows.specs.declared.Read.TheVariants.{Good, Faulty}
+use Rattle.spill_rows.specs.Answers.{Read}
 use Rattle.spill_rows.specs.Internal.{CheckedInto}
 use Rattle.spill_rows.proofs.CheckedLaws.{nope, faulty}
 use Rattle.summary_core.specs.Lines.{at_line}
 use Rattle.summary_core.specs.Flip.{line_lead, look_in_row, line_look}
 use Rattle.working_set.specs.Part.{lacks}
-use Rattle.working_set.specs.Reads.{Need, nothing, need, first_missing, look_reads, walk_reads}
+use Rattle.working_set.specs.Reads.{Need, nothing, first_missing, look_reads, walk_reads}
 use Rattle.working_set.proofs.CallLaws.{checked_12}
 use Rattle.working_summaries.specs.Reads.{passed_over, searched, line_reads, below_reads, in_lines_reads}
 use Rattle.row_seeking.specs.Seeking.{told, among}
@@ -58,10 +55,10 @@ module _ (zs : List ℤ) (first target : ℕ) (d : Bool) (n : length zs ≡ 512)
 
 -- x is the checked row
 module _ (x : RowRead) (r : Read) (out : List ℤ) (s : CheckedInto x r out) (target : ℕ) (d ends : Bool) where
-  pub row_good : r ≡ Good → (l : Look) → l ≡ look_by (position d target out 0 false) ends → l ≡ look_in_row x target d ends
+  pub row_good : r ≡ (Ok tt) → (l : Look) → l ≡ look_by (position d target out 0 false) ends → l ≡ look_in_row x target d ends
   row_good e l p = rw (s.numbers e) p
 
-  pub row_bad : (code : ℕ) → r ≡ Faulty code → Fail code ≡ look_in_row x target d ends
+  pub row_bad : (code : ℕ) → r ≡ Err code → Fail code ≡ look_in_row x target d ends
   row_bad code e = rw (faulty x r out s code e)
 
 -- ---- what a line shows
@@ -118,7 +115,7 @@ module _ (E : Edition) (parent staged : List ℕ) (s : ℕ) (work : List ℕ) (t
   line_turn n x e = one_line m (passed_over S target) n (walk_reads (line_look E w S target d) n) (passed_over S target n) (in_row (row_checked E w n) n) x e (shown n)
 
   -- as the loop cites them: r is what a local holds of the line
-  abbrev downward : ℕ → Missing
+  abbrev downward : ℕ → Option ℕ
   downward k = among E Box w (line_reads E w S target d k)
 
   module _ (low : ℕ) where
@@ -130,20 +127,20 @@ module _ (E : Edition) (parent staged : List ℕ) (s : ℕ) (work : List ℕ) (t
       unfolding line_reads
       down_goes b q = above ∙ ap told (line_turn (low - 1) (Next b) (sym e ∙ q))
 
-      pub down_takes : (i : ℕ) → r ≡ Take i → Nothing ≡ downward low
+      pub down_takes : (i : ℕ) → r ≡ Take i → None ≡ downward low
       down_takes i q = sym (above ∙ ap told (line_turn (low - 1) (Take i) (sym e ∙ q)))
 
-      pub down_stops : (b : Bool) → r ≡ Stop b → Nothing ≡ downward low
+      pub down_stops : (b : Bool) → r ≡ Stop b → None ≡ downward low
       down_stops b q = sym (above ∙ ap told (line_turn (low - 1) (Stop b) (sym e ∙ q)))
 
       pub down_asks : (c : ℕ) → r ≡ Fail c → among E Box w ((low - 1) ∷ []) ≡ downward low
       down_asks c q = sym (above ∙ ap told (line_turn (low - 1) (Fail c) (sym e ∙ q)))
 
-    pub down_ends : low ≤ 0 → Nothing ≡ downward low
+    pub down_ends : low ≤ 0 → None ≡ downward low
     unfolding line_reads walk_reads searched first_missing
     down_ends h = let e : low ≡ 0 = omega arith in rw e
 
   -- behind the halving
-  pub sought : (spills low : ℕ) → Upto low ≡ search_in (line_lead S) target 0 spills → (r : Missing) → r ≡ downward low → r ≡ among E Box w (in_lines_reads E w S target d spills)
+  pub sought : (spills low : ℕ) → Ok low ≡ search_in (line_lead S) target 0 spills → (r : Option ℕ) → r ≡ downward low → r ≡ among E Box w (in_lines_reads E w S target d spills)
   unfolding in_lines_reads
   sought spills low q r e = e ∙ ap (λ (x : Low). among E Box w (below_reads E w S target d x)) q

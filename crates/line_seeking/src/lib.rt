@@ -16,9 +16,8 @@ ghost use Rattle.row_seeking.specs.Internal.{WorkReady};
 
 use buffer_core::Look;
 use entries::Position;
-use index_types::{Missing, RowEdition, SEGMENT_THRESHOLD};
+use index_types::{RowEdition, SEGMENT_THRESHOLD};
 use segment_id::Kind;
-use spill_rows::Read;
 
 // What the numbers of a row show, which are in order. `first` is the first absolute value of the row's line.
 fn look_by(row: &[i64], first: u64, target: u64, spend: bool) -> Look
@@ -75,8 +74,8 @@ fn look_in_row<'a>(
         &mut row,
     );
     match read {
-        Read::Good => look_by(&row, first, target, spend),
-        Read::Faulty(code) => Look::Fail(code),
+        Ok(()) => look_by(&row, first, target, spend),
+        Err(code) => Look::Fail(code),
     }
 }
 
@@ -131,15 +130,13 @@ fn seek_below<'a>(
     target: u64,
     spend: bool,
     from: usize,
-) -> Missing
+) -> Option<usize>
     requires { WorkReady edition (sources parent.now staged.now staged_count table.now table_count) × (from < 2147483648)
         × (from * summary_line ≤ length summary.now) }
     ensures { result ≡ among (edition_of edition) Box (sources parent.now staged.now staged_count table.now table_count)
         (line_reads (edition_of edition) (sources parent.now staged.now staged_count table.now table_count) summary.now target spend from) }
 {
-    let mut low = from;
-    while 0 < low {
-        low -= 1;
+    for low in (0..from).rev() {
         let look = look_line(
             edition,
             parent,
@@ -155,10 +152,10 @@ fn seek_below<'a>(
         );
         match look {
             Look::Take(_) => {
-                return Missing::Nothing;
+                return None;
             }
             Look::Stop(_) => {
-                return Missing::Nothing;
+                return None;
             }
             Look::Next(_) => {}
             Look::Fail(_) => {
@@ -176,7 +173,7 @@ fn seek_below<'a>(
             }
         }
     }
-    Missing::Nothing
+    None
 }
 
 // The first missing row of the walk behind the halving over the lines, which reads none.
@@ -192,7 +189,7 @@ pub fn seek_lines<'a>(
     target: u64,
     spend: bool,
     spills: usize,
-) -> Missing
+) -> Option<usize>
     requires { WorkReady edition (sources parent.now staged.now staged_count table.now table_count) × (spills < 2147483648)
         × (spills * summary_line ≤ length summary.now) }
     ensures { result ≡ among (edition_of edition) Box (sources parent.now staged.now staged_count table.now table_count)

@@ -22,7 +22,7 @@ use Rattle.load_core.specs.declared.Source.{Source}
 use Rattle.load_core.specs.declared.Drawn.{Drawn}
 use Rattle.load_core.specs.Draw.{draws, calls_from, source_after}
 use Rattle.load_core.proofs.DrawLaws.{drawn_is, grows}
-use Rattle.load.specs.declared.Generated.TheVariants.{Written, Refused}
+use Rattle.std.specs.Prelude.{Ok, Err}
 use Rattle.load.specs.Bytes.{append_byte, flip_byte, numbered, call_bytes, all_bytes, load_bytes}
 use Rattle.load.specs.Generated.{generated, written_from, generated_from, most_counted, go_on_of}
 use Rattle.load.specs.Internal.{Countable}
@@ -143,24 +143,24 @@ module _ (n₀ : ℕ) (g₀ : Source) (out₀ : List ℕ) where
     writing_turn h r e at' out' l =
         subst (λ (x : Drawn). Put (call_bytes x.call) out at at' out' → Writing n₀ g₀ out₀ (n - 1) x.next out' at') (sym e) (turned h at' out' l)
 
-    pub writing_end : n ≤ 0 → generated (Written at g) out ≡ written_from n₀ g₀ out₀
+    pub writing_end : n ≤ 0 → generated (Ok (at, g)) out ≡ written_from n₀ g₀ out₀
     writing_end h =
         let z = none_left n g h in
         let size : at ≡ length (load_bytes n₀ g₀) = omega (arith, w.size, ap length z.0) in
         let source : g ≡ source_after n₀ g₀ = sym (w.after ∙ z.1) in
         let bytes : out ≡ write 0 (load_bytes n₀ g₀) out₀
         = sym (sym (sets_write (load_bytes n₀ g₀) out₀ 0 (omega (arith, w.room))) ∙ w.bytes ∙ ap (sets out at) z.0) in
-        λ i. generated (Written (size i) (source i)) (bytes i)
+        λ i. generated (Ok (size i, source i)) (bytes i)
 
 -- ---- each way out
 
 module _ (n : ℕ) (g : Source) (out : List ℕ) where
-  pub generated_38 : g.state ≡ 0 → generated (Refused 38) out ≡ generated_from n g out
+  pub generated_38 : g.state ≡ 0 → generated (Err 38) out ≡ generated_from n g out
   unfolding generated_from
   generated_38 h = simp (eq-eqb _ _ h)
 
   module _ (s : g.state ≡ 0 → ⊥) where
-    pub generated_32 : leb (length (load_bytes n g)) (length out) ≡ false → generated (Refused 32) out ≡ generated_from n g out
+    pub generated_32 : leb (length (load_bytes n g)) (length out) ≡ false → generated (Err 32) out ≡ generated_from n g out
     unfolding generated_from
     generated_32 h = simp (ne_eqb _ _ s, h)
 
@@ -168,12 +168,12 @@ module _ (n : ℕ) (g : Source) (out : List ℕ) where
     unfolding generated_from
     generated_all h = simp (ne_eqb _ _ s, h)
 
-  pub go_on_boxes : most_counted < g.boxes → generated (Refused 25) out ≡ go_on_of n g out
+  pub go_on_boxes : most_counted < g.boxes → generated (Err 25) out ≡ go_on_of n g out
   unfolding go_on_of
   go_on_boxes h = simp (lt-leb _ _ h)
 
   module _ (b : g.boxes ≤ most_counted) where
-    pub go_on_txs : most_counted < g.txs → generated (Refused 25) out ≡ go_on_of n g out
+    pub go_on_txs : most_counted < g.txs → generated (Err 25) out ≡ go_on_of n g out
     unfolding go_on_of
     go_on_txs h = simp (le-leb _ _ b, lt-leb _ _ h)
 

@@ -12,8 +12,8 @@ use borrow.Author.Tests.{le-leb, leb-true, eqb-false}
 use Rattle.stores.specs.Stores.{write}
 use Rattle.load_core.specs.declared.Source.{Source}
 use Rattle.load_core.specs.Draw.{source, draws, calls_from, source_after}
-use Rattle.load.specs.declared.Generated.{Generated}
-use Rattle.load.specs.declared.Generated.TheVariants.{Written, Refused}
+use Rattle.std.specs.Prelude.{Ok, Err}
+use Rattle.load.specs.Answers.{Generated}
 use Rattle.load.specs.Bytes.{call_bytes, all_bytes, load_bytes}
 use Rattle.load.specs.Generated.{Generating, generated, written_from, generated_from, generate_load_of, counts_ok, go_on_of}
 use Rattle.load.proofs.LoadLaws.{generated_all}
@@ -45,11 +45,11 @@ pub record Accepted (n : ℕ) (g : Source) (out : List ℕ) (k : ℕ) (after : S
   pub front : take k out' ≡ load_bytes n g
 
 abbrev is_written : Generated → Bool
-is_written (Written n g) = true
-is_written (Refused code) = false
+is_written (Ok (n, g)) = true
+is_written (Err code) = false
 
 -- a refusal is no load
-never_written : (code : ℕ) (out : List ℕ) (k : ℕ) (after : Source) (out' : List ℕ) → generated (Refused code) out ≡ generated (Written k after) out' → ⊥
+never_written : (code : ℕ) (out : List ℕ) (k : ℕ) (after : Source) (out' : List ℕ) → generated (Err code) out ≡ generated (Ok (k, after)) out' → ⊥
 never_written code out k after out' q =
     let b : false ≡ true = ap (λ (x : Generating). is_written x.answer) q in
     subst (λ (t : Bool). cond t ⊥ (Unit {0})) b tt
@@ -57,19 +57,19 @@ never_written code out k after out' q =
 module _ (n : ℕ) (g : Source) (out : List ℕ) (k : ℕ) (after : Source) (out' : List ℕ) where
   -- the number of bytes and the generator of an answer, and 0 and another where it is a refusal
   abbrev bytes_of : Generated → ℕ
-  bytes_of (Written n g) = n
-  bytes_of (Refused code) = 0
+  bytes_of (Ok (n, g)) = n
+  bytes_of (Err code) = 0
 
   abbrev source_of : Generated → Source
-  source_of (Written n g) = g
-  source_of (Refused code) = g
+  source_of (Ok (n, g)) = g
+  source_of (Err code) = g
 
-  pub accepted : generated_from n g out ≡ generated (Written k after) out' → Accepted n g out k after out'
+  pub accepted : generated_from n g out ≡ generated (Ok (k, after)) out' → Accepted n g out k after out'
   unfolding generated_from write
   accepted e = by_state (eqb g.state 0) refl e
     where
       by_room : (g.state ≡ 0 → ⊥) → (t : Bool) → leb (length (load_bytes n g)) (length out) ≡ t
-          → cond t (written_from n g out) (generated (Refused 32) out) ≡ generated (Written k after) out' → Accepted n g out k after out'
+          → cond t (written_from n g out) (generated (Err 32) out) ≡ generated (Ok (k, after)) out' → Accepted n g out k after out'
       by_room s true h q =
           let size : k ≡ length (load_bytes n g) = sym (ap (λ (x : Generating). bytes_of x.answer) q) in
           let bytes : out' ≡ load_bytes n g ++ drop k out
@@ -86,27 +86,27 @@ module _ (n : ℕ) (g : Source) (out : List ℕ) (k : ℕ) (after : Source) (out
       by_room s false h q = absurd (never_written 32 out k after out' q)
 
       by_state : (t : Bool) → eqb g.state 0 ≡ t
-          → cond t (generated (Refused 38) out) (cond (leb (length (load_bytes n g)) (length out)) (written_from n g out) (generated (Refused 32) out)) ≡ generated (Written k after) out'
+          → cond t (generated (Err 38) out) (cond (leb (length (load_bytes n g)) (length out)) (written_from n g out) (generated (Err 32) out)) ≡ generated (Ok (k, after)) out'
           → Accepted n g out k after out'
       by_state true h q = absurd (never_written 38 out k after out' q)
       by_state false h q = by_room (eqb-false g.state 0 h) (leb (length (load_bytes n g)) (length out)) refl q
 
 -- what goes on is refused by 25, or written from where it stands
 pub go_on_is : (n : ℕ) (g : Source) (out : List ℕ) (k : ℕ) (after : Source) (out' : List ℕ)
-    → go_on_of n g out ≡ generated (Written k after) out' → generated_from n g out ≡ generated (Written k after) out'
+    → go_on_of n g out ≡ generated (Ok (k, after)) out' → generated_from n g out ≡ generated (Ok (k, after)) out'
 unfolding go_on_of
 go_on_is n g out k after out' e = by_counts (counts_ok g) e
   where
-    by_counts : (t : Bool) → cond t (generated_from n g out) (generated (Refused 25) out) ≡ generated (Written k after) out'
-        → generated_from n g out ≡ generated (Written k after) out'
+    by_counts : (t : Bool) → cond t (generated_from n g out) (generated (Err 25) out) ≡ generated (Ok (k, after)) out'
+        → generated_from n g out ≡ generated (Ok (k, after)) out'
     by_counts true q = q
     by_counts false q = absurd (never_written 25 out k after out' q)
 
 -- ---- two pieces are the whole: the second is written behind the first
 
 pub pieces : (n m : ℕ) (g after after' : Source) (out out' rest : List ℕ) (a b : ℕ)
-    → generated_from n g out ≡ generated (Written a after) out' → generated_from m after (drop a out') ≡ generated (Written b after') rest
-    → generated_from (n + m) g out ≡ generated (Written (a + b) after') (take a out' ++ rest)
+    → generated_from n g out ≡ generated (Ok (a, after)) out' → generated_from m after (drop a out') ≡ generated (Ok (b, after')) rest
+    → generated_from (n + m) g out ≡ generated (Ok (a + b, after')) (take a out' ++ rest)
 unfolding write
 pieces n m g after after' out out' rest a b e f =
     let x = accepted n g out a after out' e in
@@ -125,10 +125,10 @@ pieces n m g after after' out out' rest a b e f =
     let bytes : load_bytes (n + m) g ++ drop (0 + length (load_bytes (n + m) g)) out ≡ take a out' ++ rest
     = (λ i. both i ++ tail i) ∙ append_assoc first second (drop b (drop a out'))
     ∙ sym (λ i. x.front i ++ (y.bytes ∙ ap (λ (l : List ℕ). l ++ drop b (drop a out')) next) i) in
-    sym (generated_all (n + m) g out x.started (le-leb _ _ room)) ∙ (λ i. generated (Written (sum i) (source i)) (bytes i))
+    sym (generated_all (n + m) g out x.started (le-leb _ _ room)) ∙ (λ i. generated (Ok (sum i, source i)) (bytes i))
 
 -- the same of the public calls
 pub whole : (n m x : ℕ) (after after' : Source) (out out' rest : List ℕ) (a b : ℕ)
-    → generate_load_of n x out ≡ generated (Written a after) out' → go_on_of m after (drop a out') ≡ generated (Written b after') rest
-    → generate_load_of (n + m) x out ≡ generated (Written (a + b) after') (take a out' ++ rest)
+    → generate_load_of n x out ≡ generated (Ok (a, after)) out' → go_on_of m after (drop a out') ≡ generated (Ok (b, after')) rest
+    → generate_load_of (n + m) x out ≡ generated (Ok (a + b, after')) (take a out' ++ rest)
 whole n m x after after' out out' rest a b e f = pieces n m (source x 0 0) after after' out out' rest a b e (go_on_is m after (drop a out') b after' rest f)

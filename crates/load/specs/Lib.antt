@@ -2,3 +2,4 @@
 pub mod Bytes
 pub mod Generated
 pub mod Internal
+pub mod Answers

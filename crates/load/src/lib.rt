@@ -20,11 +20,7 @@ const PARENT: u8 = 0;
 const FLUSH: u8 = 7;
 
 // The bytes written, and the generator after them.
-#[derive(Clone, Copy)]
-pub enum Generated {
-    Written(usize, Source),
-    Refused(u8),
-}
+pub type Generated = Result<(usize, Source), u8>;
 
 // ---- one call
 
@@ -82,9 +78,8 @@ fn fits(g: Source, count: u64, room: usize) -> bool
     ensures { result ≡ leb (length (load_bytes count g)) room }
 {
     let mut source = g;
-    let mut left = count;
     let mut free = room;
-    while 0 < left {
+    for _ in 0..count {
         let d = load_core::next_call(source);
         let call = d.call;
         let next = d.next;
@@ -94,7 +89,6 @@ fn fits(g: Source, count: u64, room: usize) -> bool
         }
         free -= n;
         source = next;
-        left -= 1;
     }
     true
 }
@@ -105,17 +99,15 @@ fn write_calls(g: Source, count: u64, out: &mut [u8]) -> Generated
     ensures { generated result out.new ≡ written_from count g out.old }
 {
     let mut source = g;
-    let mut left = count;
     let mut at = 0;
-    while 0 < left {
+    for _ in 0..count {
         let d = load_core::next_call(source);
         let call = d.call;
         let next = d.next;
         at = put_call(call, out, at);
         source = next;
-        left -= 1;
     }
-    Generated::Written(at, source)
+    Ok((at, source))
 }
 
 // 38, then 32 by the exact bytes, then the calls.
@@ -124,12 +116,12 @@ fn generate(g: Source, count: u64, out: &mut [u8]) -> Generated
     ensures { generated result out.new ≡ generated_from count g out.old }
 {
     if g.state == 0 {
-        return Generated::Refused(refusal::STATE_IS_ZERO);
+        return Err(refusal::STATE_IS_ZERO);
     }
     if fits(g, count, out.len()) {
         return write_calls(g, count, out);
     }
-    Generated::Refused(refusal::OUTPUT_TOO_SHORT)
+    Err(refusal::OUTPUT_TOO_SHORT)
 }
 
 // Writes `count` calls at the front of the output, drawn from a state that is not 0.
@@ -152,10 +144,10 @@ pub fn go_on(source: Source, count: u64, out: &mut [u8]) -> Generated
     ensures { generated result out.new ≡ go_on_of count source out.old }
 {
     if MOST_COUNTED < source.boxes {
-        return Generated::Refused(refusal::BUFFERS);
+        return Err(refusal::BUFFERS);
     }
     if MOST_COUNTED < source.txs {
-        return Generated::Refused(refusal::BUFFERS);
+        return Err(refusal::BUFFERS);
     }
     generate(source, count, out)
 }

@@ -6,7 +6,7 @@
 ghost use Rattle.std.specs.Prelude.{◌≡◌, ◌≤◌, ◌<◌, length, take};
 ghost use Rattle.load.specs.Bytes.{load_bytes};
 
-use load::{Generated, Source};
+use load::Source;
 use std::env::Env;
 use std::io::Write;
 
@@ -37,24 +37,21 @@ fn number_of(text: &[u8]) -> Argument {
         return Argument::NoNumber;
     }
     let mut n: u64 = 0;
-    let mut i = 0;
-    while i < text.len() {
-        let digit = digit_of(text[i]);
+    for &c in text {
+        let digit = digit_of(c);
         if digit < 48 {
             return Argument::NoNumber;
         }
         if 57 < digit {
             return Argument::NoNumber;
         }
-        if 1844674407370955161 < n {
+        let Some(tens) = n.checked_mul(10) else {
             return Argument::NoNumber;
-        }
-        let tens = n * 10;
-        if 18446744073709551615 - tens < digit - 48 {
+        };
+        let Some(sum) = tens.checked_add(digit - 48) else {
             return Argument::NoNumber;
-        }
-        n = tens + (digit - 48);
-        i += 1;
+        };
+        n = sum;
     }
     Argument::Is(n)
 }
@@ -92,7 +89,7 @@ fn write_piece<W: Write, E: Eprint>(
     out: &mut [u8; 65536],
 ) -> Next {
     match load::go_on(g, count, out) {
-        Generated::Written(n, after) => {
+        Ok((n, after)) => {
             if hand_calls(to, g, count, out, n) {
                 return Next::From(after);
             }
@@ -102,7 +99,7 @@ fn write_piece<W: Write, E: Eprint>(
             );
             Next::Nothing
         }
-        Generated::Refused(_) => {
+        Err(_) => {
             say(errors, "load_writer: the state is 0 (38)");
             Next::Nothing
         }

@@ -20,15 +20,12 @@ use Rattle.entries.specs.declared.Position.{Position}
 use Rattle.entries.specs.declared.Position.TheVariants.{At, Seen, Absent}
 use Rattle.index_types.specs.declared.ListCounts.{ListCounts}
 use Rattle.index_types.specs.declared.HeadCounts.{HeadCounts}
-use Rattle.index_types.specs.declared.Missing.{Missing}
-use Rattle.index_types.specs.declared.Missing.TheVariants.{Nothing, Spill}
+use Rattle.std.specs.Prelude.{Option, Ok, Err}
 use Rattle.segment_id.specs.declared.Kind.{Kind}
 use Rattle.segment_id.specs.declared.Kind.TheVariants.{Box}
 use Rattle.buffer_core.specs.declared.Direction.{Direction}
-use Rattle.buffer_core.specs.declared.Lead.{Lead}
-use Rattle.buffer_core.specs.declared.Lead.TheVariants.{Leads, NoLead}
-use Rattle.buffer_core.specs.declared.Low.{Low}
-use Rattle.buffer_core.specs.declared.Low.TheVariants.{Upto, Broken}
+use Rattle.buffer_core.specs.Answers.{Lead}
+use Rattle.buffer_core.specs.Answers.{Low}
 use Rattle.buffer_core.specs.declared.Look.{Look}
 use Rattle.buffer_core.specs.declared.Look.TheVariants.{Take, Stop, Next, Fail}
 use Rattle.buffer_core.specs.Edition.{Edition, RowRead, bad, good}
@@ -65,12 +62,12 @@ on_false b false ns h = h
 
 -- ---- the halving, the walk, the rows from spill 0 up
 half_below : (b : ℕ) (x : Lead) (target : ℕ) (u l : List ℕ) → Below b u → Below b l → Below b (half_reads x target u l)
-half_below b (Leads x) target u l p q = by_test (leb x target)
+half_below b (Ok x) target u l p q = by_test (leb x target)
   where
     by_test : (t : Bool) → Below b (cond t u l)
     by_test true = p
     by_test false = q
-half_below b (NoLead code) target u l p q = none
+half_below b (Err code) target u l p q = none
 
 search_below : (f : ℕ → Lead) (target k low high : ℕ) → Below high (search_reads f target k low high)
 unfolding search_reads
@@ -111,9 +108,9 @@ head_below b Seen ns h = h
 head_below b Absent ns h = h
 
 module _ (E : Edition) where
-  low_below : (w : Sources) (target : ℕ) (d : Bool) (b : ℕ) (x : Low) → ((l : ℕ) → x ≡ Upto l → l ≤ b) → Below b (low_reads E w target d x)
-  low_below w target d b (Upto low) h = wider low b _ (h low refl) (walk_below (look_at E w target d) low)
-  low_below w target d b (Broken code) h = none
+  low_below : (w : Sources) (target : ℕ) (d : Bool) (b : ℕ) (x : Low) → ((l : ℕ) → x ≡ Ok l → l ≤ b) → Below b (low_reads E w target d x)
+  low_below w target d b (Ok low) h = wider low b _ (h low refl) (walk_below (look_at E w target d) low)
+  low_below w target d b (Err code) h = none
 
   rows_below : (w : Sources) (target : ℕ) (d : Bool) (spills : ℕ) → Below spills (rows_reads E w target d spills)
   unfolding rows_reads
@@ -178,9 +175,9 @@ within : (z : ℤ) → SFits w32 z → nat_abs z ≤ 2147483648
 within (pos n) f = let m : mag (pos n) < 2147483648 = f.sfits in omega arith
 within (negsuc n) f = let m : mag (negsuc n) < 2147483648 = f.sfits in omega arith
 
-pub numbered : (E : Edition) (kind : Kind) (w : Sources) (reads : List ℕ) (spills : ℤ) → SFits w32 spills → Below (nat_abs spills) reads → (x : Missing) → x ≡ among E kind w reads → Numbered x
+pub numbered : (E : Edition) (kind : Kind) (w : Sources) (reads : List ℕ) (spills : ℤ) → SFits w32 spills → Below (nat_abs spills) reads → (x : Option ℕ) → x ≡ among E kind w reads → Numbered x
 numbered E kind w reads spills f h x e = by_need (first_missing (lacks E kind w) reads) refl x e
   where
-    by_need : (y : Need) → first_missing (lacks E kind w) reads ≡ y → (x : Missing) → x ≡ told y → Numbered x
+    by_need : (y : Need) → first_missing (lacks E kind w) reads ≡ y → (x : Option ℕ) → x ≡ told y → Numbered x
     by_need nothing q x e = rw e tt
     by_need (need n) q x e = let l = first_below (lacks E kind w) (nat_abs spills) reads h n q in let k = within spills f in rw e (omega arith)

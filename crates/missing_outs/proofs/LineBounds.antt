@@ -13,8 +13,8 @@ use Rattle.entries.specs.Flip.{position}
 use Rattle.index_types.specs.declared.ListCounts.{ListCounts}
 use Rattle.index_types.specs.declared.HeadCounts.{HeadCounts}
 use Rattle.buffer_core.specs.declared.Direction.{Direction}
-use Rattle.buffer_core.specs.declared.Low.{Low}
-use Rattle.buffer_core.specs.declared.Low.TheVariants.{Upto, Broken}
+use Rattle.std.specs.Prelude.{Ok, Err}
+use Rattle.buffer_core.specs.Answers.{Low}
 use Rattle.buffer_core.specs.Edition.{Edition}
 use Rattle.buffer_core.specs.Spills.{Sources, sources}
 use Rattle.buffer_core.specs.Flip.{search_in, spends, flip_ok}
@@ -39,9 +39,9 @@ module _ (E : Edition) where
   unfolding in_lines_reads line_reads
   lines_below w S target d spills = by_low (search_in (line_lead S) target 0 spills) (λ l e. search_most (line_lead S) target 0 spills l _ (omega arith) refl e)
     where
-      by_low : (x : Low) → ((l : ℕ) → x ≡ Upto l → l ≤ spills) → Below spills (below_reads E w S target d x)
-      by_low (Upto low) h = searched_below spills (passed_over S target) (walk_reads (line_look E w S target d) low) (wider low spills _ (h low refl) (walk_below (line_look E w S target d) low))
-      by_low (Broken code) h = none
+      by_low : (x : Low) → ((l : ℕ) → x ≡ Ok l → l ≤ spills) → Below spills (below_reads E w S target d x)
+      by_low (Ok low) h = searched_below spills (passed_over S target) (walk_reads (line_look E w S target d) low) (wider low spills _ (h low refl) (walk_below (line_look E w S target d) low))
+      by_low (Err code) h = none
 
   pub flip_lines_reads_below : (parent : List ℕ) (h : HeadCounts) (c : ListCounts) (staged : List ℕ) (e : ListCounts) (table : List ℕ) (head : List ℤ) (lines : ℕ) (S : List ℕ) (d : Direction) (target : ℤ)
       → Below (nat_abs h.spills) (flip_lines_reads E d parent h target c staged e table head lines S)

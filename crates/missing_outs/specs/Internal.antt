@@ -1,8 +1,6 @@
 -- What telling a missing row asks of its caller: a spill number fits 31 bits.
-use Rattle.std.specs.Prelude.{◌<◌}
-use Rattle.index_types.specs.declared.Missing.{Missing}
-use Rattle.index_types.specs.declared.Missing.TheVariants.{Nothing, Spill}
+use Rattle.std.specs.Prelude.{ℕ, ◌<◌, Option, Some, None}
 
-abbrev pub Numbered : Missing → Type 0
-Numbered Nothing = Unit {0}
-Numbered (Spill n) = n < 2147483648
+abbrev pub Numbered : Option ℕ → Type 0
+Numbered None = Unit {0}
+Numbered (Some n) = n < 2147483648

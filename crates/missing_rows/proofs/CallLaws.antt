@@ -20,8 +20,7 @@ use Rattle.buffer_core.specs.Pop.{lists, pop_ok}
 use Rattle.buffer_core.specs.Flip.{row_checked, flip_ok}
 use Rattle.buffer_core.proofs.ListLaws.{lists_fit}
 use Rattle.working_set.specs.Reads.{first_missing, up_reads, pop_reads, tally_core_reads, tally_of_reads, page_of_reads}
-use Rattle.index_types.specs.declared.Missing.{Missing}
-use Rattle.index_types.specs.declared.Missing.TheVariants.{Nothing}
+use Rattle.std.specs.Prelude.{Option, None}
 use Rattle.row_seeking.specs.Seeking.{among}
 use Rattle.missing_rows.specs.Missing.{missing_for_pop, missing_for_tally, missing_for_page}
 use Rattle.row_seeking.specs.Internal.{WorkReady}
@@ -29,16 +28,16 @@ use Rattle.row_seeking.specs.Internal.{WorkReady}
 -- ---- a tally, once 25 is tested
 
 module _ (E : Edition) (w : Sources) (spills : ℤ) (zs : List ℤ) where
-  pub core_10 : order_ok zs ≡ false → Nothing ≡ among E Box w (tally_core_reads E w spills zs)
+  pub core_10 : order_ok zs ≡ false → None ≡ among E Box w (tally_core_reads E w spills zs)
   unfolding tally_core_reads first_missing
   core_10 o = rw o
 
   module _ (o : order_ok zs ≡ true) where
-    pub core_11 : is_negative spills ≡ true → Nothing ≡ among E Box w (tally_core_reads E w spills zs)
+    pub core_11 : is_negative spills ≡ true → None ≡ among E Box w (tally_core_reads E w spills zs)
     unfolding tally_core_reads first_missing
     core_11 n = rw (o, n)
 
-    pub core_on : is_negative spills ≡ false → (k : ℕ) → k ≡ nat_abs spills → (r : Missing) → r ≡ among E Box w (up_reads (row_checked E w) 0 k)
+    pub core_on : is_negative spills ≡ false → (k : ℕ) → k ≡ nat_abs spills → (r : Option ℕ) → r ≡ among E Box w (up_reads (row_checked E w) 0 k)
         → r ≡ among E Box w (tally_core_reads E w spills zs)
     unfolding tally_core_reads
     core_on n k e r q = rw (o, n) (q ∙ ap (λ (x : ℕ). among E Box w (up_reads (row_checked E w) 0 x)) e)
@@ -47,66 +46,66 @@ module _ (E : Edition) (parent : List ℕ) (h : HeadCounts) (c : ListCounts) (st
   abbrev w : Sources
   w = sources parent staged c.count work e.count
 
-  abbrev core : Missing
+  abbrev core : Option ℕ
   core = among E Box w (tally_core_reads E w h.spills (take h.len head))
 
-  pub tally_25 : flip_ok E h c staged e work head ≡ false → Nothing ≡ missing_for_tally E parent h c staged e work head
+  pub tally_25 : flip_ok E h c staged e work head ≡ false → None ≡ missing_for_tally E parent h c staged e work head
   unfolding tally_of_reads first_missing
   tally_25 t = rw t
 
-  pub tally_goes : flip_ok E h c staged e work head ≡ true → (r : Missing) → r ≡ core → r ≡ missing_for_tally E parent h c staged e work head
+  pub tally_goes : flip_ok E h c staged e work head ≡ true → (r : Option ℕ) → r ≡ core → r ≡ missing_for_tally E parent h c staged e work head
   unfolding tally_of_reads
   tally_goes t r q = rw t q
 
   -- ---- a page
   module _ (n : ℕ) (out : List ℤ) where
-    pub page_25 : flip_ok E h c staged e work head ≡ false → Nothing ≡ missing_for_page E parent h c staged e work head n out
+    pub page_25 : flip_ok E h c staged e work head ≡ false → None ≡ missing_for_page E parent h c staged e work head n out
     unfolding page_of_reads first_missing
     page_25 t = rw t
 
     module _ (t : flip_ok E h c staged e work head ≡ true) where
-      pub page_short : length out < 64 → Nothing ≡ missing_for_page E parent h c staged e work head n out
+      pub page_short : length out < 64 → None ≡ missing_for_page E parent h c staged e work head n out
       unfolding page_of_reads first_missing
       page_short s = rw (t, lt-leb 64 (length out) s)
 
       module _ (s : 64 ≤ length out) where
-        pub page_33 : 64 < n → Nothing ≡ missing_for_page E parent h c staged e work head n out
+        pub page_33 : 64 < n → None ≡ missing_for_page E parent h c staged e work head n out
         unfolding page_of_reads first_missing
         page_33 l = rw (t, le-leb 64 (length out) s, lt-ltb 64 n l)
 
-        pub page_goes : n ≤ 64 → (r : Missing) → r ≡ core → r ≡ missing_for_page E parent h c staged e work head n out
+        pub page_goes : n ≤ 64 → (r : Option ℕ) → r ≡ core → r ≡ missing_for_page E parent h c staged e work head n out
         unfolding page_of_reads
         page_goes l r q = rw (t, le-leb 64 (length out) s, le-ltb 64 n l) q
 
 -- ---- a pop
 
 module _ (E : Edition) (kind : Kind) (parent : List ℕ) (h : HeadCounts) (c : ListCounts) (staged : List ℕ) (e : ListCounts) (work : List ℕ) (k : ListCounts) (deleted : List ℕ) (head : List ℤ) where
-  abbrev wanted : Missing
+  abbrev wanted : Option ℕ
   wanted = missing_for_pop E kind parent h c staged e work k deleted head
 
   abbrev passes : Bool
   passes = pop_ok E h (lists c staged e work k deleted) head
 
-  pub pop_25 : passes ≡ false → Nothing ≡ wanted
+  pub pop_25 : passes ≡ false → None ≡ wanted
   unfolding pop_reads first_missing
   pop_25 t = rw t
 
   module _ (t : passes ≡ true) where
-    pub pop_11 : is_negative h.spills ≡ true → Nothing ≡ wanted
+    pub pop_11 : is_negative h.spills ≡ true → None ≡ wanted
     unfolding pop_reads first_missing
     pop_11 n = rw (t, n)
 
     module _ (n : is_negative h.spills ≡ false) where
-      pub pop_head : 0 < h.len → Nothing ≡ wanted
+      pub pop_head : 0 < h.len → None ≡ wanted
       unfolding pop_reads first_missing
       pop_head l = rw (t, n, lt-ltb 0 h.len l)
 
       module _ (l : h.len ≤ 0) (m : ℕ) (q : m ≡ nat_abs h.spills) where
-        pub pop_none : m ≡ 0 → Nothing ≡ wanted
+        pub pop_none : m ≡ 0 → None ≡ wanted
         unfolding pop_reads first_missing
         pop_none z = rw (t, n, le-ltb 0 h.len l, eq-eqb (nat_abs h.spills) 0 (sym q ∙ z))
 
-        pub pop_goes : (m ≡ 0 → ⊥) → (r : Missing) → r ≡ among E kind (sources parent staged c.count work e.count) ((m - 1) ∷ []) → r ≡ wanted
+        pub pop_goes : (m ≡ 0 → ⊥) → (r : Option ℕ) → r ≡ among E kind (sources parent staged c.count work e.count) ((m - 1) ∷ []) → r ≡ wanted
         unfolding pop_reads
         pop_goes z r x =
             rw (t, n, le-ltb 0 h.len l, ne_eqb (nat_abs h.spills) 0 (λ y. z (q ∙ y)))

@@ -15,7 +15,7 @@ ghost use Rattle.row_seeking.specs.Internal.{WorkReady};
 
 use buffer_core::Direction;
 use entries::Position;
-use index_types::{HeadCounts, ListCounts, Missing, RowEdition};
+use index_types::{HeadCounts, ListCounts, RowEdition};
 use segment_id::Kind;
 
 // The first missing row of a spend or an unspend, whose head is in order: none where the head has the entry.
@@ -31,7 +31,7 @@ fn seek_flip<'a>(
     target: u64,
     spend: bool,
     spills: usize,
-) -> Missing
+) -> Option<usize>
     requires { WorkReady edition (sources parent.now staged.now staged_count table.now table_count) × (spills < 2147483648) × (target < 9223372036854775808)
         × (len ≤ length head.now) × (order_ok (take len head.now) ≡ true) }
     ensures { result ≡ among (edition_of edition) Box (sources parent.now staged.now staged_count table.now table_count)
@@ -41,7 +41,7 @@ fn seek_flip<'a>(
     let none = [0u16; 1];
     let position = entry_flips::flip_position(head, len, target, spend);
     match position {
-        Position::At(_) => Missing::Nothing,
+        Position::At(_) => None,
         Position::Seen => row_seeking::seek_rows(
             edition,
             parent,
@@ -81,7 +81,7 @@ pub fn missing_for_flip<'a>(
     staged: &'a [u8],
     table_counts: ListCounts,
     table: &'a [u8],
-) -> Missing
+) -> Option<usize>
     ensures { result ≡ missing_for_flip (edition_of edition) direction parent.now counts target staged_counts staged.now table_counts table.now head.now }
 {
     let size = signed::magnitude(target);
@@ -98,16 +98,16 @@ pub fn missing_for_flip<'a>(
         table,
         head,
     ) {
-        return Missing::Nothing;
+        return None;
     }
     if 9223372036854775808 <= size {
-        return Missing::Nothing;
+        return None;
     }
     if !entry_order::order_ok(head, len) {
-        return Missing::Nothing;
+        return None;
     }
     if signed::is_negative_i32(spills) {
-        return Missing::Nothing;
+        return None;
     }
     seek_flip(
         edition,
@@ -137,7 +137,7 @@ pub fn missing_for_pop<'a>(
     table: &'a [u8],
     deleted_counts: ListCounts,
     deleted: &'a [u8],
-) -> Missing
+) -> Option<usize>
     ensures { result ≡ missing_for_pop (edition_of edition) kind parent.now counts staged_counts staged.now table_counts table.now deleted_counts deleted.now head.now }
 {
     let none = [0u16; 1];
@@ -153,17 +153,17 @@ pub fn missing_for_pop<'a>(
         deleted_counts,
         deleted,
     ) {
-        return Missing::Nothing;
+        return None;
     }
     if signed::is_negative_i32(spills) {
-        return Missing::Nothing;
+        return None;
     }
     if 0 < counts.len {
-        return Missing::Nothing;
+        return None;
     }
     let rows = signed::usize_from_i32(spills);
     if rows == 0 {
-        return Missing::Nothing;
+        return None;
     }
     row_seeking::ask(
         edition,
@@ -188,7 +188,7 @@ fn seek_tally<'a>(
     staged: &'a [u8],
     table_counts: ListCounts,
     table: &'a [u8],
-) -> Missing
+) -> Option<usize>
     requires { FlipReady edition counts staged_counts staged.now table_counts table.now head.now }
     ensures { result ≡ among (edition_of edition) Box (sources parent.now staged.now staged_counts.count table.now table_counts.count)
         (tally_core_reads (edition_of edition) (sources parent.now staged.now staged_counts.count table.now table_counts.count) counts.spills (take counts.len head.now)) }
@@ -196,10 +196,10 @@ fn seek_tally<'a>(
     let none = [0u16; 1];
     let spills = counts.spills;
     if !entry_order::order_ok(head, counts.len) {
-        return Missing::Nothing;
+        return None;
     }
     if signed::is_negative_i32(spills) {
-        return Missing::Nothing;
+        return None;
     }
     row_seeking::seek_up(
         edition,
@@ -223,7 +223,7 @@ pub fn missing_for_tally<'a>(
     staged: &'a [u8],
     table_counts: ListCounts,
     table: &'a [u8],
-) -> Missing
+) -> Option<usize>
     ensures { result ≡ missing_for_tally (edition_of edition) parent.now counts staged_counts staged.now table_counts table.now head.now }
 {
     if !buffer_checks::flip_ok(
@@ -235,7 +235,7 @@ pub fn missing_for_tally<'a>(
         table,
         head,
     ) {
-        return Missing::Nothing;
+        return None;
     }
     seek_tally(
         edition,
@@ -261,7 +261,7 @@ pub fn missing_for_page<'a>(
     staged: &'a [u8],
     table_counts: ListCounts,
     table: &'a [u8],
-) -> Missing
+) -> Option<usize>
     ensures { result ≡ missing_for_page (edition_of edition) parent.now counts staged_counts staged.now table_counts table.now head.now numbers out.now }
 {
     if !buffer_checks::flip_ok(
@@ -273,13 +273,13 @@ pub fn missing_for_page<'a>(
         table,
         head,
     ) {
-        return Missing::Nothing;
+        return None;
     }
     if out.len() < entries::PAGE {
-        return Missing::Nothing;
+        return None;
     }
     if entries::PAGE < numbers {
-        return Missing::Nothing;
+        return None;
     }
     seek_tally(
         edition,

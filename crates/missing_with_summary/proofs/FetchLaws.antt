@@ -2,7 +2,7 @@
 use Prim.Native.Nat.{ℕ}
 use mathlib.Core.Path.{◌≡◌, refl, ap}
 use native.Mathlib.Omega.{arith}
-use Rattle.index_types.specs.declared.Missing.TheVariants.{Nothing, Spill}
+use Rattle.std.specs.Prelude.{Some}
 use Rattle.index_types.specs.declared.RowEdition.{RowEdition}
 use Rattle.segment_id.specs.declared.Kind.TheVariants.{Box}
 use Rattle.buffer_core.specs.Edition.{edition_of}
@@ -15,7 +15,7 @@ use Rattle.working_summaries.proofs.WorkingSummaries.{working_summaries}
 use Rattle.row_seeking.specs.Seeking.{told}
 use Rattle.missing_with_summary.specs.Laws.{PopFetchLaw, SummaryFetchLaw}
 
-needed : (x : Need) (n : ℕ) → told x ≡ Spill n → x ≡ need n
+needed : (x : Need) (n : ℕ) → told x ≡ Some n → x ≡ need n
 needed nothing n e = let z : ◌≡◌ {A = ℕ} 0 1 = cc in absurd (omega arith)
 needed (need k) n e = cc
 

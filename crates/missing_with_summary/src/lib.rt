@@ -17,7 +17,7 @@ ghost use Rattle.missing_with_summary.specs.Missing.{missing_for_flip_with_summa
 
 use buffer_core::Direction;
 use entries::Position;
-use index_types::{HeadCounts, ListCounts, Missing, RowEdition};
+use index_types::{HeadCounts, ListCounts, RowEdition};
 
 // The first missing row of a spend or an unspend, whose head is in order: none where the head has the entry.
 fn seek_flip<'a>(
@@ -33,7 +33,7 @@ fn seek_flip<'a>(
     target: u64,
     spend: bool,
     spills: usize,
-) -> Missing
+) -> Option<usize>
     requires { WorkReady edition (sources parent.now staged.now staged_count table.now table_count) × (spills < 2147483648)
         × (spills * summary_line ≤ length summary.now) × (len ≤ length head.now) × (order_ok (take len head.now) ≡ true) }
     ensures { result ≡ among (edition_of edition) Box (sources parent.now staged.now staged_count table.now table_count)
@@ -43,7 +43,7 @@ fn seek_flip<'a>(
     let none = [0u16; 1];
     let position = entry_flips::flip_position(head, len, target, spend);
     match position {
-        Position::At(_) => Missing::Nothing,
+        Position::At(_) => None,
         Position::Seen => line_seeking::seek_lines(
             edition,
             parent,
@@ -87,7 +87,7 @@ pub fn missing_for_flip_with_summary<'a>(
     table: &'a [u8],
     lines: usize,
     summary: &'a [u64],
-) -> Missing
+) -> Option<usize>
     ensures { result ≡ missing_for_flip_with_summary (edition_of edition) direction parent.now counts target staged_counts staged.now table_counts table.now head.now lines summary.now }
 {
     let size = signed::magnitude(target);
@@ -106,20 +106,20 @@ pub fn missing_for_flip_with_summary<'a>(
         lines,
         summary,
     ) {
-        return Missing::Nothing;
+        return None;
     }
     if 9223372036854775808 <= size {
-        return Missing::Nothing;
+        return None;
     }
     if !entry_order::order_ok(head, len) {
-        return Missing::Nothing;
+        return None;
     }
     if signed::is_negative_i32(spills) {
-        return Missing::Nothing;
+        return None;
     }
     let rows = signed::usize_from_i32(spills);
     if lines < rows {
-        return Missing::Nothing;
+        return None;
     }
     seek_flip(
         edition,

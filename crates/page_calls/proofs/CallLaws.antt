@@ -10,7 +10,7 @@ use Rattle.signed.specs.Sign.{is_negative}
 use Rattle.index_types.specs.declared.ListCounts.{ListCounts}
 use Rattle.entries.specs.Order.{order_ok}
 use Rattle.index_types.specs.declared.HeadCounts.{HeadCounts}
-use Rattle.index_types.specs.declared.Paged.TheVariants.{Refused}
+use Rattle.std.specs.Prelude.{Err}
 use Rattle.buffer_core.specs.Edition.{Edition}
 use Rattle.buffer_core.specs.Spills.{Sources, sources}
 use Rattle.buffer_core.specs.Rows.{rows_up}
@@ -20,15 +20,15 @@ use Rattle.buffer_core.specs.Page.{Paging, paging, page_over, page_core, page_of
 -- ---- once 25 has passed
 
 module _ (E : Edition) (w : Sources) (spills : ℤ) (zs : List ℤ) (offset n : ℕ) (out : List ℤ) where
-  pub page_33 : 64 < n → paging (Refused 33) out ≡ page_core E w spills zs offset n out
+  pub page_33 : 64 < n → paging (Err 33) out ≡ page_core E w spills zs offset n out
   unfolding page_core
   page_33 h = rw (lt-ltb 64 n h)
 
-  pub page_10 : n ≤ 64 → order_ok zs ≡ false → paging (Refused 10) out ≡ page_core E w spills zs offset n out
+  pub page_10 : n ≤ 64 → order_ok zs ≡ false → paging (Err 10) out ≡ page_core E w spills zs offset n out
   unfolding page_core
   page_10 h e = rw (le-ltb 64 n h, e)
 
-  pub page_11 : n ≤ 64 → order_ok zs ≡ true → is_negative spills ≡ true → paging (Refused 11) out ≡ page_core E w spills zs offset n out
+  pub page_11 : n ≤ 64 → order_ok zs ≡ true → is_negative spills ≡ true → paging (Err 11) out ≡ page_core E w spills zs offset n out
   unfolding page_core
   page_11 h e f = rw (le-ltb 64 n h, e, f)
 
@@ -40,16 +40,16 @@ module _ (E : Edition) (w : Sources) (spills : ℤ) (zs : List ℤ) (offset n : 
 -- ---- 25
 
 module _ (E : Edition) (parent : List ℕ) (h : HeadCounts) (c : ListCounts) (staged : List ℕ) (e : ListCounts) (table : List ℕ) (head : List ℤ) (offset n : ℕ) (out : List ℤ) where
-  pub page_short : length out < 64 → paging (Refused 25) out ≡ page_of E parent h c staged e table head offset n out
+  pub page_short : length out < 64 → paging (Err 25) out ≡ page_of E parent h c staged e table head offset n out
   unfolding page_of
   page_short s = rw (lt-leb 64 (length out) s) (by_test (flip_ok E h c staged e table head))
     where
-      by_test : (b : Bool) → paging (Refused 25) out
-          ≡ cond (b && false) (page_core E (sources parent staged c.count table e.count) h.spills (take h.len head) offset n out) (paging (Refused 25) out)
+      by_test : (b : Bool) → paging (Err 25) out
+          ≡ cond (b && false) (page_core E (sources parent staged c.count table e.count) h.spills (take h.len head) offset n out) (paging (Err 25) out)
       by_test true = refl
       by_test false = refl
 
-  pub page_25 : flip_ok E h c staged e table head ≡ false → paging (Refused 25) out ≡ page_of E parent h c staged e table head offset n out
+  pub page_25 : flip_ok E h c staged e table head ≡ false → paging (Err 25) out ≡ page_of E parent h c staged e table head offset n out
   unfolding page_of
   page_25 q = rw q
 

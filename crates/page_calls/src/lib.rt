@@ -33,13 +33,13 @@ fn page_checked<'a>(
     let spills = counts.spills;
     let ordered = entry_order::order_ok(head, len);
     if entries::PAGE < wanted {
-        return Paged::Refused(refusal::PAGE_TOO_LONG);
+        return Err(refusal::PAGE_TOO_LONG);
     }
     if !ordered {
-        return Paged::Refused(refusal::HEAD_OUT_OF_ORDER);
+        return Err(refusal::HEAD_OUT_OF_ORDER);
     }
     if signed::is_negative_i32(spills) {
-        return Paged::Refused(refusal::NEGATIVE_SPILL_COUNT);
+        return Err(refusal::NEGATIVE_SPILL_COUNT);
     }
     page_core::page_rows(
         edition,
@@ -75,7 +75,7 @@ pub fn unspent_page<'a>(
         ≡ page_of (edition_of edition) parent.now counts staged_counts staged.now table_counts table.now head.now offset length page.old }
 {
     if page.len() < entries::PAGE {
-        return Paged::Refused(refusal::BUFFERS);
+        return Err(refusal::BUFFERS);
     }
     if buffer_checks::flip_ok(
         edition,
@@ -100,5 +100,5 @@ pub fn unspent_page<'a>(
             page,
         );
     }
-    Paged::Refused(refusal::BUFFERS)
+    Err(refusal::BUFFERS)
 }

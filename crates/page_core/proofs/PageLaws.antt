@@ -1,20 +1,19 @@
 -- Laws of a page's rows: what a row puts, a turn of the loop and each way out of it, what the checks tell, and the page that is left.
 use Prim.Native.Nat.{ℕ, zero, suc, ◌+◌, ◌-◌, ◌≤◌}
 use mathlib.Core.Path.{◌≡◌, refl, sym, ap, ◌∙◌}
-use mathlib.Core.List.{List, [], ◌∷◌, ◌++◌, append_assoc}
+use mathlib.Core.List.{List, ◌++◌, append_assoc}
 use native.Mathlib.Omega.{arith}
 use native.Mathlib.Nat.{sub-zero}
 use lib.IntN.{ℤ, pos}
-use lib.ListN.{length, take, replicate}
+use lib.ListN.{take, replicate}
 use Rattle.stores.specs.Stores.{write}
-use Rattle.entries.specs.Unspent.{unspent_newest_first, stretch, page_places}
+use Rattle.entries.specs.Unspent.{unspent_newest_first, stretch}
 use Rattle.entries.proofs.UnspentLaws.{newest_append, newest_none}
-use Rattle.index_types.specs.declared.Paged.TheVariants.{Numbers, Refused}
+use Rattle.std.specs.Prelude.{Ok, Err}
 use Rattle.buffer_core.specs.Edition.{RowRead, good, bad}
 use Rattle.buffer_core.specs.Rows.{then_rows, rows_up}
 use Rattle.buffer_core.specs.Page.{Paging, paging, put_page, page_over}
-use Rattle.spill_rows.specs.declared.Read.{Read}
-use Rattle.spill_rows.specs.declared.Read.TheVariants.{Good, Faulty}
+use Rattle.spill_rows.specs.Answers.{Read}
 use Rattle.spill_rows.specs.Internal.{CheckedInto, read_of}
 use Rattle.spill_rows.proofs.CheckedLaws.{nope, faulty}
 use Rattle.page_entries.specs.declared.Filling.{Filling}
@@ -24,11 +23,11 @@ use Rattle.page_core.specs.Internal.{numbers_in, rows_flat}
 
 -- ---- one row
 
-pub row_put : (x : RowRead) (r : Read) (out : List ℤ) → CheckedInto x r out → r ≡ Good → take 512 out ≡ out
+pub row_put : (x : RowRead) (r : Read) (out : List ℤ) → CheckedInto x r out → r ≡ (Ok tt) → take 512 out ≡ out
     → (wanted : ℕ) (f f' : Filling) (p p' : List ℤ) → Filled wanted (unspent_newest_first (take 512 out)) f p f' p' → Filled wanted (unspent_newest_first (numbers_in x)) f p f' p'
 row_put x r out c e q wanted f f' p p' h = rw (ap numbers_in (c.numbers e) ∙ sym q) h
 
-pub row_none : (x : RowRead) (r : Read) (out : List ℤ) → CheckedInto x r out → (code : ℕ) → r ≡ Faulty code
+pub row_none : (x : RowRead) (r : Read) (out : List ℤ) → CheckedInto x r out → (code : ℕ) → r ≡ Err code
     → (wanted : ℕ) (f : Filling) (page : List ℤ) → Ready wanted f page → Filled wanted (unspent_newest_first (numbers_in x)) f page f page
 row_none x r out c code e wanted f page h = rw (faulty x r out c code e, newest_none) (filled_none wanted f page h)
 
@@ -103,23 +102,23 @@ flat_good g n (suc k) zs e = by_rows (g n) (rows_up g (n + 1) k) (λ ws q. flat_
 pub page_left : (offset wanted : ℕ) (rows zs : List ℤ) (f f' : Filling) (p p' out : List ℤ)
     → Filled wanted (unspent_newest_first zs) (record { skip = offset; put = 0 }) (replicate 64 (pos 0)) f p → Filled wanted (unspent_newest_first rows) f p f' p'
     → (o : List ℤ) → o ≡ write 0 p' out
-    → paging (Numbers f'.put) o ≡ put_page (stretch offset wanted (unspent_newest_first (rows ++ zs))) out
+    → paging (Ok f'.put) o ≡ put_page (stretch offset wanted (unspent_newest_first (rows ++ zs))) out
 page_left offset wanted rows zs f f' p p' out a b o e =
     let h : Filled wanted (unspent_newest_first (rows ++ zs)) (record { skip = offset; put = 0 }) (replicate 64 (pos 0)) f' p'
     = rw (newest_append rows zs) (filled_then wanted _ _ (record { skip = offset; put = 0 }) f f' (replicate 64 (pos 0)) p p' a b) in
     let c = count_is offset wanted (unspent_newest_first (rows ++ zs)) f' p' h in
     let q = page_is offset wanted (unspent_newest_first (rows ++ zs)) f' p' h in
-    (λ i. paging (Numbers (c i)) ((e ∙ ap (λ (l : List ℤ). write 0 l out) q) i))
+    (λ i. paging (Ok (c i)) ((e ∙ ap (λ (l : List ℤ). write 0 l out) q) i))
 
-pub page_good : (g : ℕ → RowRead) (k : ℕ) (zs : List ℤ) (offset n : ℕ) (out : List ℤ) (o : Paging) → Good ≡ read_of (rows_up g 0 k)
+pub page_good : (g : ℕ → RowRead) (k : ℕ) (zs : List ℤ) (offset n : ℕ) (out : List ℤ) (o : Paging) → (Ok tt) ≡ read_of (rows_up g 0 k)
     → o ≡ put_page (stretch offset n (unspent_newest_first (rows_flat g 0 k ++ zs))) out → o ≡ page_over (rows_up g 0 k) zs offset n out
 page_good g k zs offset n out o e q = q ∙ by_rows (rows_up g 0 k) refl e
   where
-    by_rows : (x : RowRead) → rows_up g 0 k ≡ x → Good ≡ read_of x
+    by_rows : (x : RowRead) → rows_up g 0 k ≡ x → (Ok tt) ≡ read_of x
         → put_page (stretch offset n (unspent_newest_first (rows_flat g 0 k ++ zs))) out ≡ page_over x zs offset n out
     by_rows (good rows) r e = ap (λ (l : List ℤ). put_page (stretch offset n (unspent_newest_first (l ++ zs))) out) (flat_good g 0 k rows r)
     by_rows (bad code) r e = nope (cc)
 
-pub page_bad : (x : RowRead) (zs : List ℤ) (offset n : ℕ) (out : List ℤ) (code : ℕ) → Faulty code ≡ read_of x → paging (Refused code) out ≡ page_over x zs offset n out
+pub page_bad : (x : RowRead) (zs : List ℤ) (offset n : ℕ) (out : List ℤ) (code : ℕ) → Err code ≡ read_of x → paging (Err code) out ≡ page_over x zs offset n out
 page_bad (good rows) zs offset n out code e = nope (cc)
-page_bad (bad d) zs offset n out code e = let z : code ≡ d = cc in ap (λ (c : ℕ). paging (Refused c) out) z
+page_bad (bad d) zs offset n out code e = let z : code ≡ d = cc in ap (λ (c : ℕ). paging (Err c) out) z

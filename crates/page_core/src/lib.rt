@@ -2,7 +2,7 @@
 // the newest down, and copied out.
 #![tactic(auto)]
 
-ghost use Rattle.std.specs.Prelude.{◌≡◌, true, ◌*◌, ◌≤◌, ◌<◌, ◌++◌, length, take};
+ghost use Rattle.std.specs.Prelude.{◌≡◌, true, ◌*◌, ◌≤◌, ◌<◌, ◌++◌, length, take, Ok};
 ghost use Rattle.records.specs.Records.{keys};
 ghost use Rattle.records.specs.Find.{distinct};
 ghost use Rattle.entries.specs.Unspent.{unspent_newest_first, stretch, page_places};
@@ -10,7 +10,6 @@ ghost use Rattle.buffer_core.specs.Edition.{edition_of, record_size};
 ghost use Rattle.buffer_core.specs.Spills.{sources};
 ghost use Rattle.buffer_core.specs.Rows.{rows_up};
 ghost use Rattle.buffer_core.specs.Flip.{row_checked};
-ghost use Rattle.index_types.specs.declared.Paged.TheVariants.{Numbers};
 ghost use Rattle.buffer_core.specs.Page.{paging, put_page, page_over};
 ghost use Rattle.page_entries.specs.Internal.{Ready, Filled};
 ghost use Rattle.page_core.specs.Internal.{numbers_in, rows_flat};
@@ -18,7 +17,6 @@ ghost use Rattle.page_core.specs.Internal.{numbers_in, rows_flat};
 use index_types::{Paged, RowEdition, SEGMENT_THRESHOLD};
 use page_entries::Filling;
 use record_hints::{FEW_RECORDS, HINTS};
-use spill_rows::Read;
 
 // Puts the row of a spill number into a page. A refused row puts nothing; none is met, since all are checked before.
 fn put_row<'a>(
@@ -52,8 +50,8 @@ fn put_row<'a>(
         &mut row,
     );
     match read {
-        Read::Good => page_entries::put_newest(&row, SEGMENT_THRESHOLD, wanted, filling, page),
-        Read::Faulty(_) => filling,
+        Ok(()) => page_entries::put_newest(&row, SEGMENT_THRESHOLD, wanted, filling, page),
+        Err(_) => filling,
     }
 }
 
@@ -77,13 +75,10 @@ fn put_rows<'a>(
         filling page.old result page.new }
 {
     let mut filled = filling;
-    let mut n = spills;
-    while 0 < n {
-        let put = filled.put;
-        if wanted <= put {
+    for n in (0..spills).rev() {
+        if wanted <= filled.put {
             return filled;
         }
-        n -= 1;
         filled = put_row(
             edition,
             parent,
@@ -119,7 +114,7 @@ fn put_page<'a>(
 ) -> usize
     requires { (staged_count * record_size edition ≤ length staged.now) × (table_count * record_size edition ≤ length table.now) × (spills < 2147483648)
         × (distinct (keys (record_size edition) table_count table.now) ≡ true) × (len ≤ length head.now) × (wanted ≤ page_places) × (page_places ≤ length out.old) }
-    ensures { paging (Numbers result) out.new
+    ensures { paging (Ok result) out.new
         ≡ put_page (stretch offset wanted (unspent_newest_first
         (rows_flat (row_checked (edition_of edition) (sources parent.now staged.now staged_count table.now table_count)) 0 spills ++ take len head.now)))
         out.old }
@@ -180,7 +175,7 @@ fn page_hinted<'a>(
         hints,
     );
     match read {
-        Read::Good => {
+        Ok(()) => {
             let count = put_page(
                 edition,
                 parent,
@@ -196,9 +191,9 @@ fn page_hinted<'a>(
                 wanted,
                 out,
             );
-            Paged::Numbers(count)
+            Ok(count)
         }
-        Read::Faulty(code) => Paged::Refused(code),
+        Err(code) => Err(code),
     }
 }
 

@@ -58,12 +58,9 @@ pub fn put_newest(
     ensures { Filled wanted (unspent_newest_first (take n xs.now)) filling page.old result page.new }
 {
     let mut filled = filling;
-    let mut seen = 0;
-    while seen < n {
-        let at = n - 1 - seen;
+    for at in (0..n).rev() {
         let x = xs[at];
         filled = put_one(x, wanted, filled, page);
-        seen += 1;
     }
     filled
 }

@@ -8,13 +8,13 @@ use Rattle.index_types.specs.declared.ListCounts.{ListCounts}
 use Rattle.segment_id.specs.declared.Kind.{Kind}
 use Rattle.index_types.specs.declared.HeadCounts.{HeadCounts}
 use Rattle.index_types.specs.declared.RowEdition.{RowEdition}
-use Rattle.index_types.specs.declared.Popped.{Popped}
-use Rattle.index_types.specs.declared.Popped.TheVariants as popped
+use Rattle.std.specs.Prelude.{Ok, Err}
+use Rattle.index_types.specs.Answers.{Popped}
 use Rattle.buffer_core.specs.Edition.{edition_of}
 use Rattle.buffer_core.specs.Pop.{Popping, popping, Lists, pop_ok, pop_core, pop_of}
 
 module _ (v : RowEdition) (kind : Kind) (parent : List ℕ) (h : HeadCounts) (b : Lists) (head : List ℤ) where
-  pub pop_25 : pop_ok (edition_of v) h b head ≡ false → popping (popped.Refused 25) head b.staged b.deleted ≡ pop_of (edition_of v) kind parent h b head
+  pub pop_25 : pop_ok (edition_of v) h b head ≡ false → popping (Err 25) head b.staged b.deleted ≡ pop_of (edition_of v) kind parent h b head
   unfolding pop_of
   pop_25 e = rw e
 
@@ -25,5 +25,5 @@ module _ (v : RowEdition) (kind : Kind) (parent : List ℕ) (h : HeadCounts) (b 
 -- ---- the popped number, as the number of a box or of a transaction
 
 pub same_number : (r : Popped) (n : ℤ) (h : HeadCounts) (c d : ListCounts) (head : List ℤ) (staged deleted : List ℕ) (o : Popping) → popping r head staged deleted ≡ o
-    → r ≡ popped.Number n h c d → (m : ℤ) → m ≡ n → popping (popped.Number m h c d) head staged deleted ≡ o
+    → r ≡ Ok (n, h, c, d) → (m : ℤ) → m ≡ n → popping (Ok (m, h, c, d)) head staged deleted ≡ o
 same_number r n h c d head staged deleted o e f m g = rw (g, ← f) e

@@ -55,7 +55,7 @@ pub fn pop_entry(
             deleted,
         );
     }
-    Popped::Refused(refusal::BUFFERS)
+    Err(refusal::BUFFERS)
 }
 
 // The last box number of the head; on an empty head the newest row becomes the head first.
@@ -88,12 +88,8 @@ pub fn pop_box_entry(
         deleted_counts,
         deleted,
     );
-    match popped {
-        Popped::Number(n, after, staged_after, deleted_after) => {
-            PoppedBox::Number(BoxNumber(n), after, staged_after, deleted_after)
-        }
-        Popped::Refused(code) => PoppedBox::Refused(code),
-    }
+    let (n, after, staged_after, deleted_after) = popped?;
+    Ok((BoxNumber(n), after, staged_after, deleted_after))
 }
 
 // The same for transactions.
@@ -126,10 +122,6 @@ pub fn pop_tx_entry(
         deleted_counts,
         deleted,
     );
-    match popped {
-        Popped::Number(n, after, staged_after, deleted_after) => {
-            PoppedTx::Number(TxNumber(n), after, staged_after, deleted_after)
-        }
-        Popped::Refused(code) => PoppedTx::Refused(code),
-    }
+    let (n, after, staged_after, deleted_after) = popped?;
+    Ok((TxNumber(n), after, staged_after, deleted_after))
 }

@@ -17,7 +17,7 @@ use Rattle.segment_id.specs.declared.Kind.{Kind}
 use Rattle.segment_id.proofs.KeyLaws.{row_key_length}
 use Rattle.segment_core.specs.Loading.{padded}
 use Rattle.index_types.specs.declared.HeadCounts.{HeadCounts}
-use Rattle.index_types.specs.declared.Popped.TheVariants.{Number, Refused}
+use Rattle.std.specs.Prelude.{Ok, Err}
 use Rattle.index_types.specs.declared.RowEdition.{RowEdition}
 use Rattle.buffer_core.specs.Edition.{RowRead, bad, good, record_size, row_limit_of, edition_of}
 use Rattle.buffer_core.specs.Spills.{sources, spill_read, head_ok}
@@ -28,6 +28,7 @@ use Rattle.buffer_core.proofs.ListLaws.{ListsFit, lists_fit, fit_lists, without_
 use Rattle.row_edition.proofs.ReadingLaws.{padded_length}
 use Rattle.spill_rows.proofs.SpillLaws.{spill_few}
 use Rattle.pop_row.specs.Internal.{PopReady}
+use Rattle.index_types.proofs.AnswerLaws.{four_same}
 
 -- ---- the test as facts, and back
 
@@ -60,17 +61,17 @@ module _ (v : RowEdition) (h : HeadCounts) (b : Lists) (head : List ℤ) where
 -- where the answer gives counts, they pass with the lists at exit and the table, which stays
 abbrev pub PopKept : RowEdition → Lists → Popping → Type 0
 PopKept v b o =
-    (z : ℤ) (h : HeadCounts) (c e : ListCounts) → o.answer ≡ Number z h c e
+    (z : ℤ) (h : HeadCounts) (c e : ListCounts) → o.answer ≡ Ok (z, h, c, e)
     → pop_ok (edition_of v) h (lists c o.staged b.table_counts b.table e o.deleted) o.head ≡ true
 
-kept_refused : (v : RowEdition) (b : Lists) (code : ℕ) (head : List ℤ) (staged deleted : List ℕ) → PopKept v b (popping (Refused code) head staged deleted)
+kept_refused : (v : RowEdition) (b : Lists) (code : ℕ) (head : List ℤ) (staged deleted : List ℕ) → PopKept v b (popping (Err code) head staged deleted)
 kept_refused v b code head staged deleted x h c e q = let z : ◌≡◌ {A = ℕ} 0 1 = cc in absurd (omega arith)
 
 kept_number : (v : RowEdition) (b : Lists) (x : ℤ) (h : HeadCounts) (c e : ListCounts) (head : List ℤ) (staged deleted : List ℕ)
-    → PopOk v h (lists c staged b.table_counts b.table e deleted) head → PopKept v b (popping (Number x h c e) head staged deleted)
+    → PopOk v h (lists c staged b.table_counts b.table e deleted) head → PopKept v b (popping (Ok (x, h, c, e)) head staged deleted)
 kept_number v b x h c e head staged deleted ok x' h' c' e' q =
-    let p : h ≡ h' = cc in let r : c ≡ c' = cc in let s : e ≡ e' = cc in
-    rw (← p, ← r, ← s) (pop_test v h (lists c staged b.table_counts b.table e deleted) head ok)
+    let p = four_same q in
+    rw (← p.1, ← p.2, ← p.3) (pop_test v h (lists c staged b.table_counts b.table e deleted) head ok)
 
 module _ (v : RowEdition) (kind : Kind) (parent : List ℕ) (h : HeadCounts) (b : Lists) (head : List ℤ) (ok : PopOk v h b head) where
   merged_kept : (key : List ℕ) → length key ≡ 32 → (spills : ℕ) (zs : List ℤ) → length zs ≤ 512 → full_for 32 b.deleted_counts key b.deleted ≡ false
@@ -108,7 +109,7 @@ module _ (v : RowEdition) (kind : Kind) (parent : List ℕ) (h : HeadCounts) (b 
   merge_kept (good zs) few key k spills = by_tests (eqb (length zs) 0) (full_for 32 b.deleted_counts key b.deleted) refl
     where
       by_tests : (a f : Bool) → full_for 32 b.deleted_counts key b.deleted ≡ f
-          → PopKept v b (cond a (popping (Refused 20) head b.staged b.deleted) (cond f (popping (Refused 21) head b.staged b.deleted)
+          → PopKept v b (cond a (popping (Err 20) head b.staged b.deleted) (cond f (popping (Err 21) head b.staged b.deleted)
           (merged (edition_of v) key spills zs b head)))
       by_tests true f e = kept_refused v b 20 head b.staged b.deleted
       by_tests false true e = kept_refused v b 21 head b.staged b.deleted
@@ -126,10 +127,10 @@ module _ (v : RowEdition) (kind : Kind) (parent : List ℕ) (h : HeadCounts) (b 
   core_kept = by_tests (is_negative h.spills) (ltb 0 h.len) (eqb (nat_abs h.spills) 0)
     where
       by_tests : (a d u : Bool)
-          → PopKept v b (cond a (popping (Refused 11) head b.staged b.deleted) (cond d
-          (popping (Number (last_of h.len head) (counts_of (h.len - 1) h.spills) b.staged_counts b.deleted_counts) (without_last h.len head)
+          → PopKept v b (cond a (popping (Err 11) head b.staged b.deleted) (cond d
+          (popping (Ok (last_of h.len head, counts_of (h.len - 1) h.spills, b.staged_counts, b.deleted_counts)) (without_last h.len head)
           b.staged b.deleted)
-          (cond u (popping (Refused 19) head b.staged b.deleted) (unspill_of (edition_of v) kind parent (nat_abs h.spills - 1) b head))))
+          (cond u (popping (Err 19) head b.staged b.deleted) (unspill_of (edition_of v) kind parent (nat_abs h.spills - 1) b head))))
       by_tests true d u = kept_refused v b 11 head b.staged b.deleted
       by_tests false true u =
           kept_number v b (last_of h.len head) (counts_of (h.len - 1) h.spills) b.staged_counts b.deleted_counts (without_last h.len head)

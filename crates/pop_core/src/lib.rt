@@ -32,11 +32,11 @@ pub fn pop(
     let len = counts.len;
     let spills = counts.spills;
     if signed::is_negative_i32(spills) {
-        return Popped::Refused(refusal::NEGATIVE_SPILL_COUNT);
+        return Err(refusal::NEGATIVE_SPILL_COUNT);
     }
     if 0 < len {
         let number = pop_merge::take_last(head, len);
-        return Popped::Number(
+        return Ok((
             number,
             HeadCounts {
                 len: len - 1,
@@ -44,11 +44,11 @@ pub fn pop(
             },
             staged_counts,
             deleted_counts,
-        );
+        ));
     }
     let rows = signed::usize_from_i32(spills);
     if rows == 0 {
-        return Popped::Refused(refusal::NOTHING_TO_POP);
+        return Err(refusal::NOTHING_TO_POP);
     }
     pop_row::unspill(
         edition,

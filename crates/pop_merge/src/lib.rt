@@ -8,7 +8,6 @@ ghost use Rattle.buffer_core.specs.Pop.{popping, count_without, bytes_without, l
 ghost use Rattle.pop_merge.specs.Internal.{MergeReady, Merges};
 
 use index_types::{HeadCounts, ListCounts, Popped, RowEdition};
-use records::Found;
 
 // Takes the last of the head's numbers; its place becomes 0.
 pub fn take_last(head: &mut [i64], len: usize) -> i64
@@ -30,14 +29,14 @@ fn unstage(staged: &mut [u8], size: usize, counts: ListCounts, key: &[u8]) -> Li
     let count = counts.count;
     let found = records::find(staged, size, count, key);
     match found {
-        Found::At(i) => {
+        Some(i) => {
             record_changes::remove(staged, size, count, i);
             ListCounts {
                 count: count - 1,
                 capacity: counts.capacity,
             }
         }
-        Found::Nothing => counts,
+        None => counts,
     }
 }
 
@@ -64,7 +63,7 @@ pub fn merge(
     let staged_after = unstage(staged, size, staged_counts, key);
     let count = record_changes::put_key(deleted, deleted_counts.count, key);
     let rows = signed::i32_from_usize(spills);
-    Popped::Number(
+    Ok((
         number,
         HeadCounts {
             len: n - 1,
@@ -75,5 +74,5 @@ pub fn merge(
             count,
             capacity: deleted_counts.capacity,
         },
-    )
+    ))
 }

@@ -13,13 +13,12 @@ use Rattle.records.proofs.PutLaws.{slot_room}
 use Rattle.segment_id.specs.Key.{row_key}
 use Rattle.segment_id.specs.declared.Kind.{Kind}
 use Rattle.segment_core.specs.Loading.{padded}
-use Rattle.index_types.specs.declared.Popped.TheVariants.{Refused}
+use Rattle.std.specs.Prelude.{Ok, Err}
 use Rattle.index_types.specs.declared.RowEdition.{RowEdition}
 use Rattle.buffer_core.specs.Edition.{RowRead, bad, good, edition_of}
 use Rattle.buffer_core.specs.Spills.{sources, spill_read}
 use Rattle.buffer_core.specs.Pop.{Popping, popping, lists, merge_of, unspill_of}
-use Rattle.row_edition.specs.declared.SpillRead.{SpillRead}
-use Rattle.row_edition.specs.declared.SpillRead.TheVariants as read
+use Rattle.row_edition.specs.Answers.{SpillRead}
 use Rattle.row_edition.specs.Internal.{SpillInto}
 use Rattle.row_edition.proofs.ReadingLaws.{padded_length}
 use Rattle.spill_rows.proofs.SpillLaws.{spill_few}
@@ -41,15 +40,15 @@ module _ (ed : RowEdition) (kind : Kind) (parent : List ℕ) (spills : ℕ) (c :
   unfolding unspill_of
   unspill_is = rw (← is)
 
-  pub unspill_bad : (code : ℕ) → a ≡ read.Refused code → popping (Refused code) head staged deleted ≡ out
+  pub unspill_bad : (code : ℕ) → a ≡ Err code → popping (Err code) head staged deleted ≡ out
   unfolding merge_of
   unspill_bad code q = by_row row p ∙ unspill_is
     where
-      by_row : (x : RowRead) → SpillInto x a list → popping (Refused code) head staged deleted ≡ merge_of (edition_of ed) x key spills (lists c staged d table e deleted) head
+      by_row : (x : RowRead) → SpillInto x a list → popping (Err code) head staged deleted ≡ merge_of (edition_of ed) x key spills (lists c staged d table e deleted) head
       by_row (bad y) s = let f : code ≡ y = cc in rw f
-      by_row (good zs) s = let f : a ≡ read.Numbers (length zs) = s.0 in let z : ◌≡◌ {A = ℕ} 0 1 = cc in absurd (omega arith)
+      by_row (good zs) s = let f : a ≡ Ok (length zs) = s.0 in let z : ◌≡◌ {A = ℕ} 0 1 = cc in absurd (omega arith)
 
-  module _ (n : ℕ) (q : a ≡ read.Numbers n) where
+  module _ (n : ℕ) (q : a ≡ Ok n) where
     pub record Got : Type 0 where
       pub numbers : List ℤ
       pub good_row : row ≡ good numbers
@@ -64,17 +63,17 @@ module _ (ed : RowEdition) (kind : Kind) (parent : List ℕ) (spills : ℕ) (c :
         by_row : (x : RowRead) → row ≡ x → SpillInto x a list → Got
         by_row (bad y) f s = let z : ◌≡◌ {A = ℕ} 0 1 = cc in absurd (omega arith)
         by_row (good zs) f s =
-            let g : a ≡ read.Numbers (length zs) = s.0 in
+            let g : a ≡ Ok (length zs) = s.0 in
             let h : n ≡ length zs = cc in
             let w = spill_few ed kind parent staged c.count table d.count spills zs f in
             record { numbers = zs; good_row = f; counted = h; pads = s.1; few = omega arith; listed = ap length s.1 ∙ padded_length zs w }
 
-    pub unspill_20 : n ≡ 0 → popping (Refused 20) head staged deleted ≡ out
+    pub unspill_20 : n ≡ 0 → popping (Err 20) head staged deleted ≡ out
     unfolding merge_of
     unspill_20 h = rw (got.good_row, eq-eqb (length got.numbers) 0 (sym got.counted ∙ h)) at unspill_is
 
     module _ (h : n ≡ 0 → ⊥) where
-      pub unspill_21 : full_for 32 e key deleted ≡ true → popping (Refused 21) head staged deleted ≡ out
+      pub unspill_21 : full_for 32 e key deleted ≡ true → popping (Err 21) head staged deleted ≡ out
       unfolding merge_of
       unspill_21 f = rw (got.good_row, ne_eqb (length got.numbers) 0 (λ z. h (got.counted ∙ z)), f) at unspill_is
 

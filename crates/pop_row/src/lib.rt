@@ -7,7 +7,6 @@ ghost use Rattle.buffer_core.specs.Pop.{popping, lists, unspill_of};
 ghost use Rattle.pop_row.specs.Internal.{PopReady};
 
 use index_types::{ListCounts, Popped, RowEdition, SEGMENT_THRESHOLD};
-use row_edition::SpillRead;
 use segment_id::Kind;
 
 // A pop from an empty head with spills + 1 rows: the newest becomes the head. One row is read, so no hints are made.
@@ -46,13 +45,13 @@ pub fn unspill(
         &mut list,
     );
     match read {
-        SpillRead::Refused(code) => Popped::Refused(code),
-        SpillRead::Numbers(n) => {
+        Err(code) => Err(code),
+        Ok(n) => {
             if n == 0 {
-                return Popped::Refused(refusal::ROW_WITHOUT_NUMBERS);
+                return Err(refusal::ROW_WITHOUT_NUMBERS);
             }
             if record_changes::full_for(deleted, 32, deleted_counts, &key) {
-                return Popped::Refused(refusal::DELETED_FULL);
+                return Err(refusal::DELETED_FULL);
             }
             pop_merge::merge(
                 edition,

@@ -16,7 +16,7 @@ use Rattle.index_types.specs.declared.Order.TheVariants.{Equal, Greater}
 use Rattle.address_order.specs.Order.{of_numbers, of_signed, of_lists, of_tokens, insert, ascending, of_held, of_accounts}
 use Rattle.side_order.specs.Side.{side_of}
 use Rattle.index_types.specs.declared.AddressCounts.{AddressCounts}
-use Rattle.index_types.specs.declared.Ranked.TheVariants.{Ranks, Refused}
+use Rattle.std.specs.Prelude.{Ok, Err}
 use Rattle.address_ranking.specs.Rank.{Address, address_ok, id_twice, address_of, read_and_rank, rank_of}
 
 -- 10 nanoErgs, two tokens, one box, no spills
@@ -47,14 +47,14 @@ first ids amounts z = address_of One counts hash ids amounts (head z) (head (pos
 abbrev second : (ids : List ℕ) → (amounts : List ℤ) → (number : ℤ) → Address
 second ids amounts z = address_of Two counts hash ids amounts (head z) (head (pos 0)) [] []
 
-tokens_in_any_sequence : rank_of (first (id_of 1 ++ id_of 2) (pos 5 ∷ pos 9 ∷ []) (pos 3)) (second (id_of 2 ++ id_of 1) (pos 9 ∷ pos 5 ∷ []) (pos 3)) ≡ Ranks Equal
+tokens_in_any_sequence : rank_of (first (id_of 1 ++ id_of 2) (pos 5 ∷ pos 9 ∷ []) (pos 3)) (second (id_of 2 ++ id_of 1) (pos 9 ∷ pos 5 ∷ []) (pos 3)) ≡ Ok Equal
 unfolding rank_of read_and_rank address_ok id_twice side_of rows_up records records_ok lengths_ok distinct find_from same_bytes of_accounts of_held of_lists of_numbers of_signed of_tokens insert ascending
 tokens_in_any_sequence = refl
 
-spent_box_first : rank_of (first (id_of 1 ++ id_of 2) (pos 5 ∷ pos 9 ∷ []) (pos 3)) (second (id_of 1 ++ id_of 2) (pos 5 ∷ pos 9 ∷ []) (negsuc 2)) ≡ Ranks Greater
+spent_box_first : rank_of (first (id_of 1 ++ id_of 2) (pos 5 ∷ pos 9 ∷ []) (pos 3)) (second (id_of 1 ++ id_of 2) (pos 5 ∷ pos 9 ∷ []) (negsuc 2)) ≡ Ok Greater
 unfolding rank_of read_and_rank address_ok id_twice side_of rows_up records records_ok lengths_ok distinct find_from same_bytes of_accounts of_held of_lists of_numbers of_signed of_tokens insert ascending
 spent_box_first = refl
 
-id_stands_twice : rank_of (first (id_of 1 ++ id_of 2) (pos 5 ∷ pos 9 ∷ []) (pos 3)) (second (id_of 4 ++ id_of 4) (pos 5 ∷ pos 9 ∷ []) (pos 3)) ≡ Refused 41
+id_stands_twice : rank_of (first (id_of 1 ++ id_of 2) (pos 5 ∷ pos 9 ∷ []) (pos 3)) (second (id_of 4 ++ id_of 4) (pos 5 ∷ pos 9 ∷ []) (pos 3)) ≡ Err 41
 unfolding rank_of address_ok id_twice records records_ok lengths_ok distinct find_from same_bytes
 id_stands_twice = refl

@@ -11,8 +11,8 @@ use Rattle.spill_rows.proofs.CheckedLaws.{nope}
 use Rattle.index_types.specs.declared.Order.{Order}
 use Rattle.address_order.proofs.AccountOrder.{Once, account_reverses, account_follows, equal_same, same_equal}
 use Rattle.token_order.proofs.PickLaws.{tokens_apart}
-use Rattle.index_types.specs.declared.Ranked.{Ranked}
-use Rattle.index_types.specs.declared.Ranked.TheVariants.{Ranks, Refused}
+use Rattle.std.specs.Prelude.{Ok, Err}
+use Rattle.index_types.specs.Answers.{Ranked}
 use Rattle.address_ranking.specs.Rank.{Address, passes, id_twice, box_side, tx_side, balance_of, held_in, unless_bad, read_and_rank, rank_of}
 use Rattle.address_ranking.proofs.RankLaws.{ranks_by_content}
 use Rattle.content_order.proofs.PassedLaws.{ids_apart}
@@ -46,7 +46,7 @@ record Tests (p q s t : Bool) (w x y z : RowRead) : Type 0 where
   second_txs : z ≡ good d
 
 not_refused : (p q s t : Bool) (w x y z : RowRead) (r : Ranked) (o : Order)
-    → cond (p && q) (cond (s || t) (Refused 41) (unless_bad w (unless_bad x (unless_bad y (unless_bad z r))))) (Refused 25) ≡ Ranks o → Tests p q s t w x y z
+    → cond (p && q) (cond (s || t) (Err 41) (unless_bad w (unless_bad x (unless_bad y (unless_bad z r))))) (Err 25) ≡ Ok o → Tests p q s t w x y z
 not_refused false q s t w x y z r o e = nope (cc)
 not_refused true false s t w x y z r o e = nope (cc)
 not_refused true true true t w x y z r o e = nope (cc)
@@ -70,7 +70,7 @@ not_refused true true false false (good a) (good b) (good c) (good d) r o e = re
   second_txs = refl;
 }
 
-both_accepted : (a b : Address) (o : Order) → rank_of a b ≡ Ranks o → Both a b
+both_accepted : (a b : Address) (o : Order) → rank_of a b ≡ Ok o → Both a b
 unfolding rank_of read_and_rank
 both_accepted a b o e =
     let t = not_refused (passes a) (passes b) (id_twice a.counts a.ids) (id_twice b.counts b.ids) (box_side a) (tx_side a) (box_side b) (tx_side b) _ o e in

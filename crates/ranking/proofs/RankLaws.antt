@@ -5,8 +5,8 @@ use lib.Dec.{leb}
 use Rattle.index_types.specs.Limits.{token_limit}
 use Rattle.records.proofs.CheckLaws.{and_left, and_right}
 use Rattle.spill_rows.proofs.CheckedLaws.{nope}
-use Rattle.index_types.specs.declared.Ranked.{Ranked}
-use Rattle.index_types.specs.declared.Ranked.TheVariants.{Refused}
+use Rattle.std.specs.Prelude.{Err}
+use Rattle.index_types.specs.Answers.{Ranked}
 use Rattle.address_ranking.specs.Rank.{Address, passes, id_twice, read_and_rank, rank_of}
 use Rattle.content_order.specs.Internal.{Passed}
 use Rattle.content_order.proofs.PassedLaws.{tokens_pass}
@@ -21,7 +21,7 @@ abbrev Tells : Address → Bool → Type 0
 Tells a s = not a.counts.held || leb a.counts.tokens token_limit ≡ true → s ≡ id_twice a.counts a.ids
 
 module _ (a b : Address) (p q : Bool) (e : p ≡ passes a) (f : q ≡ passes b) where
-  pub rank_25 : p && q ≡ false → Refused 25 ≡ rank_of a b
+  pub rank_25 : p && q ≡ false → Err 25 ≡ rank_of a b
   unfolding rank_of
   rank_25 h = rw (sym e, sym f, h)
 
@@ -38,7 +38,7 @@ module _ (a b : Address) (p q : Bool) (e : p ≡ passes a) (f : q ≡ passes b) 
     second_told : t ≡ id_twice b.counts b.ids
     second_told = k (tokens_pass b second_passes)
 
-    pub rank_41 : s || t ≡ true → Refused 41 ≡ rank_of a b
+    pub rank_41 : s || t ≡ true → Err 41 ≡ rank_of a b
     unfolding rank_of
     rank_41 l = rw (first_passes, second_passes, sym first_told, sym second_told, l)
 

@@ -1,10 +1,9 @@
 -- "It is a total order. Two addresses rank equal exactly when all these agree, whatever the sequence of their tokens and however entries are divided between
 -- spills and head." (document 02, U14) Said of `rank_of`, which the contract of `rank` sets its answer equal to for all inputs.
-use Rattle.std.specs.Prelude.{◌≡◌, true, false, List, ℤ}
+use Rattle.std.specs.Prelude.{◌≡◌, true, false, List, ℤ, Ok}
 use Rattle.buffer_core.specs.Edition.{good}
 use Rattle.index_types.specs.declared.Order.{Order}
 use Rattle.address_order.specs.Order.{Account, of_accounts, Total, SameAccount}
-use Rattle.index_types.specs.declared.Ranked.TheVariants.{Ranks}
 use Rattle.address_ranking.specs.Rank.{Address, passes, id_twice, box_side, tx_side, held_in, rank_of}
 
 -- an address that is not turned away, with the entries that its spills and its head hold as one list
@@ -32,6 +31,6 @@ pub record Both (a b : Address) : Type 0 where
   pub second_is : second.address ≡ b
 
 pub record RankOrder : Type 0 where
-  pub accepts : (a b : Address) (o : Order) → rank_of a b ≡ Ranks o → Both a b
-  pub ranks : (x y : Accepted) → rank_of x.address y.address ≡ Ranks (order_of x y)
+  pub accepts : (a b : Address) (o : Order) → rank_of a b ≡ Ok o → Both a b
+  pub ranks : (x y : Accepted) → rank_of x.address y.address ≡ Ok (order_of x y)
   pub total : Total order_of (λ x y. SameAccount (account_of x) (account_of y))

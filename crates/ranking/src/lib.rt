@@ -121,10 +121,10 @@ pub fn rank<'a>(
     let buffers_ok = ok & other_ok;
     let id_twice = twice | other_twice;
     if !buffers_ok {
-        return Ranked::Refused(refusal::BUFFERS);
+        return Err(refusal::BUFFERS);
     }
     if id_twice {
-        return Ranked::Refused(refusal::TOKEN_TWICE);
+        return Err(refusal::TOKEN_TWICE);
     }
     rank_noted(
         edition,

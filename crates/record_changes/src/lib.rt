@@ -7,26 +7,25 @@ ghost use Rattle.records.specs.Find.{find_key};
 ghost use Rattle.records.specs.Changes.{slot, count_after, put_record, remove_record, clear_records, full_for};
 
 use index_types::ListCounts;
-use records::Found;
 
 // The index that a record goes to.
-fn slot_of(found: Found, count: usize) -> usize
+fn slot_of(found: Option<usize>, count: usize) -> usize
     ensures { result ≡ slot found count }
 {
     match found {
-        Found::At(i) => i,
-        Found::Nothing => count,
+        Some(i) => i,
+        None => count,
     }
 }
 
 // The number of records once a record is there.
-fn count_with(found: Found, count: usize) -> usize
+fn count_with(found: Option<usize>, count: usize) -> usize
     requires { count < 18446744073709551615 }
     ensures { result ≡ count_after found count }
 {
     match found {
-        Found::At(_) => count,
-        Found::Nothing => count + 1,
+        Some(_) => count,
+        None => count + 1,
     }
 }
 
@@ -35,7 +34,7 @@ pub fn put_found(
     list: &mut [u8],
     size: usize,
     count: usize,
-    found: Found,
+    found: Option<usize>,
     key: &[u8],
     row: &[u8],
 ) -> usize
@@ -98,7 +97,7 @@ pub fn full_for(list: &[u8], size: usize, counts: ListCounts, key: &[u8]) -> boo
 {
     let found = records::find(list, size, counts.count, key);
     match found {
-        Found::At(_) => false,
-        Found::Nothing => counts.capacity <= counts.count,
+        Some(_) => false,
+        None => counts.capacity <= counts.count,
     }
 }

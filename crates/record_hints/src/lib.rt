@@ -2,12 +2,11 @@
 // A hint is an index plus one; 0 stands for none. A key has two slots among the hints: by its first two bytes, and by the two after them.
 #![tactic(auto)]
 
-ghost use Rattle.std.specs.Prelude.{◌≡◌, true, ◌+◌, ◌*◌, ◌-◌, ◌≤◌, ◌<◌, length};
-ghost use Rattle.records.specs.declared.Found.{Found};
+ghost use Rattle.std.specs.Prelude.{◌≡◌, true, ◌+◌, ◌*◌, ◌-◌, ◌≤◌, ◌<◌, length, Some};
 ghost use Rattle.records.specs.Records.{keys};
 ghost use Rattle.records.specs.Find.{find_key, distinct, locate_key};
 
-use records::{Found, Place};
+use records::Place;
 
 // Of a list of more records it is noted where they stand before its rows are read.
 pub const FEW_RECORDS: usize = 128;
@@ -21,11 +20,7 @@ pub const BATCH_HINTS: usize = 65536;
 // ---- noting
 
 fn clear_hints(hints: &mut [u16]) {
-    let mut i = 0;
-    while i < hints.len() {
-        hints[i] = 0;
-        i += 1;
-    }
+    hints.fill(0);
 }
 
 // The slot of a key among the hints that two of its bytes name.
@@ -62,6 +57,7 @@ fn note_place(list: &[u8], at: usize, index: usize, hints: &mut [u16])
 }
 
 // Notes where each record stands. A later record does not push out an earlier one; one that finds no free slot, and one behind the first 65,535, is not noted.
+#[tactic(auto, using(records::proofs::TurnLaws::below_mul))]
 pub fn note_places(list: &[u8], size: usize, count: usize, hints: &mut [u16])
     requires { (32 ≤ size) × (count * size ≤ length list.now) }
 {
@@ -69,15 +65,8 @@ pub fn note_places(list: &[u8], size: usize, count: usize, hints: &mut [u16])
     if hints.len() == 0 {
         return;
     }
-    let mut i = 0;
-    let mut at = 0;
-    while i < count {
-        if 65535 <= i {
-            return;
-        }
-        note_place(list, at, i, hints);
-        i += 1;
-        at += size;
+    for i in 0..count.min(65535) {
+        note_place(list, i * size, i, hints);
     }
 }
 
@@ -142,7 +131,7 @@ fn hint_at(key: &[u8], k: usize, hints: &[u16]) -> usize
 // Whether a hint names the record with the key.
 fn holds_at(list: &[u8], size: usize, count: usize, hint: usize, key: &[u8]) -> bool
     requires { (32 ≤ size) × (count * size ≤ length list.now) × (distinct (keys size count list.now) ≡ true) }
-    ensures { result ≡ true → (0 < hint) × (find_key key.now (keys size count list.now) ≡ Found.At (hint - 1)) }
+    ensures { result ≡ true → (0 < hint) × (find_key key.now (keys size count list.now) ≡ Some (hint - 1)) }
 {
     if hint == 0 {
         return false;
@@ -154,7 +143,13 @@ fn holds_at(list: &[u8], size: usize, count: usize, hint: usize, key: &[u8]) -> 
 }
 
 // The index of the record with the key. The records that the hints name are compared first.
-pub fn find_hinted(list: &[u8], size: usize, count: usize, key: &[u8], hints: &[u16]) -> Found
+pub fn find_hinted(
+    list: &[u8],
+    size: usize,
+    count: usize,
+    key: &[u8],
+    hints: &[u16],
+) -> Option<usize>
     requires { (32 ≤ size) × (count * size ≤ length list.now) × (length key.now ≡ 32) × (distinct (keys size count list.now) ≡ true) }
     ensures { result ≡ find_key key.now (keys size count list.now) }
 {
@@ -163,11 +158,11 @@ pub fn find_hinted(list: &[u8], size: usize, count: usize, key: &[u8], hints: &[
     }
     let first = hint_at(key, 0, hints);
     if holds_at(list, size, count, first, key) {
-        return Found::At(first - 1);
+        return Some(first - 1);
     }
     let second = hint_at(key, 2, hints);
     if holds_at(list, size, count, second, key) {
-        return Found::At(second - 1);
+        return Some(second - 1);
     }
     records::find(list, size, count, key)
 }
@@ -188,12 +183,12 @@ pub fn locate_hinted(
 {
     let among_staged = records::find(staged, size, staged_count, key);
     match among_staged {
-        Found::At(i) => Place::Staged(i),
-        Found::Nothing => {
+        Some(i) => Place::Staged(i),
+        None => {
             let in_table = find_hinted(table, size, table_count, key, hints);
             match in_table {
-                Found::At(i) => Place::Table(i),
-                Found::Nothing => Place::Missing,
+                Some(i) => Place::Table(i),
+                None => Place::Missing,
             }
         }
     }

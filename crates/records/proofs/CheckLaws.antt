@@ -9,8 +9,7 @@ use lib.Dec.{leb}
 use lib.ListN.{length, get_or, take, set, replicate, length-replicate}
 use borrow.Author.Tests.{leb-true, le-leb}
 use Rattle.stores.proofs.StoreLaws.{length_write}
-use Rattle.records.specs.declared.Found.{Found}
-use Rattle.records.specs.declared.Found.TheVariants.{At, Nothing}
+use Rattle.std.specs.Prelude.{Option, Some, None}
 use Rattle.index_types.specs.declared.ListCounts.{ListCounts}
 use Rattle.records.specs.Records.{records, keys, key_of, stored_length, record_of}
 use Rattle.records.specs.Find.{find_key, distinct}
@@ -115,9 +114,9 @@ module _ (limit : ℕ) where
       and_true (leb (stored_length x) limit) (lengths_ok limit (take n xs)) (and_left (leb (stored_length x) limit) (lengths_ok limit xs) k)
       (lengths_take n xs (and_right (leb (stored_length x) limit) (lengths_ok limit xs) k))
 
-  pub lengths_put : (f : Found) (r : List ℕ) (rs : List (List ℕ)) → stored_length r ≤ limit → lengths_ok limit rs ≡ true → lengths_ok limit (put_at f r rs) ≡ true
-  lengths_put (At i) r rs h k = lengths_set rs i r h k
-  lengths_put Nothing r rs h k = lengths_more rs r h k
+  pub lengths_put : (f : Option ℕ) (r : List ℕ) (rs : List (List ℕ)) → stored_length r ≤ limit → lengths_ok limit rs ≡ true → lengths_ok limit (put_at f r rs) ≡ true
+  lengths_put (Some i) r rs h k = lengths_set rs i r h k
+  lengths_put None r rs h k = lengths_more rs r h k
 
   pub lengths_remove : (i : ℕ) (rs : List (List ℕ)) → i < length rs → lengths_ok limit rs ≡ true → lengths_ok limit (remove_at [] i rs) ≡ true
   unfolding remove_at

@@ -10,8 +10,7 @@ use lib.Seq.{get_or_at, get_or-set_same, get_or-set_other}
 use borrow.Author.Tests.{leb-false}
 use Rattle.stores.specs.Stores.{write}
 use Rattle.stores.proofs.StoreLaws.{length_write}
-use Rattle.records.specs.declared.Found.{Found}
-use Rattle.records.specs.declared.Found.TheVariants.{At, Nothing}
+use Rattle.std.specs.Prelude.{Option, Some, None}
 use Rattle.index_types.specs.declared.ListCounts.{ListCounts}
 use Rattle.records.specs.Records.{records, keys, key_of, stored_row}
 use Rattle.records.specs.Find.{find_key, is_found, distinct}
@@ -26,14 +25,14 @@ use Rattle.records.proofs.RecordLaws.{records_write, records_append, record_at}
 pub row_under_view : (size n : ℕ) (key l : List ℕ) → row_under size n key l ≡ view_row (find_key key (keys size n l)) (records size n l)
 row_under_view size n key l = by_case (find_key key (keys size n l)) refl
   where
-    by_case : (f : Found) → f ≡ find_key key (keys size n l) → found_row size l f ≡ view_row f (records size n l)
-    by_case (At i) e = ap stored_row (sym (record_at size n i l (found_in key size n l i (At i) e refl)))
-    by_case Nothing e = refl
+    by_case : (f : Option ℕ) → f ≡ find_key key (keys size n l) → found_row size l f ≡ view_row f (records size n l)
+    by_case (Some i) e = ap stored_row (sym (record_at size n i l (found_in key size n l i (Some i) e refl)))
+    by_case None e = refl
 
 -- the count goes with the view
-pub count_view : {A : Type 0} (f : Found) (a : A) (xs : List A) → length (put_at f a xs) ≡ count_after f (length xs)
-count_view (At i) a xs = length-set xs i a
-count_view Nothing a xs = length-append xs (a ∷ [])
+pub count_view : {A : Type 0} (f : Option ℕ) (a : A) (xs : List A) → length (put_at f a xs) ≡ count_after f (length xs)
+count_view (Some i) a xs = length-set xs i a
+count_view None a xs = length-append xs (a ∷ [])
 
 module _ (size n : ℕ) (key rec l : List ℕ) (sized : length rec ≡ size) (keyed : key_of rec ≡ key) (h : n * size ≤ length l)
     (room : slot (find_key key (keys size n l)) n * size + size ≤ length l) where
@@ -42,10 +41,10 @@ module _ (size n : ℕ) (key rec l : List ℕ) (sized : length rec ≡ size) (ke
   unfolding put_record
   records_after_put = by_case (find_key key (keys size n l)) refl room
     where
-      by_case : (f : Found) → f ≡ find_key key (keys size n l) → slot f n * size + size ≤ length l
+      by_case : (f : Option ℕ) → f ≡ find_key key (keys size n l) → slot f n * size + size ≤ length l
           → records size (count_after f n) (write (slot f n * size) rec l) ≡ put_at f rec (records size n l)
-      by_case (At i) q k = records_write size n i rec l sized (found_in key size n l i (At i) q refl) h
-      by_case Nothing q k = records_append size n rec l sized k
+      by_case (Some i) q k = records_write size n i rec l sized (found_in key size n l i (Some i) q refl) h
+      by_case None q k = records_append size n rec l sized k
 
   pub keys_after_put : keys size (count_after (find_key key (keys size n l)) n) (put_record size n key rec l)
       ≡ put_at (find_key key (keys size n l)) key (keys size n l)
@@ -60,7 +59,7 @@ module _ (size n : ℕ) (key rec l : List ℕ) (sized : length rec ≡ size) (ke
 
   -- a key that was put is found where it was put
   pub find_after_put : find_key key (keys size (count_after (find_key key (keys size n l)) n) (put_record size n key rec l))
-      ≡ At (slot (find_key key (keys size n l)) n)
+      ≡ Some (slot (find_key key (keys size n l)) n)
   find_after_put = rw keys_after_put (find_put_same key (keys size n l) ∙ rw (length_keys size n l))
 
   -- any other key is found where it was
@@ -79,11 +78,11 @@ module _ (size n : ℕ) (key rec l : List ℕ) (sized : length rec ≡ size) (ke
       row_under_view size (count_after (find_key key (keys size n l)) n) key (put_record size n key rec l)
       ∙ rw (find_after_put, records_after_put) (by_case (find_key key (keys size n l)) refl)
     where
-      by_case : (g : Found) → g ≡ find_key key (keys size n l) → view_row (At (slot g n)) (put_at g rec (records size n l)) ≡ stored_row rec
-      by_case (At i) e =
-          let b = found_in key size n l i (At i) e refl in
+      by_case : (g : Option ℕ) → g ≡ find_key key (keys size n l) → view_row (Some (slot g n)) (put_at g rec (records size n l)) ≡ stored_row rec
+      by_case (Some i) e =
+          let b = found_in key size n l i (Some i) e refl in
           rw (get_or-set_same (records size n l) i rec [] (omega (arith, length_records size n l)))
-      by_case Nothing e = rw (get_or_at (records size n l) rec [] [] n (length_records size n l))
+      by_case None e = rw (get_or_at (records size n l) rec [] [] n (length_records size n l))
 
   -- the row under any other key is as it was
   pub row_other_after_put : (other : List ℕ) → (key ≡ other → ⊥)
@@ -93,17 +92,17 @@ module _ (size n : ℕ) (key rec l : List ℕ) (sized : length rec ≡ size) (ke
       ∙ rw (find_other_after_put other ne, records_after_put) (by_case (find_key key (keys size n l)) refl (find_key other (keys size n l)) refl)
       ∙ sym (row_under_view size n other l)
     where
-      key_there : (a : List ℕ) (i : ℕ) → find_key a (keys size n l) ≡ At i → key_of (get_or (records size n l) i []) ≡ a
+      key_there : (a : List ℕ) (i : ℕ) → find_key a (keys size n l) ≡ Some i → key_of (get_or (records size n l) i []) ≡ a
       key_there a i e = sym (get_or-map key_of (records size n l) i []) ∙ (found_is a (keys size n l) i e).1
 
-      by_case : (g : Found) → find_key key (keys size n l) ≡ g → (o : Found) → find_key other (keys size n l) ≡ o
+      by_case : (g : Option ℕ) → find_key key (keys size n l) ≡ g → (o : Option ℕ) → find_key other (keys size n l) ≡ o
           → view_row o (put_at g rec (records size n l)) ≡ view_row o (records size n l)
-      by_case g e Nothing d = refl
-      by_case (At i) e (At j) d =
+      by_case g e None d = refl
+      by_case (Some i) e (Some j) d =
           ap stored_row (get_or-set_other (records size n l) i j rec []
           (λ q. ne (sym (key_there key i e) ∙ ap (λ (m : ℕ). key_of (get_or (records size n l) m [])) (sym q) ∙ key_there other j d)))
-      by_case Nothing e (At j) d =
-          let b = found_in other size n l j (At j) (sym d) refl in
+      by_case None e (Some j) d =
+          let b = found_in other size n l j (Some j) (sym d) refl in
           ap stored_row (get_or-append (records size n l) (rec ∷ []) [] j (omega (arith, length_records size n l)))
 
 -- ---- room
@@ -114,9 +113,9 @@ pub slot_below : (size : ℕ) (c : ListCounts) (key l : List ℕ) → c.count �
 unfolding full_for
 slot_below size c key l a h = by_case (find_key key (keys size c.count l)) refl h
   where
-    by_case : (f : Found) → f ≡ find_key key (keys size c.count l) → not (is_found f) && leb c.capacity c.count ≡ false → slot f c.count < c.capacity
-    by_case (At i) e h = omega (arith, found_in key size c.count l i (At i) e refl)
-    by_case Nothing e h = leb-false c.capacity c.count h
+    by_case : (f : Option ℕ) → f ≡ find_key key (keys size c.count l) → not (is_found f) && leb c.capacity c.count ≡ false → slot f c.count < c.capacity
+    by_case (Some i) e h = omega (arith, found_in key size c.count l i (Some i) e refl)
+    by_case None e h = leb-false c.capacity c.count h
 
 -- a list that is not full for a key has room where its record goes
 pub slot_room : (size : ℕ) (c : ListCounts) (key l : List ℕ) → InBounds size c l → full_for size c key l ≡ false
@@ -129,6 +128,6 @@ pub count_fits : (size : ℕ) (c : ListCounts) (key l : List ℕ) → c.count �
     → count_after (find_key key (keys size c.count l)) c.count ≤ c.capacity
 count_fits size c key l a h = by_case (find_key key (keys size c.count l)) (slot_below size c key l a h)
   where
-    by_case : (f : Found) → slot f c.count < c.capacity → count_after f c.count ≤ c.capacity
-    by_case (At i) b = a
-    by_case Nothing b = omega arith
+    by_case : (f : Option ℕ) → slot f c.count < c.capacity → count_after f c.count ≤ c.capacity
+    by_case (Some i) b = a
+    by_case None b = omega arith

@@ -9,8 +9,7 @@ use lib.ListN.{length, get_or, take, drop, replicate, length-replicate}
 use borrow.Author.Tests.{eqb-true, eqb-false}
 use Rattle.stores.specs.Stores.{write}
 use Rattle.stores.proofs.StoreLaws.{length_write, length_part}
-use Rattle.records.specs.declared.Found.{Found}
-use Rattle.records.specs.declared.Found.TheVariants.{At, Nothing}
+use Rattle.std.specs.Prelude.{Option, Some, None}
 use Rattle.records.specs.Records.{records, keys, key_of, stored_row}
 use Rattle.records.specs.Find.{find_key, is_found, distinct}
 use Rattle.records.specs.Changes.{remove_record}
@@ -69,16 +68,16 @@ module _ (size n i : ℕ) (l : List ℕ) (b : i < n) (h : n * size ≤ length l)
 
   module _ (t : distinct (keys size n l) ≡ true) where
     -- the removed key is gone
-    pub find_after_remove : find_key (get_or (keys size n l) i []) (keys size (n - 1) (remove_record size n i l)) ≡ Nothing
+    pub find_after_remove : find_key (get_or (keys size n l) i []) (keys size (n - 1) (remove_record size n i l)) ≡ None
     find_after_remove = rw keys_after_remove (find_removed (keys size n l) i (omega (arith, length_keys size n l)) t)
 
     -- where the record of another key, at index j, stands afterwards
     pub record Kept (other : List ℕ) (j : ℕ) : Type 0 where
       pub to : ℕ
-      pub found : find_key other (keys size (n - 1) (remove_record size n i l)) ≡ At to
+      pub found : find_key other (keys size (n - 1) (remove_record size n i l)) ≡ Some to
       pub same : get_or (records size (n - 1) (remove_record size n i l)) to [] ≡ get_or (records size n l) j []
 
-    pub find_kept : (other : List ℕ) → (get_or (keys size n l) i [] ≡ other → ⊥) → (j : ℕ) → find_key other (keys size n l) ≡ At j → Kept other j
+    pub find_kept : (other : List ℕ) → (get_or (keys size n l) i [] ≡ other → ⊥) → (j : ℕ) → find_key other (keys size n l) ≡ Some j → Kept other j
     find_kept other ne j d = by_test (eqb j (n - 1)) refl
       where
         ks_long : length (keys size n l) ≡ n
@@ -116,7 +115,7 @@ module _ (size n i : ℕ) (l : List ℕ) (b : i < n) (h : n * size ≤ length l)
               same = rw (records_after_remove, remove_other [] (records size n l) i (omega (arith, rs_long)) j (omega (arith, rs_long, ks_long, below)) not_i);
             }
 
-    find_lacking : (other : List ℕ) → find_key other (keys size n l) ≡ Nothing → find_key other (keys size (n - 1) (remove_record size n i l)) ≡ Nothing
+    find_lacking : (other : List ℕ) → find_key other (keys size n l) ≡ None → find_key other (keys size (n - 1) (remove_record size n i l)) ≡ None
     find_lacking other d =
         rw keys_after_remove (find_remove_none (keys size n l) i (omega (arith, length_keys size n l)) t other (found_none other (keys size n l) d))
 
@@ -125,9 +124,9 @@ module _ (size n i : ℕ) (l : List ℕ) (b : i < n) (h : n * size ≤ length l)
       pub find_other_after_remove : is_found (find_key other (keys size (n - 1) (remove_record size n i l))) ≡ is_found (find_key other (keys size n l))
       find_other_after_remove = by_case (find_key other (keys size n l)) refl
         where
-          by_case : (o : Found) → find_key other (keys size n l) ≡ o → is_found (find_key other (keys size (n - 1) (remove_record size n i l))) ≡ is_found o
-          by_case Nothing d = rw (find_lacking other d)
-          by_case (At j) d = rw (find_kept other ne j d).found
+          by_case : (o : Option ℕ) → find_key other (keys size n l) ≡ o → is_found (find_key other (keys size (n - 1) (remove_record size n i l))) ≡ is_found o
+          by_case None d = rw (find_lacking other d)
+          by_case (Some j) d = rw (find_kept other ne j d).found
 
       -- and has the row that it had
       pub row_after_remove : row_under size (n - 1) other (remove_record size n i l) ≡ row_under size n other l
@@ -136,8 +135,8 @@ module _ (size n i : ℕ) (l : List ℕ) (b : i < n) (h : n * size ≤ length l)
           ∙ by_case (find_key other (keys size n l)) refl
           ∙ sym (row_under_view size n other l)
         where
-          by_case : (o : Found) → find_key other (keys size n l) ≡ o
+          by_case : (o : Option ℕ) → find_key other (keys size n l) ≡ o
               → view_row (find_key other (keys size (n - 1) (remove_record size n i l))) (records size (n - 1) (remove_record size n i l))
               ≡ view_row o (records size n l)
-          by_case Nothing d = rw (find_lacking other d)
-          by_case (At j) d = let k = find_kept other ne j d in rw k.found (ap stored_row k.same)
+          by_case None d = rw (find_lacking other d)
+          by_case (Some j) d = let k = find_kept other ne j d in rw k.found (ap stored_row k.same)

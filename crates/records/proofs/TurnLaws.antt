@@ -12,8 +12,7 @@ use lib.Seq.{drop-drop, take-take, take_all}
 use borrow.Author.Tests.{le-leb, lt-leb, leb-true, leb-false}
 use Rattle.stores.specs.Equal.{same_bytes}
 use Rattle.stores.proofs.StoreLaws.{part_at}
-use Rattle.records.specs.declared.Found.{Found}
-use Rattle.records.specs.declared.Found.TheVariants.{At, Nothing}
+use Rattle.std.specs.Prelude.{Option, Some, None}
 use Rattle.records.specs.Records.{records, keys}
 use Rattle.records.specs.Find.{find_from, find_key, is_found, distinct}
 use Rattle.records.specs.Checks.{lengths_ok}
@@ -39,6 +38,9 @@ below_mul size n i h = rw (← suc-mul) (mul-le-mul_right size h)
 
 pub size_mul : (size i : ℕ) → suc i * size ≡ size + i * size
 size_mul size i = suc-mul i size ∙ omega arith
+
+step_mul : (size i : ℕ) → (i + 1) * size ≡ i * size + size
+step_mul size i = ap (λ (k : ℕ). k * size) (add-one i) ∙ suc-mul i size
 
 -- a capacity is compared by a quotient, for a product could wrap
 pub leb_div : (size capacity len : ℕ) → 0 < size → leb capacity (len / size) ≡ leb (capacity * size) len
@@ -70,33 +72,35 @@ keys_step size n i at l h k = rw (records_step, take-take)
 pub keys_past : (size n i : ℕ) (l : List ℕ) → n ≤ i → keys size (n - i) l ≡ []
 keys_past size n i l h = rw records_past
 
-pub find_step : (key : List ℕ) (size n i at : ℕ) (l : List ℕ) → 32 ≤ size → i < n
-    → find_from key i (keys size (n - i) (drop at l))
-    ≡ cond (same_bytes (take 32 (drop at l)) key) (At i) (find_from key (i + 1) (keys size (n - (i + 1)) (drop (at + size) l)))
+pub find_step : (key : List ℕ) (size n i : ℕ) (l : List ℕ) → 32 ≤ size → i < n
+    → find_from key i (keys size (n - i) (drop (i * size) l))
+    ≡ cond (same_bytes (take 32 (drop (i * size) l)) key) (Some i) (find_from key (i + 1) (keys size (n - (i + 1)) (drop ((i + 1) * size) l)))
 unfolding find_from
-find_step key size n i at l k h = rw (records_step, take-take, add-one i)
+find_step key size n i l k h = rw (step_mul, records_step, take-take, add-one i)
 
-pub find_past : (key : List ℕ) (size n i j : ℕ) (l : List ℕ) → n ≤ i → find_from key j (keys size (n - i) l) ≡ Nothing
+pub find_past : (key : List ℕ) (size n i j : ℕ) (l : List ℕ) → n ≤ i → find_from key j (keys size (n - i) l) ≡ None
 unfolding find_from
 find_past key size n i j l h = rw records_past
 
-pub distinct_step : (size n i at : ℕ) (l : List ℕ) → 32 ≤ size → i < n
-    → distinct (keys size (n - i) (drop at l))
-    ≡ not (is_found (find_key (take 32 (drop at l)) (keys size (n - (i + 1)) (drop (at + size) l))))
-    && distinct (keys size (n - (i + 1)) (drop (at + size) l))
+pub distinct_step : (size n i : ℕ) (l : List ℕ) → 32 ≤ size → i < n
+    → distinct (keys size (n - i) (drop (i * size) l))
+    ≡ not (is_found (find_key (take 32 (drop (i * size) l)) (keys size (n - (i + 1)) (drop ((i + 1) * size) l))))
+    && distinct (keys size (n - (i + 1)) (drop ((i + 1) * size) l))
 unfolding distinct
-distinct_step size n i at l k h = rw (records_step, take-take)
+distinct_step size n i l k h = rw (step_mul, records_step, take-take)
 
 pub distinct_past : (size n i : ℕ) (l : List ℕ) → n ≤ i → distinct (keys size (n - i) l) ≡ true
 unfolding distinct
 distinct_past size n i l h = rw records_past
 
-pub lengths_step : (limit size n i at : ℕ) (l : List ℕ) → 34 ≤ size → i < n
-    → lengths_ok limit (records size (n - i) (drop at l))
-    ≡ leb (get_or l (at + 32) 0 * 256 + get_or l (at + 33) 0) limit && lengths_ok limit (records size (n - (i + 1)) (drop (at + size) l))
+pub lengths_step : (limit size n i : ℕ) (l : List ℕ) → 34 ≤ size → i < n
+    → lengths_ok limit (records size (n - i) (drop (i * size) l))
+    ≡ leb (get_or l (i * size + 32) 0 * 256 + get_or l (i * size + 33) 0) limit
+    && lengths_ok limit (records size (n - (i + 1)) (drop ((i + 1) * size) l))
 unfolding lengths_ok
-lengths_step limit size n i at l h k =
-    ap (lengths_ok limit) (records_step size n i at l k) ∙ rw (part_at at size 32 l 0 (omega arith), part_at at size 33 l 0 (omega arith))
+lengths_step limit size n i l h k =
+    rw step_mul (ap (lengths_ok limit) (records_step size n i (i * size) l k)
+    ∙ rw (part_at (i * size) size 32 l 0 (omega arith), part_at (i * size) size 33 l 0 (omega arith)))
 
 pub lengths_past : (limit size n i : ℕ) (l : List ℕ) → n ≤ i → lengths_ok limit (records size (n - i) l) ≡ true
 unfolding lengths_ok
@@ -118,15 +122,15 @@ unfolding records
 length_keys size zero l = refl
 length_keys size (suc n) l = ap suc (length_keys size n (drop size l))
 
-pub found_below : (key : List ℕ) (i : ℕ) (ks : List (List ℕ)) (j : ℕ) → find_from key i ks ≡ At j → j < i + length ks
+pub found_below : (key : List ℕ) (i : ℕ) (ks : List (List ℕ)) (j : ℕ) → find_from key i ks ≡ Some j → j < i + length ks
 unfolding find_from
 found_below key i [] j h = let z : ◌≡◌ {A = ℕ} 0 1 = cc in omega arith
 found_below key i (k ∷ ks) j h = by_test (found_below key (suc i) ks j) (same_bytes k key) h
   where
-    by_test : (find_from key (suc i) ks ≡ At j → j < suc i + length ks) → (t : Bool) → cond t (At i) (find_from key (suc i) ks) ≡ At j
+    by_test : (find_from key (suc i) ks ≡ Some j → j < suc i + length ks) → (t : Bool) → cond t (Some i) (find_from key (suc i) ks) ≡ Some j
         → j < i + suc (length ks)
     by_test rest true h = let e : i ≡ j = cc in omega arith
     by_test rest false h = omega (arith, rest h)
 
-pub found_in : (key : List ℕ) (size n : ℕ) (l : List ℕ) (k : ℕ) (f : Found) → f ≡ find_key key (keys size n l) → f ≡ At k → k < n
+pub found_in : (key : List ℕ) (size n : ℕ) (l : List ℕ) (k : ℕ) (f : Option ℕ) → f ≡ find_key key (keys size n l) → f ≡ Some k → k < n
 found_in key size n l k f e h = omega (arith, found_below key 0 (keys size n l) k (sym e ∙ h), length_keys size n l)

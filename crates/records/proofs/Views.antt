@@ -9,25 +9,24 @@ use lib.Dec.{eqb}
 use lib.ListN.{length, get_or, take, set, length-set, length-take, length-map, get_or-map}
 use lib.Seq.{get_or-set_same, get_or-set_other, get_or-take}
 use borrow.Author.Tests.{eqb-true, eqb-false}
-use Rattle.records.specs.declared.Found.{Found}
-use Rattle.records.specs.declared.Found.TheVariants.{At, Nothing}
+use Rattle.std.specs.Prelude.{Option, Some, None}
 use Rattle.records.specs.Records.{keys, stored_row}
 use Rattle.records.specs.Find.{find_key, row_at}
 
 module _ {A : Type 0} where
   -- a in the place that was found, or last
-  abbrev pub put_at : Found → A → List A → List A
-  put_at (At i) a xs = set xs i a
-  put_at Nothing a xs = xs ++ a ∷ []
+  abbrev pub put_at : Option ℕ → A → List A → List A
+  put_at (Some i) a xs = set xs i a
+  put_at None a xs = xs ++ a ∷ []
 
   -- without the element at i: the last one moves into the gap
   unfoldable pub remove_at : A → ℕ → List A → List A
   remove_at d i xs = take (length xs - 1) (set xs i (get_or xs (length xs - 1) d))
 
   -- without the element that was found
-  abbrev pub remove_found : A → Found → List A → List A
-  remove_found d (At i) xs = remove_at d i xs
-  remove_found d Nothing xs = xs
+  abbrev pub remove_found : A → Option ℕ → List A → List A
+  remove_found d (Some i) xs = remove_at d i xs
+  remove_found d None xs = xs
 
   module _ (d : A) (xs : List A) (i : ℕ) (h : i < length xs) where
     pub length_remove : length (remove_at d i xs) ≡ length xs - 1
@@ -77,9 +76,9 @@ module _ {A B : Type 0} (f : A → B) where
   map_more [] a = refl
   map_more (x ∷ xs) a = ap (λ (ys : List B). f x ∷ ys) (map_more xs a)
 
-  pub map_put : (o : Found) (a : A) (xs : List A) → map f (put_at o a xs) ≡ put_at o (f a) (map f xs)
-  map_put (At i) a xs = map_set xs i a
-  map_put Nothing a xs = map_more xs a
+  pub map_put : (o : Option ℕ) (a : A) (xs : List A) → map f (put_at o a xs) ≡ put_at o (f a) (map f xs)
+  map_put (Some i) a xs = map_set xs i a
+  map_put None a xs = map_more xs a
 
   pub map_remove : (d : A) (i : ℕ) (xs : List A) → map f (remove_at d i xs) ≡ remove_at (f d) i (map f xs)
   unfolding remove_at
@@ -88,15 +87,15 @@ module _ {A B : Type 0} (f : A → B) where
 -- ---- rows
 
 -- the row of the record that was found, empty where none was
-abbrev pub found_row : (size : ℕ) → List ℕ → Found → List ℕ
-found_row size l (At i) = row_at size i l
-found_row size l Nothing = []
+abbrev pub found_row : (size : ℕ) → List ℕ → Option ℕ → List ℕ
+found_row size l (Some i) = row_at size i l
+found_row size l None = []
 
 -- the row under a key, empty where the key is not there
 abbrev pub row_under : (size count : ℕ) → (key l : List ℕ) → List ℕ
 row_under size count key l = found_row size l (find_key key (keys size count l))
 
 -- the row of the record that was found, read off the list of records
-abbrev pub view_row : Found → List (List ℕ) → List ℕ
-view_row (At i) rs = stored_row (get_or rs i [])
-view_row Nothing rs = []
+abbrev pub view_row : Option ℕ → List (List ℕ) → List ℕ
+view_row (Some i) rs = stored_row (get_or rs i [])
+view_row None rs = []

@@ -1,22 +1,20 @@
 -- What changes a record list or a key list (document 01, "Shelf and staging"):
 -- "a new key goes last; removal moves the last record into the gap and zeroes the vacated one".
-use Rattle.std.specs.Prelude.{ℕ, ◌+◌, ◌*◌, ◌-◌, Bool, not, ◌&&◌, List, leb, take, drop, replicate}
+use Rattle.std.specs.Prelude.{ℕ, ◌+◌, ◌*◌, ◌-◌, Bool, not, ◌&&◌, List, leb, take, drop, replicate, Option, Some, None}
 use Rattle.stores.specs.Stores.{write}
-use Rattle.records.specs.declared.Found.{Found}
-use Rattle.records.specs.declared.Found.TheVariants.{At, Nothing}
 use Rattle.index_types.specs.declared.ListCounts.{ListCounts}
 use Rattle.records.specs.Records.{keys}
 use Rattle.records.specs.Find.{find_key, is_found}
 
 -- the index that a record goes to: that of the record with its key, or the next
-abbrev pub slot : Found → ℕ → ℕ
-slot (At i) count = i
-slot Nothing count = count
+abbrev pub slot : Option ℕ → ℕ → ℕ
+slot (Some i) count = i
+slot None count = count
 
 -- the number of records once it is there
-abbrev pub count_after : Found → ℕ → ℕ
-count_after (At i) count = count
-count_after Nothing count = count + 1
+abbrev pub count_after : Option ℕ → ℕ → ℕ
+count_after (Some i) count = count
+count_after None count = count + 1
 
 -- the counts of a list that now holds n records
 abbrev pub with_count : ℕ → ListCounts → ListCounts

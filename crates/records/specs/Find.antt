@@ -1,25 +1,23 @@
 -- Where a key stands in a list of keys, whether a key stands twice, and the row under a key
 -- (document 01, "Shelf and staging": "shows the row's bytes from staging if the key is there, otherwise from the shelf").
-use Rattle.std.specs.Prelude.{ℕ, suc, ◌*◌, Bool, true, false, cond, not, ◌&&◌, List, [], ◌∷◌, take, drop}
+use Rattle.std.specs.Prelude.{ℕ, suc, ◌*◌, Bool, true, false, cond, not, ◌&&◌, List, [], ◌∷◌, take, drop, Option, Some, None}
 use Rattle.stores.specs.Equal.{same_bytes}
-use Rattle.records.specs.declared.Found.{Found}
-use Rattle.records.specs.declared.Found.TheVariants.{At, Nothing}
 use Rattle.records.specs.declared.Place.{Place}
 use Rattle.records.specs.declared.Place.TheVariants.{Staged, Table, Missing}
 use Rattle.records.specs.Records.{keys, stored_row}
 
 -- the index of the first key of ks that is equal, where the first of ks has index i
-unfoldable pub find_from : List ℕ → ℕ → List (List ℕ) → Found
-find_from key i [] = Nothing
-find_from key i (k ∷ ks) = cond (same_bytes k key) (At i) (find_from key (suc i) ks)
+unfoldable pub find_from : List ℕ → ℕ → List (List ℕ) → Option ℕ
+find_from key i [] = None
+find_from key i (k ∷ ks) = cond (same_bytes k key) (Some i) (find_from key (suc i) ks)
 
 -- the index of the first key that is equal
-abbrev pub find_key : List ℕ → List (List ℕ) → Found
+abbrev pub find_key : List ℕ → List (List ℕ) → Option ℕ
 find_key key ks = find_from key 0 ks
 
-abbrev pub is_found : Found → Bool
-is_found (At i) = true
-is_found Nothing = false
+abbrev pub is_found : Option ℕ → Bool
+is_found (Some i) = true
+is_found None = false
 
 -- no key stands twice
 unfoldable pub distinct : List (List ℕ) → Bool
@@ -31,10 +29,10 @@ abbrev pub row_at : (size index : ℕ) → List ℕ → List ℕ
 row_at size index l = stored_row (take size (drop (index * size) l))
 
 -- staged spills come before the table
-abbrev pub place_of : (staged table : Found) → Place
-place_of (At i) f = Staged i
-place_of Nothing (At i) = Table i
-place_of Nothing Nothing = Missing
+abbrev pub place_of : (staged table : Option ℕ) → Place
+place_of (Some i) f = Staged i
+place_of None (Some i) = Table i
+place_of None None = Missing
 
 -- where a key stands
 abbrev pub locate_key : (size : ℕ) → List ℕ → (staged_count : ℕ) → List ℕ → (table_count : ℕ) → List ℕ → Place

@@ -10,13 +10,6 @@ ghost use Rattle.records.specs.Checks.{in_bounds, lengths_ok};
 
 use index_types::ListCounts;
 
-// Where a search found a key.
-#[derive(Clone, Copy)]
-pub enum Found {
-    At(usize),
-    Nothing,
-}
-
 // Where the row under a key stands.
 #[derive(Clone, Copy)]
 pub enum Place {
@@ -35,20 +28,17 @@ pub fn key_is(list: &[u8], at: usize, key: &[u8]) -> bool
 }
 
 // The index of the first record with the key.
-pub fn find(list: &[u8], size: usize, count: usize, key: &[u8]) -> Found
+#[tactic(auto, using(crate::proofs::TurnLaws::find_step, crate::proofs::TurnLaws::find_past, crate::proofs::TurnLaws::below_mul))]
+pub fn find(list: &[u8], size: usize, count: usize, key: &[u8]) -> Option<usize>
     requires { (32 ≤ size) × (count * size ≤ length list.now) }
     ensures { result ≡ find_key key.now (keys size count list.now) }
 {
-    let mut i = 0;
-    let mut at = 0;
-    while i < count {
-        if key_is(list, at, key) {
-            return Found::At(i);
+    for i in 0..count {
+        if key_is(list, i * size, key) {
+            return Some(i);
         }
-        i += 1;
-        at += size;
     }
-    Found::Nothing
+    None
 }
 
 // The length that the record at a position states.
@@ -89,12 +79,12 @@ pub fn locate(
 {
     let among_staged = find(staged, size, staged_count, key);
     match among_staged {
-        Found::At(i) => Place::Staged(i),
-        Found::Nothing => {
+        Some(i) => Place::Staged(i),
+        None => {
             let in_table = find(table, size, table_count, key);
             match in_table {
-                Found::At(i) => Place::Table(i),
-                Found::Nothing => Place::Missing,
+                Some(i) => Place::Table(i),
+                None => Place::Missing,
             }
         }
     }
@@ -112,18 +102,15 @@ pub fn bounds_hold(size: usize, counts: ListCounts, list: &[u8]) -> bool
 }
 
 // Whether every record states a length of at most the limit.
+#[tactic(auto, using(crate::proofs::TurnLaws::lengths_step, crate::proofs::TurnLaws::lengths_past, crate::proofs::TurnLaws::below_mul))]
 pub fn lengths_fit(list: &[u8], size: usize, limit: usize, count: usize) -> bool
     requires { (34 ≤ size) × (count * size ≤ length list.now) }
     ensures { result ≡ lengths_ok limit (records size count list.now) }
 {
-    let mut i = 0;
-    let mut at = 0;
-    while i < count {
-        if limit < length_at(list, at) {
+    for i in 0..count {
+        if limit < length_at(list, i * size) {
             return false;
         }
-        i += 1;
-        at += size;
     }
     true
 }

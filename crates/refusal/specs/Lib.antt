@@ -1,2 +1,3 @@
 -- The definitions that the contracts of `refusal` cite.
 pub mod Refusal
+pub mod Answers

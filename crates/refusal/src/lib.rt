@@ -152,11 +152,7 @@ fn codes() -> [u8; 41]
 }
 
 // What a call answers that gives nothing else.
-#[derive(Clone, Copy)]
-pub enum Answer {
-    Accepted,
-    Refused(u8),
-}
+pub type Answer = Result<(), u8>;
 
 // What is left of the answer of a flip in a derived index.
 #[derive(Clone, Copy)]
@@ -171,8 +167,8 @@ pub fn tolerate_secondary_drift(flip: Answer) -> Tolerated
     ensures { result ≡ tolerated flip }
 {
     match flip {
-        Answer::Accepted => Tolerated::Flipped,
-        Answer::Refused(code) => {
+        Ok(()) => Tolerated::Flipped,
+        Err(code) => {
             if code == TARGET_NOT_SEEN {
                 Tolerated::Skipped
             } else {

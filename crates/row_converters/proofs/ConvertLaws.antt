@@ -8,13 +8,11 @@ use lib.IntN.{ℤ}
 use lib.ListN.{length, take, drop, length-drop}
 use lib.Seq.{take_all}
 use borrow.Author.Tests.{le-leb, lt-leb}
-use Rattle.vlq_core.specs.declared.Got.TheVariants as got
+use Rattle.std.specs.Prelude.{Ok, Err}
 use Rattle.vlq_core.specs.Writing.{written, put_bytes}
-use Rattle.index_types.specs.declared.Wrote.TheVariants.{Refused}
 use Rattle.index_types.specs.declared.RowEdition.{RowEdition}
 use Rattle.index_types.specs.declared.Loaded.{Loaded}
 use Rattle.index_types.specs.declared.Loaded.TheVariants as loaded
-use Rattle.refusal.specs.declared.Answer.TheVariants as answer
 use Rattle.segment_core.specs.Loading.{Loading, loading, load}
 use Rattle.segment_core.specs.Reading.{Seg, seg, no_seg, segment_at, ended}
 use Rattle.buffer_core.specs.Edition.{row_limit_of, body_at, named}
@@ -25,16 +23,16 @@ use Rattle.row_converters.specs.Internal.{body_answer}
 -- ---- the ways out, in their order
 
 module _ (v w : RowEdition) (parent : List ℕ) (k : ℕ) (n : ℤ) (s out : List ℕ) where
-  pub too_long : row_limit_of v < length s → written (Refused 25) out ≡ convert v w parent k n s out
+  pub too_long : row_limit_of v < length s → written (Err 25) out ≡ convert v w parent k n s out
   unfolding convert
   too_long h = rw (lt-leb (length s) (row_limit_of v) h)
 
   module _ (fits : length s ≤ row_limit_of v) where
-    pub header_refused : (r : ℕ) → body_at v s ≡ got.Refused r → written (Refused r) out ≡ convert v w parent k n s out
+    pub header_refused : (r : ℕ) → body_at v s ≡ Err r → written (Err r) out ≡ convert v w parent k n s out
     unfolding convert
     header_refused r e = rw (le-leb (length s) (row_limit_of v) fits, e)
 
-    module _ (c at : ℕ) (e : body_at v s ≡ got.Value c at) where
+    module _ (c at : ℕ) (e : body_at v s ≡ Ok (c, at)) where
       abbrev body : Seg
       body = ended true (length s) (segment_at s at)
 
@@ -42,25 +40,25 @@ module _ (v w : RowEdition) (parent : List ℕ) (k : ℕ) (n : ℤ) (s out : Lis
       unfolding convert
       read_on = rw (le-leb (length s) (row_limit_of v) fits, e)
 
-      pub body_refused : (r : ℕ) → answer.Refused r ≡ body_answer body → written (Refused r) out ≡ convert v w parent k n s out
+      pub body_refused : (r : ℕ) → Err r ≡ body_answer body → written (Err r) out ≡ convert v w parent k n s out
       body_refused r f = by_body body f ∙ read_on
         where
-          by_body : (g : Seg) → answer.Refused r ≡ body_answer g → written (Refused r) out ≡ put_row (front w parent k n) (drop at s) (named (tells v parent k n s c) g) out
+          by_body : (g : Seg) → Err r ≡ body_answer g → written (Err r) out ≡ put_row (front w parent k n) (drop at s) (named (tells v parent k n s c) g) out
           by_body (seg ts bs b t m) f = let z : ◌≡◌ {A = ℕ} 0 1 = cc in absurd (omega arith)
-          by_body (no_seg x) f = let d : r ≡ x = cc in ap (λ (y : ℕ). written (Refused y) out) d
+          by_body (no_seg x) f = let d : r ≡ x = cc in ap (λ (y : ℕ). written (Err y) out) d
 
-      module _ (f : answer.Accepted ≡ body_answer body) where
-        pub of_others : tells v parent k n s c ≡ false → written (Refused 35) out ≡ convert v w parent k n s out
+      module _ (f : (Ok tt) ≡ body_answer body) where
+        pub of_others : tells v parent k n s c ≡ false → written (Err 35) out ≡ convert v w parent k n s out
         of_others t = by_body body f ∙ read_on
           where
-            by_body : (g : Seg) → answer.Accepted ≡ body_answer g → written (Refused 35) out ≡ put_row (front w parent k n) (drop at s) (named (tells v parent k n s c) g) out
+            by_body : (g : Seg) → (Ok tt) ≡ body_answer g → written (Err 35) out ≡ put_row (front w parent k n) (drop at s) (named (tells v parent k n s c) g) out
             by_body (seg ts bs b u m) f = rw t refl
             by_body (no_seg x) f = let z : ◌≡◌ {A = ℕ} 0 1 = cc in absurd (omega arith)
 
         pub of_these : tells v parent k n s c ≡ true → put_bytes (front w parent k n ++ drop at s) out 0 ≡ convert v w parent k n s out
         of_these t = by_body body f ∙ read_on
           where
-            by_body : (g : Seg) → answer.Accepted ≡ body_answer g → put_bytes (front w parent k n ++ drop at s) out 0 ≡ put_row (front w parent k n) (drop at s) (named (tells v parent k n s c) g) out
+            by_body : (g : Seg) → (Ok tt) ≡ body_answer g → put_bytes (front w parent k n ++ drop at s) out 0 ≡ put_row (front w parent k n) (drop at s) (named (tells v parent k n s c) g) out
             by_body (seg ts bs b u m) f = rw t refl
             by_body (no_seg x) f = let z : ◌≡◌ {A = ℕ} 0 1 = cc in absurd (omega arith)
 
@@ -72,19 +70,19 @@ as_told v parent k q s c x e = ap (λ (z : ℤ). tells v parent k z s c) (sym q)
 
 -- what the reader of a segment answered, as an answer on the body
 module _ (g : Seg) (r : Loaded) (l m l' m' : List ℤ) (e : loading r l' m' ≡ load g l m) where
-  pub body_read : (i j : ℕ) (b t : ℤ) (n : ℕ) → r ≡ loaded.Read i j b t n → answer.Accepted ≡ body_answer g
+  pub body_read : (i j : ℕ) (b t : ℤ) (n : ℕ) → r ≡ loaded.Read i j b t n → (Ok tt) ≡ body_answer g
   body_read i j b t n f = by_body g e
     where
-      by_body : (g : Seg) → loading r l' m' ≡ load g l m → answer.Accepted ≡ body_answer g
+      by_body : (g : Seg) → loading r l' m' ≡ load g l m → (Ok tt) ≡ body_answer g
       by_body (seg ts bs b' t' n') e = refl
       by_body (no_seg x) e = let p : r ≡ loaded.Refused x = ap (λ (x : Loading). x.answer) e in let z : ◌≡◌ {A = ℕ} 0 1 = cc in absurd (omega arith)
 
-  pub body_unread : (code : ℕ) → r ≡ loaded.Refused code → answer.Refused code ≡ body_answer g
+  pub body_unread : (code : ℕ) → r ≡ loaded.Refused code → Err code ≡ body_answer g
   body_unread code f = by_body g e
     where
-      by_body : (g : Seg) → loading r l' m' ≡ load g l m → answer.Refused code ≡ body_answer g
+      by_body : (g : Seg) → loading r l' m' ≡ load g l m → Err code ≡ body_answer g
       by_body (seg ts bs b t n) e = let p : r ≡ loaded.Read (length ts) (length bs) b t n = ap (λ (x : Loading). x.answer) e in let z : ◌≡◌ {A = ℕ} 0 1 = cc in absurd (omega arith)
-      by_body (no_seg x) e = let p : r ≡ loaded.Refused x = ap (λ (x : Loading). x.answer) e in let d : code ≡ x = cc in ap answer.Refused d
+      by_body (no_seg x) e = let p : r ≡ loaded.Refused x = ap (λ (x : Loading). x.answer) e in let d : code ≡ x = cc in ap Err d
 
 -- the rest of a row, as a part of it
 pub rest : (at : ℕ) (s : List ℕ) → take (length s - at) (drop at s) ≡ drop at s

@@ -17,8 +17,8 @@ use Rattle.stores.specs.Stores.{write}
 use Rattle.stores.proofs.EqualLaws.{same_refl, same_true}
 use Rattle.vlq_core.specs.Zigzag.{zig}
 use Rattle.vlq_core.specs.Groups.{enc}
-use Rattle.vlq_core.specs.declared.Got.{Got}
-use Rattle.vlq_core.specs.declared.Got.TheVariants as got
+use Rattle.std.specs.Prelude.{Ok, Err}
+use Rattle.vlq_core.specs.Answers.{Got}
 use Rattle.vlq_core.specs.Reading.{read_at}
 use Rattle.vlq_core.specs.Writing.{Written, written, put_bytes}
 use Rattle.vlq_core.proofs.ZigzagLaws.{zig_fits}
@@ -26,10 +26,8 @@ use Rattle.vlq_core.proofs.GroupLaws.{number_length}
 use Rattle.vlq_core.proofs.ReadLaws.{read_next}
 use Rattle.vlq_core.proofs.BackLaws.{read_back}
 use Rattle.vlq_core.proofs.UniqueLaws.{Bytes, read_unique}
-use Rattle.index_types.specs.declared.Wrote.TheVariants.{Next, Refused}
 use Rattle.index_types.specs.declared.RowEdition.{RowEdition}
 use Rattle.index_types.specs.declared.RowEdition.TheVariants.{One, Two}
-use Rattle.refusal.specs.declared.Answer.TheVariants as answer
 use Rattle.segment_core.specs.Row.{row_bytes, row_limit}
 use Rattle.segment_core.specs.Reading.{Seg, seg, no_seg, segment_at, ended}
 use Rattle.segment_core.proofs.BackLaws.{Writable, segment_back}
@@ -44,6 +42,7 @@ use Rattle.row_fronts.proofs.FrontLaws.{front_length}
 use Rattle.row_converters.specs.Convert.{put_row, start_then, convert}
 use Rattle.row_converters.specs.Internal.{body_answer}
 use Rattle.row_converters.proofs.ConvertLaws.{of_these}
+use Rattle.index_types.proofs.AnswerLaws.{pair_same}
 
 module _ (p : List ℕ) (long : length p ≡ 32) (k : ℕ) (n : ℤ) (fit : SFits w32 n) where
   -- ---- a header and the row of a content: it is read, and written in the other edition
@@ -64,12 +63,12 @@ module _ (p : List ℕ) (long : length p ≡ 32) (k : ℕ) (n : ℤ) (fit : SFit
     abbrev whole : RowEdition → List ℕ
     whole v = front v p k n ++ body
 
-    begins : (v : RowEdition) → body_at v (whole v) ≡ got.Value (number v) (start v)
+    begins : (v : RowEdition) → body_at v (whole v) ≡ Ok (number v, start v)
     begins One = refl
     begins Two =
         ap (λ (s : List ℕ). read_at 32 s number_at) (append_assoc p (k ∷ enc (zig n)) body ∙ sym (append_assoc p (k ∷ []) (enc (zig n) ++ body)))
         ∙ read_back 32 (zig n) (p ++ (k ∷ [])) body number_at (length-append p (k ∷ []) ∙ omega arith) (omega arith) (zig_fits w32 n fit).fits
-        ∙ ap (got.Value (zig n)) (sym (front_length p k n long))
+        ∙ ap (λ x. Ok (zig n, x)) (sym (front_length p k n long))
 
     told : is_kind k ≡ true → (v : RowEdition) → tells v p k n (whole v) (number v) ≡ true
     told a One = a
@@ -90,7 +89,7 @@ module _ (p : List ℕ) (long : length p ≡ 32) (k : ℕ) (n : ℤ) (fit : SFit
         let c : List ℕ = row_bytes ts bs b t in
         let size : length s ≡ start v + length c = length-append (front v p k n) c in
         let e = segment_back ts bs b t w s (front v p k n) [] (start v) (ap (λ (l : List ℕ). front v p k n ++ l) (sym (append-nil c))) refl in
-        let f : answer.Accepted ≡ body_answer (ended true (length s) (segment_at s (start v))) = rw (e, eq-eqb (start v + length c) (length s) (sym size)) refl in
+        let f : (Ok tt) ≡ body_answer (ended true (length s) (segment_at s (start v))) = rw (e, eq-eqb (start v + length c) (length s) (sym size)) refl in
         sym (of_these v u p k n s out (omega (arith, size, within v, row_size ts bs b t w)) (number v) (start v) (begins c v) f (told c a v))
         ∙ ap (λ (l : List ℕ). put_bytes (front u p k n ++ l) out 0) (drop_at (front v p k n) c (start v) refl)
 
@@ -108,8 +107,8 @@ module _ (p : List ℕ) (long : length p ≡ 32) (k : ℕ) (n : ℤ) (fit : SFit
 
   module _ (s : List ℕ) (all : Bytes s) where
     -- what stands before the body of a row that says these three
-    before_body : (v : RowEdition) (c at : ℕ) → body_at v s ≡ got.Value c at → tells v p k n s c ≡ true → (is_kind k ≡ true) × Span s all 0 at (front v p k n)
-    before_body One c at e t = let z : 0 ≡ at = cc in (t, record { past = omega arith; is = let d : at - 0 ≡ 0 = omega arith in rw d refl })
+    before_body : (v : RowEdition) (c at : ℕ) → body_at v s ≡ Ok (c, at) → tells v p k n s c ≡ true → (is_kind k ≡ true) × Span s all 0 at (front v p k n)
+    before_body One c at e t = let z : 0 ≡ at = (pair_same e).1 in (t, record { past = omega arith; is = let d : at - 0 ≡ 0 = omega arith in rw d refl })
     before_body Two c at e t = by_tests (is_kind k) (same_bytes (take 32 s) p) (eqb (get_or s 32 0) k) (eqb c (zig n)) refl refl refl refl t
       where
         by_tests : (x y z u : Bool) → is_kind k ≡ x → same_bytes (take 32 s) p ≡ y → eqb (get_or s 32 0) k ≡ z → eqb c (zig n) ≡ u → x && (y && (z && u)) ≡ true
@@ -127,12 +126,12 @@ module _ (p : List ℕ) (long : length p ≡ 32) (k : ℕ) (n : ℤ) (fit : SFit
         by_tests true false z u a f g h t = let x : ◌≡◌ {A = ℕ} 0 1 = cc in absurd (omega arith)
         by_tests false y z u a f g h t = let x : ◌≡◌ {A = ℕ} 0 1 = cc in absurd (omega arith)
 
-    pub accepted : (v u : RowEdition) (out : List ℕ) (r : ℕ) → (convert v u p k n s out).answer ≡ Next r → Whole v s
+    pub accepted : (v u : RowEdition) (out : List ℕ) (r : ℕ) → (convert v u p k n s out).answer ≡ Ok r → Whole v s
     unfolding convert
     accepted v u out r e = by_limit (leb (length s) (row_limit_of v)) e
       where
-        by_name : (c at : ℕ) → body_at v s ≡ got.Value c at → (x : Bool) → tells v p k n s c ≡ x → (g : Seg) → LastSpan s all at g
-            → (put_row (front u p k n) (drop at s) (named x g) out).answer ≡ Next r → Whole v s
+        by_name : (c at : ℕ) → body_at v s ≡ Ok (c, at) → (x : Bool) → tells v p k n s c ≡ x → (g : Seg) → LastSpan s all at g
+            → (put_row (front u p k n) (drop at s) (named x g) out).answer ≡ Ok r → Whole v s
         by_name c at d true x (seg ts bs b t m) g e =
             let h = before_body v c at d x in
             let z = both s all 0 at (length s) (front v p k n) (row_bytes ts bs b t) h.1 g.span in
@@ -149,28 +148,28 @@ module _ (p : List ℕ) (long : length p ≡ 32) (k : ℕ) (n : ℤ) (fit : SFit
         by_name c at d x y (no_seg m) g e = let z : ◌≡◌ {A = ℕ} 0 1 = cc in absurd (omega arith)
 
         by_start : (g : Got) → body_at v s ≡ g
-            → (start_then (λ c at. put_row (front u p k n) (drop at s) (named (tells v p k n s c) (ended true (length s) (segment_at s at))) out) out g).answer ≡ Next r → Whole v s
-        by_start (got.Value c at) d e = by_name c at d (tells v p k n s c) refl (ended true (length s) (segment_at s at)) (last_span s all at) e
-        by_start (got.Refused m) d e = let z : ◌≡◌ {A = ℕ} 0 1 = cc in absurd (omega arith)
+            → (start_then (λ c at. put_row (front u p k n) (drop at s) (named (tells v p k n s c) (ended true (length s) (segment_at s at))) out) out g).answer ≡ Ok r → Whole v s
+        by_start (Ok (c, at)) d e = by_name c at d (tells v p k n s c) refl (ended true (length s) (segment_at s at)) (last_span s all at) e
+        by_start (Err m) d e = let z : ◌≡◌ {A = ℕ} 0 1 = cc in absurd (omega arith)
 
-        by_limit : (x : Bool) → (cond x (start_then (λ c at. put_row (front u p k n) (drop at s) (named (tells v p k n s c) (ended true (length s) (segment_at s at))) out) out (body_at v s)) (written (Refused 25) out)).answer ≡ Next r → Whole v s
+        by_limit : (x : Bool) → (cond x (start_then (λ c at. put_row (front u p k n) (drop at s) (named (tells v p k n s c) (ended true (length s) (segment_at s at))) out) out (body_at v s)) (written (Err 25) out)).answer ≡ Ok r → Whole v s
         by_limit true e = by_start (body_at v s) refl e
         by_limit false e = let z : ◌≡◌ {A = ℕ} 0 1 = cc in absurd (omega arith)
 
     -- ---- there and back
 
     -- the bytes that a writer at the front says it wrote are those it was to write
-    put_front : (c out : List ℕ) (r : ℕ) → (put_bytes c out 0).answer ≡ Next r → take r (put_bytes c out 0).out ≡ c
+    put_front : (c out : List ℕ) (r : ℕ) → (put_bytes c out 0).answer ≡ Ok r → take r (put_bytes c out 0).out ≡ c
     unfolding put_bytes write
     put_front c out r e = by_room (leb (0 + length c) (length out)) refl e
       where
-        by_room : (x : Bool) → leb (0 + length c) (length out) ≡ x → (cond x (written (Next (0 + length c)) (write 0 c out)) (written (Refused 32) out)).answer ≡ Next r
-            → take r (cond x (written (Next (0 + length c)) (write 0 c out)) (written (Refused 32) out)).out ≡ c
+        by_room : (x : Bool) → leb (0 + length c) (length out) ≡ x → (cond x (written (Ok (0 + length c)) (write 0 c out)) (written (Err 32) out)).answer ≡ Ok r
+            → take r (cond x (written (Ok (0 + length c)) (write 0 c out)) (written (Err 32) out)).out ≡ c
         by_room true h e = let f : 0 + length c ≡ r = cc in take_at c (drop (0 + length c) out) r (omega arith)
         by_room false h e = let x : ◌≡◌ {A = ℕ} 0 1 = cc in absurd (omega arith)
 
     -- a row that was converted is the same content behind the other header
-    pub moved : (v u : RowEdition) (out : List ℕ) (r : ℕ) (e : (convert v u p k n s out).answer ≡ Next r)
+    pub moved : (v u : RowEdition) (out : List ℕ) (r : ℕ) (e : (convert v u p k n s out).answer ≡ Ok r)
         → take r (convert v u p k n s out).out
         ≡ front u p k n ++ row_bytes (accepted v u out r e).txs (accepted v u out r e).boxes (accepted v u out r e).box_count (accepted v u out r e).tx_count
     moved v u out r e =
@@ -181,7 +180,7 @@ module _ (p : List ℕ) (long : length p ≡ 32) (k : ℕ) (n : ℤ) (fit : SFit
         ap (λ (x : Written). take r x.out) f ∙ put_front (front u p k n ++ c) out r (sym (ap (λ (x : Written). x.answer) f) ∙ e)
 
     -- "goes back": converted back, the row itself goes to the output, or 32 where it does not fit
-    pub there_and_back : (v u : RowEdition) (out : List ℕ) (r : ℕ) → (convert v u p k n s out).answer ≡ Next r
+    pub there_and_back : (v u : RowEdition) (out : List ℕ) (r : ℕ) → (convert v u p k n s out).answer ≡ Ok r
         → (out' : List ℕ) → convert u v p k n (take r (convert v u p k n s out).out) out' ≡ put_bytes s out' 0
     there_and_back v u out r e out' =
         let w = accepted v u out r e in
@@ -201,7 +200,7 @@ module _ (kind : Kind) (p : List ℕ) (long : length p ≡ 32) (n : ℕ) (low : 
   same_front One = refl
   same_front Two = refl
 
-  pub read_alike : made.answer ≡ Next r → numbers_of kind (row_under u kind p (pos n) (take r made.out)) ≡ numbers_of kind (row_under v kind p (pos n) s)
+  pub read_alike : made.answer ≡ Ok r → numbers_of kind (row_under u kind p (pos n) (take r made.out)) ≡ numbers_of kind (row_under v kind p (pos n) s)
   read_alike e =
       let w = accepted p long (kind_byte kind) (pos n) of_spill s all v u out r e in
       let c : List ℕ = row_bytes w.txs w.boxes w.box_count w.tx_count in

@@ -12,7 +12,6 @@ use buffer_core::LONGEST_ROW;
 use index_types::{Loaded, SEGMENT_THRESHOLD, Wrote};
 use refusal::Answer;
 use segment_core::ROW_LIMIT;
-use vlq_core::Got;
 
 // Whether the bytes from a position on are a body that ends the row.
 fn check_body(row: &[u8], at: usize) -> Answer
@@ -21,8 +20,8 @@ fn check_body(row: &[u8], at: usize) -> Answer
     let mut txs = [0i64; SEGMENT_THRESHOLD];
     let mut boxes = [0i64; SEGMENT_THRESHOLD];
     match segment_loading::read_last_segment(row, at, &mut txs, &mut boxes) {
-        Loaded::Read { .. } => Answer::Accepted,
-        Loaded::Refused(code) => Answer::Refused(code),
+        Loaded::Read { .. } => Ok(()),
+        Loaded::Refused(code) => Err(code),
     }
 }
 
@@ -33,9 +32,9 @@ fn put_body(row: &[u8], at: usize, out: &mut [u8]) -> Wrote
 {
     let body = &row[at..];
     if out.len() < body.len() {
-        return Wrote::Refused(refusal::OUTPUT_TOO_SHORT);
+        return Err(refusal::OUTPUT_TOO_SHORT);
     }
-    Wrote::Next(stores::put_bytes(body, out, 0))
+    Ok(stores::put_bytes(body, out, 0))
 }
 
 // Writes a row of the first edition as one of the second, at the front of the output; a refused call changes nothing.
@@ -43,13 +42,13 @@ pub fn row_to_second(row: &[u8], parent: &[u8; 32], kind: u8, number: i32, out: 
     ensures { written result out.new ≡ convert One Two parent.now kind number row.now out.old }
 {
     if ROW_LIMIT < row.len() {
-        return Wrote::Refused(refusal::BUFFERS);
+        return Err(refusal::BUFFERS);
     }
     match check_body(row, 0) {
-        Answer::Refused(code) => Wrote::Refused(code),
-        Answer::Accepted => {
+        Err(code) => Err(code),
+        Ok(()) => {
             if !row_fronts::is_kind(kind) {
-                return Wrote::Refused(refusal::ROW_OF_ANOTHER_SPILL);
+                return Err(refusal::ROW_OF_ANOTHER_SPILL);
             }
             row_fronts::put_second(row, parent, kind, number, out)
         }
@@ -61,15 +60,15 @@ pub fn row_to_first(row: &[u8], parent: &[u8; 32], kind: u8, number: i32, out: &
     ensures { written result out.new ≡ convert Two One parent.now kind number row.now out.old }
 {
     if LONGEST_ROW < row.len() {
-        return Wrote::Refused(refusal::BUFFERS);
+        return Err(refusal::BUFFERS);
     }
     match vlq_reading::get_coded_32(row, row_fronts::NUMBER_AT) {
-        Got::Refused(code) => Wrote::Refused(code),
-        Got::Value(coded, at) => match check_body(row, at) {
-            Answer::Refused(code) => Wrote::Refused(code),
-            Answer::Accepted => {
+        Err(code) => Err(code),
+        Ok((coded, at)) => match check_body(row, at) {
+            Err(code) => Err(code),
+            Ok(()) => {
                 if !row_fronts::says_so(parent, kind, number, row, coded) {
-                    return Wrote::Refused(refusal::ROW_OF_ANOTHER_SPILL);
+                    return Err(refusal::ROW_OF_ANOTHER_SPILL);
                 }
                 put_body(row, at, out)
             }

@@ -1,2 +1,3 @@
 -- The definitions that the contracts of `row_edition` cite beside those of `buffer_core`.
 pub mod Internal
+pub mod Answers

@@ -9,14 +9,9 @@ ghost use Rattle.row_edition.specs.Internal.{SpillInto};
 
 use index_types::{Loaded, RowEdition, SEGMENT_THRESHOLD};
 use segment_id::Kind;
-use vlq_core::Got;
 
 // How many numbers were read, or the refusal code.
-#[derive(Clone, Copy)]
-pub enum SpillRead {
-    Numbers(usize),
-    Refused(u8),
-}
+pub type SpillRead = Result<usize, u8>;
 
 // Reads the boxes of the segment from a position to the row's end.
 fn read_boxes(row: &[u8], at: usize, out: &mut [i64]) -> SpillRead
@@ -25,8 +20,8 @@ fn read_boxes(row: &[u8], at: usize, out: &mut [i64]) -> SpillRead
 {
     let mut txs = [0i64; SEGMENT_THRESHOLD];
     match segment_loading::read_last_segment(row, at, &mut txs, out) {
-        Loaded::Read { boxes, .. } => SpillRead::Numbers(boxes),
-        Loaded::Refused(code) => SpillRead::Refused(code),
+        Loaded::Read { boxes, .. } => Ok(boxes),
+        Loaded::Refused(code) => Err(code),
     }
 }
 
@@ -37,8 +32,8 @@ fn read_txs(row: &[u8], at: usize, out: &mut [i64]) -> SpillRead
 {
     let mut boxes = [0i64; SEGMENT_THRESHOLD];
     match segment_loading::read_last_segment(row, at, out, &mut boxes) {
-        Loaded::Read { txs, .. } => SpillRead::Numbers(txs),
-        Loaded::Refused(code) => SpillRead::Refused(code),
+        Loaded::Read { txs, .. } => Ok(txs),
+        Loaded::Refused(code) => Err(code),
     }
 }
 
@@ -64,18 +59,12 @@ fn read_second_row(
     requires { (length row.now ≤ row_limit_of RowEdition.Two) × (number < 2147483648) × (length out.old ≡ segment_threshold) }
     ensures { SpillInto (numbers_of kind (row_under RowEdition.Two kind parent.now (pos number) row.now)) result out.new }
 {
-    match vlq_reading::get_coded_32(row, row_header::NUMBER_AT) {
-        Got::Refused(code) => SpillRead::Refused(code),
-        Got::Value(coded, at) => match read_body(kind, row, at, out) {
-            SpillRead::Refused(code) => SpillRead::Refused(code),
-            SpillRead::Numbers(n) => {
-                if row_header::says_so(kind, parent, number, row, coded) {
-                    SpillRead::Numbers(n)
-                } else {
-                    SpillRead::Refused(refusal::ROW_OF_ANOTHER_SPILL)
-                }
-            }
-        },
+    let (coded, at) = vlq_reading::get_coded_32(row, row_header::NUMBER_AT)?;
+    let n = read_body(kind, row, at, out)?;
+    if row_header::says_so(kind, parent, number, row, coded) {
+        Ok(n)
+    } else {
+        Err(refusal::ROW_OF_ANOTHER_SPILL)
     }
 }
 

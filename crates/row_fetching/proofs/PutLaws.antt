@@ -16,8 +16,8 @@ use Rattle.buffer_core.specs.Append.{counts_with, bytes_with}
 use Rattle.working_set.specs.Part.{held, held_in, Part}
 use Rattle.working_set.specs.Laws.{WorkingSet, Working}
 use Rattle.working_set.proofs.WorkingSets.{working_sets}
-use Rattle.row_fetching.specs.declared.RowPut.{RowPut}
-use Rattle.row_fetching.specs.declared.RowPut.TheVariants.{Done, Refused}
+use Rattle.std.specs.Prelude.{Ok, Err}
+use Rattle.row_fetching.specs.Answers.{RowPut}
 use Rattle.row_fetching.specs.Putting.{Putting, putting, put_of}
 use Rattle.row_fetching.specs.Laws.{PutLaw, PutProgressLaw, PutRefusedLaw, RowFetching}
 
@@ -35,17 +35,17 @@ module _ (E : Edition) (key row : List ℕ) (wc : ListCounts) (work : List ℕ) 
     pub counts : counts_with E key wc work ≡ vc
     pub bytes : bytes_with E key row wc work ≡ more
 
-  accepted : (vc : ListCounts) (more : List ℕ) → put_of E key row wc work ≡ putting (Done vc) more → Accepted vc more
+  accepted : (vc : ListCounts) (more : List ℕ) → put_of E key row wc work ≡ putting (Ok vc) more → Accepted vc more
   unfolding put_of
   accepted vc more e = by_25 (records_ok E.size E.limit wc work) (leb (length row) E.limit) refl e
     where
       by_22 : (f : Bool) → full_for E.size wc key work ≡ f → length row ≤ E.limit
-          → cond f (putting (Refused 22) work) (putting (Done (counts_with E key wc work)) (bytes_with E key row wc work)) ≡ putting (Done vc) more → Accepted vc more
+          → cond f (putting (Err 22) work) (putting (Ok (counts_with E key wc work)) (bytes_with E key row wc work)) ≡ putting (Ok vc) more → Accepted vc more
       by_22 true f l q = let a = ap answer_of q in nope (cc)
       by_22 false f l q = let a = ap answer_of q in record { short = l; roomy = f; counts = (cc); bytes = ap (λ (x : Putting). x.work) q }
 
       by_25 : (t l : Bool) → leb (length row) E.limit ≡ l
-          → cond (t && l) (cond (full_for E.size wc key work) (putting (Refused 22) work) (putting (Done (counts_with E key wc work)) (bytes_with E key row wc work))) (putting (Refused 25) work) ≡ putting (Done vc) more
+          → cond (t && l) (cond (full_for E.size wc key work) (putting (Err 22) work) (putting (Ok (counts_with E key wc work)) (bytes_with E key row wc work))) (putting (Err 25) work) ≡ putting (Ok vc) more
           → Accepted vc more
       by_25 true true l q = by_22 (full_for E.size wc key work) refl (leb-true (length row) E.limit l) q
       by_25 true false l q = let a = ap answer_of q in nope (cc)
@@ -72,7 +72,7 @@ module _ (E : Edition) (L : WorkingSet E) where
       by_22 (full_for E.size wc key work) refl (rw (w.work_ok, le-leb (length row) E.limit l) at e)
     where
       by_22 : (f : Bool) → full_for E.size wc key work ≡ f
-          → cond f (putting (Refused 22) work) (putting (Done (counts_with E key wc work)) (bytes_with E key row wc work)) ≡ putting (Refused code) more
+          → cond f (putting (Err 22) work) (putting (Ok (counts_with E key wc work)) (bytes_with E key row wc work)) ≡ putting (Err code) more
           → (code ≡ 22) × ((more ≡ work) × (full_for E.size wc key work ≡ true))
       by_22 true f q = let a = ap answer_of q in ((cc), (sym (ap (λ (x : Putting). x.work) q), f))
       by_22 false f q = let a = ap answer_of q in nope (cc)

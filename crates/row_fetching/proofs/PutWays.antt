@@ -15,27 +15,27 @@ use Rattle.records.proofs.CheckLaws.{records_ok_facts}
 use Rattle.records.proofs.PutLaws.{slot_room}
 use Rattle.buffer_core.specs.Edition.{Edition}
 use Rattle.buffer_core.specs.Append.{bytes_with}
-use Rattle.row_fetching.specs.declared.RowPut.TheVariants.{Done, Refused}
+use Rattle.std.specs.Prelude.{Ok, Err}
 use Rattle.row_fetching.specs.Putting.{putting, put_of}
 
 module _ (E : Edition) (key row : List ℕ) (c : ListCounts) (work : List ℕ) where
-  pub put_25 : records_ok E.size E.limit c work ≡ false → putting (Refused 25) work ≡ put_of E key row c work
+  pub put_25 : records_ok E.size E.limit c work ≡ false → putting (Err 25) work ≡ put_of E key row c work
   unfolding put_of
   put_25 t = rw t
 
   module _ (t : records_ok E.size E.limit c work ≡ true) where
-    pub put_long : E.limit < length row → putting (Refused 25) work ≡ put_of E key row c work
+    pub put_long : E.limit < length row → putting (Err 25) work ≡ put_of E key row c work
     unfolding put_of
     put_long l = rw (t, lt-leb (length row) E.limit l)
 
     module _ (l : length row ≤ E.limit) where
-      pub put_22 : full_for E.size c key work ≡ true → putting (Refused 22) work ≡ put_of E key row c work
+      pub put_22 : full_for E.size c key work ≡ true → putting (Err 22) work ≡ put_of E key row c work
       unfolding put_of
       put_22 f = rw (t, le-leb (length row) E.limit l, f)
 
       -- n and more are what the put left
       pub put_done : full_for E.size c key work ≡ false → (n : ℕ) → n ≡ count_after (find_key key (keys E.size c.count work)) c.count → (more : List ℕ) → more ≡ bytes_with E key row c work
-          → putting (Done (with_count n c)) more ≡ put_of E key row c work
+          → putting (Ok (with_count n c)) more ≡ put_of E key row c work
       unfolding put_of
       put_done f n p more q = rw (t, le-leb (length row) E.limit l, f, p, q)
 

@@ -1,5 +1,5 @@
 -- What is promised of putting a row of T into W, a part of T.
-use Rattle.std.specs.Prelude.{ℕ, ◌≤◌, ◌<◌, ◌≡◌, true, List, pos, length}
+use Rattle.std.specs.Prelude.{ℕ, ◌≤◌, ◌<◌, ◌≡◌, true, List, pos, length, Ok, Err}
 use Rattle.index_types.specs.declared.ListCounts.{ListCounts}
 use Rattle.records.specs.Changes.{full_for}
 use Rattle.segment_id.specs.declared.Kind.{Kind}
@@ -8,7 +8,6 @@ use Rattle.buffer_core.specs.Spills.{sources}
 use Rattle.working_set.specs.Part.{held, held_in, Part, lacks}
 use Rattle.working_set.specs.Reads.{missing_of, In}
 use Rattle.working_set.specs.Laws.{Working}
-use Rattle.row_fetching.specs.declared.RowPut.TheVariants.{Done, Refused}
 use Rattle.row_fetching.specs.Putting.{putting, put_of}
 
 module _ (E : Edition) where
@@ -16,7 +15,7 @@ module _ (E : Edition) where
   abbrev pub PutLaw : Type 0
   PutLaw =
       (wc : ListCounts) (work : List ℕ) (tc : ListCounts) (table key row : List ℕ) (vc : ListCounts) (more : List ℕ)
-      → Working E wc work tc table → length key ≡ 32 → held_in E.size tc.count table key ≡ held row → put_of E key row wc work ≡ putting (Done vc) more
+      → Working E wc work tc table → length key ≡ 32 → held_in E.size tc.count table key ≡ held row → put_of E key row wc work ≡ putting (Ok vc) more
       → Working E vc more tc table × (Part E wc work vc more × (held_in E.size vc.count more key ≡ held row))
 
   -- of the spills that a call on T reads, fewer are missing once the row of one that was missing is put: asking again ends
@@ -24,7 +23,7 @@ module _ (E : Edition) where
   PutProgressLaw =
       (kind : Kind) (parent : List ℕ) (m : ℕ) (staged : List ℕ) (wc : ListCounts) (work : List ℕ) (tc : ListCounts) (table row : List ℕ) (vc : ListCounts) (more : List ℕ) (ns : List ℕ) (n : ℕ)
       → Working E wc work tc table → length (E.key kind parent (pos n)) ≡ 32 → held_in E.size tc.count table (E.key kind parent (pos n)) ≡ held row
-      → put_of E (E.key kind parent (pos n)) row wc work ≡ putting (Done vc) more
+      → put_of E (E.key kind parent (pos n)) row wc work ≡ putting (Ok vc) more
       → In n ns → lacks E kind (sources parent staged m work wc.count) n ≡ true
       → missing_of (lacks E kind (sources parent staged m more vc.count)) ns < missing_of (lacks E kind (sources parent staged m work wc.count)) ns
 
@@ -32,7 +31,7 @@ module _ (E : Edition) where
   abbrev pub PutRefusedLaw : Type 0
   PutRefusedLaw =
       (wc : ListCounts) (work : List ℕ) (tc : ListCounts) (table key row : List ℕ) (code : ℕ) (more : List ℕ)
-      → Working E wc work tc table → length row ≤ E.limit → put_of E key row wc work ≡ putting (Refused code) more
+      → Working E wc work tc table → length row ≤ E.limit → put_of E key row wc work ≡ putting (Err code) more
       → (code ≡ 22) × ((more ≡ work) × (full_for E.size wc key work ≡ true))
 
 pub record RowFetching (E : Edition) : Type 0 where

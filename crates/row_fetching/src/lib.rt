@@ -8,11 +8,7 @@ ghost use Rattle.row_fetching.specs.Putting.{putting, put_of};
 use index_types::{ListCounts, RowEdition};
 
 // The counts with the row put, or a refusal.
-#[derive(Clone, Copy)]
-pub enum RowPut {
-    Done(ListCounts),
-    Refused(u8),
-}
+pub type RowPut = Result<ListCounts, u8>;
 
 // Puts a row under its key, in the place of the row that it had, or last.
 pub fn put_row(
@@ -26,16 +22,16 @@ pub fn put_row(
 {
     let capacity = counts.capacity;
     if !buffer_checks::spills_ok(edition, work, counts) {
-        return RowPut::Refused(refusal::BUFFERS);
+        return Err(refusal::BUFFERS);
     }
     let limit = buffer_core::row_limit(edition);
     if limit < row.len() {
-        return RowPut::Refused(refusal::BUFFERS);
+        return Err(refusal::BUFFERS);
     }
     let size = buffer_core::record_size(edition);
     if record_changes::full_for(work, size, counts, key) {
-        return RowPut::Refused(refusal::TABLE_FULL);
+        return Err(refusal::TABLE_FULL);
     }
     let count = record_changes::put(work, size, counts.count, key, row);
-    RowPut::Done(ListCounts { count, capacity })
+    Ok(ListCounts { count, capacity })
 }

@@ -15,7 +15,7 @@ use Rattle.vlq_core.specs.Zigzag.{zig}
 use Rattle.vlq_core.specs.Groups.{enc}
 use Rattle.vlq_core.specs.Writing.{written, put_bytes}
 use Rattle.vlq_core.proofs.WriteLaws.{put_short, put_within}
-use Rattle.index_types.specs.declared.Wrote.TheVariants.{Next, Refused}
+use Rattle.std.specs.Prelude.{Ok, Err}
 use Rattle.index_types.specs.declared.RowEdition.TheVariants.{Two}
 use Rattle.buffer_core.specs.Edition.{number_at}
 use Rattle.row_fronts.specs.Fronts.{is_kind, front, tells}
@@ -62,10 +62,10 @@ module _ (k : ℕ) where
 -- ---- writing at the front of the output
 
 module _ (s l : List ℕ) where
-  pub no_room : length l < length s → written (Refused 32) l ≡ put_bytes s l 0
+  pub no_room : length l < length s → written (Err 32) l ≡ put_bytes s l 0
   no_room h = put_short refl l 0 (length s) refl _ refl (lt-leb (0 + length s) (length l) (omega arith))
 
-  pub with_room : (r : ℕ) (l' : List ℕ) → length s ≤ length l → Put s l 0 r l' → written (Next r) l' ≡ put_bytes s l 0
+  pub with_room : (r : ℕ) (l' : List ℕ) → length s ≤ length l → Put s l 0 r l' → written (Ok r) l' ≡ put_bytes s l 0
   with_room r l' h p = put_within refl l 0 r l' p (omega arith)
 
 -- the row of edition 2: m is the length of the number's bytes, as the callees say the number
@@ -76,13 +76,13 @@ module _ (parent : List ℕ) (long : length parent ≡ 32) (k : ℕ) {n n' : ℤ
   size : length (before ++ s) ≡ number_at + m + length s
   size = omega (arith, length-append before s, front_length parent k n long, e, ap (λ (z : ℤ). length (enc (zig z))) q)
 
-  pub second_short : length l < number_at + m + length s → written (Refused 32) l ≡ put_bytes (before ++ s) l 0
+  pub second_short : length l < number_at + m + length s → written (Err 32) l ≡ put_bytes (before ++ s) l 0
   second_short h = no_room (before ++ s) l (omega (arith, size))
 
   module _ (o : ℕ) (l₁ : List ℕ) (p : Put (front Two parent k n') l 0 o l₁) where
     pub second_start : o ≡ number_at + m
     second_start = omega (arith, p.0, front_length parent k n' long, e)
 
-    pub second_done : number_at + m + length s ≤ length l → (r : ℕ) (l₂ : List ℕ) → Put s l₁ o r l₂ → written (Next r) l₂ ≡ put_bytes (before ++ s) l 0
+    pub second_done : number_at + m + length s ≤ length l → (r : ℕ) (l₂ : List ℕ) → Put s l₁ o r l₂ → written (Ok r) l₂ ≡ put_bytes (before ++ s) l 0
     second_done h r l₂ d =
         with_room (before ++ s) l r l₂ (omega (arith, size)) (put_both before s l 0 o l₁ r l₂ (put_as (ap (front Two parent k) q) l 0 o l₁ p) d)

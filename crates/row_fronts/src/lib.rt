@@ -61,8 +61,8 @@ pub fn put_second(row: &[u8], parent: &[u8], kind: u8, number: i32, out: &mut [u
 {
     let start = NUMBER_AT + vlq_writing::number_len_i32(number);
     if out.len() < start + row.len() {
-        return Wrote::Refused(refusal::OUTPUT_TOO_SHORT);
+        return Err(refusal::OUTPUT_TOO_SHORT);
     }
     let at = emit_front(parent, kind, number, out);
-    Wrote::Next(stores::put_bytes(row, out, at))
+    Ok(stores::put_bytes(row, out, at))
 }

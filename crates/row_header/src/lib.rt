@@ -8,7 +8,6 @@ ghost use Rattle.row_header.specs.Internal.{BodyStart};
 
 use index_types::RowEdition;
 use segment_id::Kind;
-use vlq_core::Got;
 
 // Where the spill number stands in a row of the second edition: behind the parent and the kind byte.
 pub const NUMBER_AT: usize = 33;
@@ -80,8 +79,8 @@ pub fn body_start(edition: RowEdition, row: &[u8]) -> usize
     match edition {
         RowEdition::One => 0,
         RowEdition::Two => match vlq_reading::get_coded_32(row, NUMBER_AT) {
-            Got::Value(_, at) => at,
-            Got::Refused(_) => 0,
+            Ok((_, at)) => at,
+            Err(_) => 0,
         },
     }
 }

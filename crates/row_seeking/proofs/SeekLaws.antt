@@ -15,8 +15,7 @@ use Rattle.records.specs.Find.{locate_key}
 use Rattle.segment_id.specs.declared.Kind.{Kind}
 use Rattle.segment_id.specs.declared.Kind.TheVariants.{Box}
 use Rattle.segment_id.specs.Key.{row_key}
-use Rattle.buffer_core.specs.declared.Lead.{Lead}
-use Rattle.buffer_core.specs.declared.Lead.TheVariants.{Leads, NoLead}
+use Rattle.buffer_core.specs.Answers.{Lead}
 use Rattle.buffer_core.specs.declared.Look.{Look}
 use Rattle.buffer_core.specs.declared.Look.TheVariants.{Take, Stop, Next, Fail}
 use Rattle.buffer_core.specs.Edition.{Edition, RowRead, bad, good, edition_of, record_size}
@@ -25,8 +24,7 @@ use Rattle.buffer_core.specs.Flip.{check_row, lead_of, look_of, middle, row_chec
 use Rattle.flip_search.proofs.SearchLaws.{search_step, search_end}
 use Rattle.working_set.specs.Part.{is_missing, lacks}
 use Rattle.working_set.specs.Reads.{Need, nothing, need, first_missing, half_reads, search_reads, walk_reads, row_reads, up_reads, low_reads}
-use Rattle.index_types.specs.declared.Missing.{Missing}
-use Rattle.index_types.specs.declared.Missing.TheVariants.{Nothing, Spill}
+use Rattle.std.specs.Prelude.{Option, Some, None, Ok, Err}
 use Rattle.row_seeking.specs.Seeking.{told, among}
 use Rattle.row_seeking.specs.Internal.{reads_between}
 
@@ -37,21 +35,21 @@ nope z = let e : ⊥ = omega arith in absurd e
 
 module _ (v : RowEdition) (kind : Kind) (parent staged : List ℕ) (m : ℕ) (table : List ℕ) (t number : ℕ) (key : List ℕ) (named_by : key ≡ row_key parent kind (pos number))
     (p : Place) (e : p ≡ locate_key (record_size v) key m staged t table) where
-  abbrev at_place : Place → Missing
+  abbrev at_place : Place → Option ℕ
   at_place q = told (cond (is_missing q) (need number) nothing)
 
-  by_place : (r : Missing) → r ≡ at_place p → r ≡ among (edition_of v) kind (sources parent staged m table t) (number ∷ [])
+  by_place : (r : Option ℕ) → r ≡ at_place p → r ≡ among (edition_of v) kind (sources parent staged m table t) (number ∷ [])
   unfolding place_at first_missing
   by_place r q = q ∙ ap at_place (e ∙ ap (λ (k : List ℕ). locate_key (record_size v) k m staged t table) named_by)
 
-  pub asked_staged : (i : ℕ) → p ≡ place.Staged i → Nothing ≡ among (edition_of v) kind (sources parent staged m table t) (number ∷ [])
-  asked_staged i d = by_place Nothing (rw d)
+  pub asked_staged : (i : ℕ) → p ≡ place.Staged i → None ≡ among (edition_of v) kind (sources parent staged m table t) (number ∷ [])
+  asked_staged i d = by_place None (rw d)
 
-  pub asked_table : (i : ℕ) → p ≡ place.Table i → Nothing ≡ among (edition_of v) kind (sources parent staged m table t) (number ∷ [])
-  asked_table i d = by_place Nothing (rw d)
+  pub asked_table : (i : ℕ) → p ≡ place.Table i → None ≡ among (edition_of v) kind (sources parent staged m table t) (number ∷ [])
+  asked_table i d = by_place None (rw d)
 
-  pub asked_missing : p ≡ place.Missing → Spill number ≡ among (edition_of v) kind (sources parent staged m table t) (number ∷ [])
-  asked_missing d = by_place (Spill number) (rw d)
+  pub asked_missing : p ≡ place.Missing → Some number ≡ among (edition_of v) kind (sources parent staged m table t) (number ∷ [])
+  asked_missing d = by_place (Some number) (rw d)
 
 -- ---- a row that is missing reads as 12
 
@@ -80,19 +78,19 @@ module _ (E : Edition) (w : Sources) where
 
   -- ---- from spill 0 up
 
-  pub up_turn : (n k x : ℕ) → lead_at E w n ≡ Leads x → first_missing m (up_reads f n (suc k)) ≡ first_missing m (up_reads f (n + 1) k)
+  pub up_turn : (n k x : ℕ) → lead_at E w n ≡ Ok x → first_missing m (up_reads f n (suc k)) ≡ first_missing m (up_reads f (n + 1) k)
   unfolding first_missing up_reads
   up_turn n k x e = by_row (f n) refl e
     where
-      by_row : (y : RowRead) → f n ≡ y → lead_of y ≡ Leads x → cond (m n) (need n) (first_missing m (row_reads y (up_reads f (n + 1) k))) ≡ first_missing m (up_reads f (n + 1) k)
+      by_row : (y : RowRead) → f n ≡ y → lead_of y ≡ Ok x → cond (m n) (need n) (first_missing m (row_reads y (up_reads f (n + 1) k))) ≡ first_missing m (up_reads f (n + 1) k)
       by_row (good zs) q l = rw (present n zs q)
       by_row (bad c) q l = nope (cc)
 
-  pub up_stop : (n k c : ℕ) → lead_at E w n ≡ NoLead c → first_missing m (up_reads f n (suc k)) ≡ first_missing m (n ∷ [])
+  pub up_stop : (n k c : ℕ) → lead_at E w n ≡ Err c → first_missing m (up_reads f n (suc k)) ≡ first_missing m (n ∷ [])
   unfolding first_missing up_reads
   up_stop n k c e = by_row (f n) e
     where
-      by_row : (y : RowRead) → lead_of y ≡ NoLead c → cond (m n) (need n) (first_missing m (row_reads y (up_reads f (n + 1) k))) ≡ cond (m n) (need n) nothing
+      by_row : (y : RowRead) → lead_of y ≡ Err c → cond (m n) (need n) (first_missing m (row_reads y (up_reads f (n + 1) k))) ≡ cond (m n) (need n) nothing
       by_row (good zs) l = nope (cc)
       by_row (bad c) l = refl
 
@@ -173,23 +171,23 @@ module _ (E : Edition) (w : Sources) (target : ℕ) (d : Bool) (low high : ℕ) 
   abbrev missing : List ℕ → Need
   missing l = first_missing (lacks E Box w) l
 
-  read_there : (n x : ℕ) → lead n ≡ Leads x → lacks E Box w n ≡ false
+  read_there : (n x : ℕ) → lead n ≡ Ok x → lacks E Box w n ≡ false
   read_there n x e = by_row (row_checked E w n) refl e
     where
-      by_row : (y : RowRead) → row_checked E w n ≡ y → lead_of y ≡ Leads x → lacks E Box w n ≡ false
+      by_row : (y : RowRead) → row_checked E w n ≡ y → lead_of y ≡ Ok x → lacks E Box w n ≡ false
       by_row (good zs) q l = present E w n zs q
       by_row (bad c) q l = nope (cc)
 
   module _ (h : low < high) where
-    pub between_up : (x : ℕ) → lead (middle low high) ≡ Leads x → x ≤ target → missing (reads_between E w target d low high) ≡ missing (reads_between E w target d (middle low high + 1) high)
+    pub between_up : (x : ℕ) → lead (middle low high) ≡ Ok x → x ≤ target → missing (reads_between E w target d low high) ≡ missing (reads_between E w target d (middle low high + 1) high)
     unfolding reads_between first_missing
     between_up x e l = rw (reads_step lead target low high h, search_step lead target low high h, read_there (middle low high) x e, e, le-leb x target l)
 
-    pub between_down : (x : ℕ) → lead (middle low high) ≡ Leads x → target < x → missing (reads_between E w target d low high) ≡ missing (reads_between E w target d low (middle low high))
+    pub between_down : (x : ℕ) → lead (middle low high) ≡ Ok x → target < x → missing (reads_between E w target d low high) ≡ missing (reads_between E w target d low (middle low high))
     unfolding reads_between first_missing
     between_down x e l = rw (reads_step lead target low high h, search_step lead target low high h, read_there (middle low high) x e, e, lt-leb x target l)
 
-    pub between_bad : (c : ℕ) → lead (middle low high) ≡ NoLead c → missing (reads_between E w target d low high) ≡ missing (middle low high ∷ [])
+    pub between_bad : (c : ℕ) → lead (middle low high) ≡ Err c → missing (reads_between E w target d low high) ≡ missing (middle low high ∷ [])
     unfolding reads_between first_missing
     between_bad c e = rw (reads_step lead target low high h, search_step lead target low high h, e)
 
@@ -200,25 +198,25 @@ module _ (E : Edition) (w : Sources) (target : ℕ) (d : Bool) (low high : ℕ) 
 -- ---- as the loops cite them: r is what a local holds of the row, s of the row's look
 
 module _ (E : Edition) (w : Sources) (n spills : ℕ) where
-  abbrev upward : ℕ → ℕ → Missing
+  abbrev upward : ℕ → ℕ → Option ℕ
   upward a k = among E Box w (up_reads (row_checked E w) a k)
 
   one_more : n < spills → spills - n ≡ suc (spills - (n + 1))
   one_more h = omega arith
 
   module _ (h : n < spills) (r : Lead) (e : r ≡ lead_at E w n) where
-    pub up_goes : (x : ℕ) → r ≡ Leads x → upward n (spills - n) ≡ upward (n + 1) (spills - (n + 1))
+    pub up_goes : (x : ℕ) → r ≡ Ok x → upward n (spills - n) ≡ upward (n + 1) (spills - (n + 1))
     up_goes x q = ap (upward n) (one_more h) ∙ ap told (up_turn E w n (spills - (n + 1)) x (sym e ∙ q))
 
-    pub up_asks : (c : ℕ) → r ≡ NoLead c → among E Box w (n ∷ []) ≡ upward n (spills - n)
+    pub up_asks : (c : ℕ) → r ≡ Err c → among E Box w (n ∷ []) ≡ upward n (spills - n)
     up_asks c q = sym (ap (upward n) (one_more h) ∙ ap told (up_stop E w n (spills - (n + 1)) c (sym e ∙ q)))
 
-  pub up_ends : spills ≤ n → Nothing ≡ upward n (spills - n)
+  pub up_ends : spills ≤ n → None ≡ upward n (spills - n)
   unfolding up_reads first_missing
   up_ends h = let e : spills - n ≡ 0 = omega arith in rw e
 
 module _ (E : Edition) (w : Sources) (target : ℕ) (d : Bool) (low : ℕ) where
-  abbrev downward : ℕ → Missing
+  abbrev downward : ℕ → Option ℕ
   downward k = among E Box w (walk_reads (look_at E w target d) k)
 
   module _ (h : 0 < low) (r : Look) (e : r ≡ look_at E w target d (low - 1)) where
@@ -228,31 +226,31 @@ module _ (E : Edition) (w : Sources) (target : ℕ) (d : Bool) (low : ℕ) where
     pub down_goes : (s : Bool) → r ≡ Next s → downward low ≡ downward (low - 1)
     down_goes s q = above ∙ ap told (walk_turn E w target d (low - 1) s (sym e ∙ q))
 
-    pub down_takes : (i : ℕ) → r ≡ Take i → Nothing ≡ downward low
+    pub down_takes : (i : ℕ) → r ≡ Take i → None ≡ downward low
     down_takes i q = sym (above ∙ ap told (walk_taken E w target d (low - 1) i (sym e ∙ q)))
 
-    pub down_stops : (s : Bool) → r ≡ Stop s → Nothing ≡ downward low
+    pub down_stops : (s : Bool) → r ≡ Stop s → None ≡ downward low
     down_stops s q = sym (above ∙ ap told (walk_stopped E w target d (low - 1) s (sym e ∙ q)))
 
     pub down_asks : (c : ℕ) → r ≡ Fail c → among E Box w ((low - 1) ∷ []) ≡ downward low
     down_asks c q = sym (above ∙ ap told (walk_failed E w target d (low - 1) c (sym e ∙ q)))
 
-  pub down_ends : low ≤ 0 → Nothing ≡ downward low
+  pub down_ends : low ≤ 0 → None ≡ downward low
   unfolding walk_reads first_missing
   down_ends h = let e : low ≡ 0 = omega arith in rw e
 
 module _ (E : Edition) (w : Sources) (target : ℕ) (d : Bool) (low high : ℕ) where
-  abbrev inside : ℕ → ℕ → Missing
+  abbrev inside : ℕ → ℕ → Option ℕ
   inside a b = among E Box w (reads_between E w target d a b)
 
   module _ (h : low < high) (r : Lead) (e : r ≡ lead_at E w (middle low high)) where
-    pub inside_up : (x : ℕ) → r ≡ Leads x → x ≤ target → inside low high ≡ inside (middle low high + 1) high
+    pub inside_up : (x : ℕ) → r ≡ Ok x → x ≤ target → inside low high ≡ inside (middle low high + 1) high
     inside_up x q l = ap told (between_up E w target d low high h x (sym e ∙ q) l)
 
-    pub inside_down : (x : ℕ) → r ≡ Leads x → target < x → inside low high ≡ inside low (middle low high)
+    pub inside_down : (x : ℕ) → r ≡ Ok x → target < x → inside low high ≡ inside low (middle low high)
     inside_down x q l = ap told (between_down E w target d low high h x (sym e ∙ q) l)
 
-    pub inside_asks : (c : ℕ) → r ≡ NoLead c → among E Box w (middle low high ∷ []) ≡ inside low high
+    pub inside_asks : (c : ℕ) → r ≡ Err c → among E Box w (middle low high ∷ []) ≡ inside low high
     inside_asks c q = sym (ap told (between_bad E w target d low high h c (sym e ∙ q)))
 
   pub inside_ends : high ≤ low → among E Box w (walk_reads (look_at E w target d) low) ≡ inside low high

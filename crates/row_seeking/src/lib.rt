@@ -10,8 +10,8 @@ ghost use Rattle.working_set.specs.Reads.{walk_reads, up_reads};
 ghost use Rattle.row_seeking.specs.Seeking.{among};
 ghost use Rattle.row_seeking.specs.Internal.{WorkReady, reads_between};
 
-use buffer_core::{Lead, Look};
-use index_types::{Missing, RowEdition};
+use buffer_core::Look;
+use index_types::RowEdition;
 use records::Place;
 use segment_id::Kind;
 
@@ -26,7 +26,7 @@ pub fn ask<'a>(
     table: &'a [u8],
     table_count: usize,
     hints: &[u16],
-) -> Missing
+) -> Option<usize>
     requires { WorkReady edition (sources parent.now staged.now staged_count table.now table_count) × (number < 2147483648) }
     ensures { result ≡ among (edition_of edition) kind (sources parent.now staged.now staged_count table.now table_count) (number ∷ []) }
 {
@@ -42,9 +42,9 @@ pub fn ask<'a>(
         hints,
     );
     match place {
-        Place::Staged(_) => Missing::Nothing,
-        Place::Table(_) => Missing::Nothing,
-        Place::Missing => Missing::Spill(number),
+        Place::Staged(_) => None,
+        Place::Table(_) => None,
+        Place::Missing => Some(number),
     }
 }
 
@@ -58,13 +58,12 @@ pub fn seek_up<'a>(
     table: &'a [u8],
     table_count: usize,
     hints: &[u16],
-) -> Missing
+) -> Option<usize>
     requires { WorkReady edition (sources parent.now staged.now staged_count table.now table_count) × (spills < 2147483648) }
     ensures { result ≡ among (edition_of edition) Box (sources parent.now staged.now staged_count table.now table_count)
         (up_reads (row_checked (edition_of edition) (sources parent.now staged.now staged_count table.now table_count)) 0 spills) }
 {
-    let mut n = 0;
-    while n < spills {
+    for n in 0..spills {
         let lead = flip_search::lead_of(
             edition,
             parent,
@@ -76,10 +75,8 @@ pub fn seek_up<'a>(
             hints,
         );
         match lead {
-            Lead::Leads(_) => {
-                n += 1;
-            }
-            Lead::NoLead(_) => {
+            Ok(_) => {}
+            Err(_) => {
                 return ask(
                     edition,
                     Kind::Box,
@@ -94,7 +91,7 @@ pub fn seek_up<'a>(
             }
         }
     }
-    Missing::Nothing
+    None
 }
 
 // The first missing row of the walk down from a spill number.
@@ -109,14 +106,12 @@ fn seek_down<'a>(
     target: u64,
     spend: bool,
     from: usize,
-) -> Missing
+) -> Option<usize>
     requires { WorkReady edition (sources parent.now staged.now staged_count table.now table_count) × (from < 2147483648) }
     ensures { result ≡ among (edition_of edition) Box (sources parent.now staged.now staged_count table.now table_count)
         (walk_reads (look_at (edition_of edition) (sources parent.now staged.now staged_count table.now table_count) target spend) from) }
 {
-    let mut low = from;
-    while 0 < low {
-        low -= 1;
+    for low in (0..from).rev() {
         let look = flip_walk::look_at(
             edition,
             parent,
@@ -131,10 +126,10 @@ fn seek_down<'a>(
         );
         match look {
             Look::Take(_) => {
-                return Missing::Nothing;
+                return None;
             }
             Look::Stop(_) => {
-                return Missing::Nothing;
+                return None;
             }
             Look::Next(_) => {}
             Look::Fail(_) => {
@@ -152,7 +147,7 @@ fn seek_down<'a>(
             }
         }
     }
-    Missing::Nothing
+    None
 }
 
 // The first missing row of the halving over the spills, then of the walk.
@@ -167,7 +162,7 @@ pub fn seek_rows<'a>(
     target: u64,
     spend: bool,
     spills: usize,
-) -> Missing
+) -> Option<usize>
     requires { WorkReady edition (sources parent.now staged.now staged_count table.now table_count) × (spills < 2147483648) }
     ensures { result ≡ among (edition_of edition) Box (sources parent.now staged.now staged_count table.now table_count)
         (reads_between (edition_of edition) (sources parent.now staged.now staged_count table.now table_count) target spend 0 spills) }
@@ -187,14 +182,14 @@ pub fn seek_rows<'a>(
             hints,
         );
         match lead {
-            Lead::Leads(first) => {
+            Ok(first) => {
                 if first <= target {
                     low = middle + 1;
                 } else {
                     high = middle;
                 }
             }
-            Lead::NoLead(_) => {
+            Err(_) => {
                 return ask(
                     edition,
                     Kind::Box,

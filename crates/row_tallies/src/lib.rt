@@ -43,8 +43,8 @@ fn count_row<'a>(
         &mut row,
     );
     match read {
-        Read::Good => Tallied::Counts(entry_tallies::tally_entries(&row, SEGMENT_THRESHOLD)),
-        Read::Faulty(code) => Tallied::Refused(code),
+        Ok(()) => Ok(entry_tallies::tally_entries(&row, SEGMENT_THRESHOLD)),
+        Err(code) => Err(code),
     }
 }
 
@@ -65,8 +65,7 @@ pub fn count_rows<'a>(
     ensures { result ≡ tally_rows (row_checked (edition_of edition) (sources parent.now staged.now staged_count table.now table_count)) 0 spills so_far }
 {
     let mut t = so_far;
-    let mut n = 0;
-    while n < spills {
+    for n in 0..spills {
         let row = count_row(
             edition,
             parent,
@@ -78,16 +77,15 @@ pub fn count_rows<'a>(
             hints,
         );
         match row {
-            Tallied::Counts(more) => {
+            Ok(more) => {
                 t = entry_tallies::plus(t, more);
             }
-            Tallied::Refused(code) => {
-                return Tallied::Refused(code);
+            Err(code) => {
+                return Err(code);
             }
         }
-        n += 1;
     }
-    Tallied::Counts(t)
+    Ok(t)
 }
 
 // Checks every row from spill 0 up, and counts nothing.
@@ -122,7 +120,7 @@ pub fn check_rows<'a>(
         hints,
     );
     match tallied {
-        Tallied::Counts(_) => Read::Good,
-        Tallied::Refused(code) => Read::Faulty(code),
+        Ok(_) => Ok(()),
+        Err(code) => Err(code),
     }
 }

@@ -1,10 +1,9 @@
 -- What the whole test of refusal 25 establishes of a state.
-use Prim.Native.Nat.{ℕ, zero, suc, ◌+◌, ◌*◌, ◌/◌, ◌≤◌, ◌<◌}
-use mathlib.Core.Path.{◌≡◌, sym, ap, ◌∙◌}
+use Prim.Native.Nat.{ℕ, ◌+◌, ◌*◌, ◌/◌, ◌≤◌, ◌<◌}
+use mathlib.Core.Path.{◌≡◌, ap}
 use mathlib.Core.Bool.{Bool, true, ◌&&◌}
 use mathlib.Core.List.{List}
 use native.Mathlib.Omega.{arith}
-use native.Mathlib.Decide.{ℕ_discrete}
 use lib.Dec.{leb}
 use lib.ListN.{length, get_or}
 use borrow.Author.Tests.{leb-true}
@@ -13,7 +12,7 @@ use Rattle.segment_id.specs.declared.Kind.TheVariants.{Box, Tx}
 use Rattle.records.proofs.CheckLaws.{and_left, and_right}
 use Rattle.buffer_core.specs.Edition.{edition_1}
 use Rattle.call_steps.specs.State.{State, length_at, counts_ok, lengths_ok, blocks_ok, state_ok, Ready}
-use Rattle.run_checks.proofs.CheckLaws.{more}
+use Rattle.run_checks.proofs.CheckLaws.{counts_in}
 
 few_of : (l : List ℕ) (p : ℕ) → counts_ok p l ≡ true → (k : Kind) → get_or l (length_at k p) 0 ≤ 512
 few_of l p t Box =
@@ -22,12 +21,7 @@ few_of l p t Box =
 few_of l p t Tx = leb-true (get_or l (p * 3 + 1) 0) 512 (and_left _ _ (and_right (leb (get_or l (p * 3) 0) 512) _ t))
 
 few_in : (n : ℕ) (l : List ℕ) → lengths_ok n l ≡ true → (p : ℕ) → p < n → (k : Kind) → get_or l (length_at k p) 0 ≤ 512
-few_in zero l e p h k = absurd (omega arith)
-few_in (suc n) l e p h k = by_place (ℕ_discrete p n) (λ q. few_in n l (and_right (counts_ok n l) _ (sym (more n l) ∙ e)) p q k)
-  where
-    by_place : Dec (p ≡ n) → (p < n → get_or l (length_at k p) 0 ≤ 512) → get_or l (length_at k p) 0 ≤ 512
-    by_place (yes q) below = few_of l p (ap (λ (j : ℕ). counts_ok j l) q ∙ and_left (counts_ok n l) _ (sym (more n l) ∙ e)) k
-    by_place (no q) below = below (omega (arith, q))
+few_in n l e p h k = few_of l p (counts_in n l e p h) k
 
 module _ (parents : ℕ) (s : State) where
   pub ready_when : state_ok edition_1 parents s ≡ true → Ready parents s

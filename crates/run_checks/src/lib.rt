@@ -40,9 +40,7 @@ fn lengths_ok(parents: usize, lengths: &[usize]) -> bool
     requires { parents * 3 ≤ length lengths.now }
     ensures { result ≡ lengths_ok parents lengths.now }
 {
-    let mut p = parents;
-    while 0 < p {
-        p -= 1;
+    for p in 0..parents {
         if !counts_ok(lengths, p) {
             return false;
         }

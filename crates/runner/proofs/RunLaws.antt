@@ -1,10 +1,10 @@
 -- The turns of a run.
 use Prim.Native.Nat.{ℕ, zero, suc, ◌+◌, ◌*◌, ◌-◌, ◌≤◌, ◌<◌}
 use mathlib.Core.Path.{◌≡◌, refl, sym, ap, ◌∙◌}
-use mathlib.Core.Bool.{Bool, true, false, cond, ◌&&◌}
+use mathlib.Core.Bool.{Bool, true, false, cond}
 use mathlib.Core.List.{List}
 use native.Mathlib.Omega.{arith}
-use lib.Dec.{eqb, leb, ltb}
+use lib.Dec.{eqb, ltb}
 use lib.IntN.{ℤ}
 use lib.ListN.{length}
 use borrow.Author.Tests.{leb-true, ltb-true, eq-eqb, ne_eqb}
@@ -93,26 +93,24 @@ module _ (parents : ℕ) (input : List ℕ) (r : Run) where
       ∙ sym (ap (λ (b : Bool). cond b (ended x r) (answered (size_of x) (step_of edition_1 x r.now) r)) (ne_eqb (size_of x) 0 (λ k. z (s ∙ k))))
       ∙ ap (λ (c : Call). called edition_1 c r) q
 
--- ---- the loop: the slices keep their lengths, the state what 25 tests, and what is left to run ends where the whole run ends
-pub record Kept (sizes : Type 0) (parents : ℕ) (input : List ℕ) (left : ℕ) (r r₀ : Run) : Type 0 where
-  pub same : sizes
+-- ---- the loop: the state keeps what 25 tests, and what is left to run ends where the whole run ends
+pub record Kept (parents : ℕ) (input : List ℕ) (left : ℕ) (r r₀ : Run) : Type 0 where
   pub ready : Ready parents r.now
   pub within : r.at ≤ length input
   pub rest : runs edition_1 parents input left r ≡ runs edition_1 parents input (length input + 1) r₀
 
-module _ (sizes : Type 0) (parents : ℕ) (input : List ℕ) where
-  pub kept_start : (r : Run) → sizes → Ready parents r.now → r.at ≡ 0 → Kept sizes parents input (length input + 1) r r
-  kept_start r k f e = record { same = k; ready = f; within = omega (arith, e); rest = refl }
+module _ (parents : ℕ) (input : List ℕ) where
+  pub kept_start : (r : Run) → Ready parents r.now → r.at ≡ 0 → Kept parents input (length input + 1) r r
+  kept_start r f e = record { ready = f; within = omega (arith, e); rest = refl }
 
-  module _ (left : ℕ) (r r₀ : Run) (k : Kept sizes parents input left r r₀) where
+  module _ (left : ℕ) (r r₀ : Run) (k : Kept parents input left r r₀) where
     pub kept_ready : may_go r ≡ true → TurnReady parents input r
     kept_ready e = turn_ready parents input r k.ready k.within e
 
-    pub kept_turn : (sizes' : Type 0) (r' : Run) → 0 < left → may_go r ≡ true → sizes' → r' ≡ turn_of edition_1 parents input r → Kept sizes' parents input (left - 1) r' r₀
-    kept_turn sizes' r' h e s q =
+    pub kept_turn : (r' : Run) → 0 < left → may_go r ≡ true → r' ≡ turn_of edition_1 parents input r → Kept parents input (left - 1) r' r₀
+    kept_turn r' h e q =
         let t = turn_kept parents input r (kept_ready e) in
         record {
-          same = s;
           ready = rw q t.0;
           within = rw q t.1;
           rest = ap (runs edition_1 parents input (left - 1)) q ∙ runs_more parents input left r h e ∙ k.rest;

@@ -103,19 +103,16 @@ fn run_ready(
         made: 0,
         end: 0,
     };
-    let mut left = input.len() + 1;
-    while 0 < left {
+    for _ in 0..=input.len() {
         let made = p.made;
         let end = p.end;
-        if run_answers::may_go(answers, popped, made, end) {
-            p = turn(
-                input, parents, ids, numbers, lengths, spills, staged, table, deleted, answers,
-                popped, hints, p,
-            );
-            left -= 1;
-        } else {
+        if !run_answers::may_go(answers, popped, made, end) {
             return p;
         }
+        p = turn(
+            input, parents, ids, numbers, lengths, spills, staged, table, deleted, answers, popped,
+            hints, p,
+        );
     }
     p
 }

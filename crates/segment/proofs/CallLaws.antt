@@ -10,7 +10,7 @@ use lib.ListN.{length, take, drop}
 use lib.Seq.{take_at, drop_at, length-take-le}
 use borrow.Author.Tests.{le-leb, lt-leb, leb-true}
 use Rattle.stores.specs.Stores.{write}
-use Rattle.index_types.specs.declared.Wrote.TheVariants as wrote
+use Rattle.std.specs.Prelude.{Ok, Err}
 use Rattle.vlq_core.specs.Writing.{written, put_bytes}
 use Rattle.vlq_core.proofs.UniqueLaws.{Bytes}
 use Rattle.index_types.specs.declared.Loaded.TheVariants as loaded
@@ -39,12 +39,12 @@ held_true n len h = by_tests (leb n 512) (leb n len) refl refl h
     by_tests false q e f g = let x : ◌≡◌ {A = ℕ} 0 1 = cc in absurd (omega arith)
 
 module _ (ts : List ℤ) (n : ℕ) (bs : List ℤ) (m : ℕ) (b t : ℤ) (l : List ℕ) (at : ℕ) where
-  pub write_25_txs : held n (length ts) ≡ false → written (wrote.Refused 25) l ≡ write_of ts n bs m b t l at
+  pub write_25_txs : held n (length ts) ≡ false → written (Err 25) l ≡ write_of ts n bs m b t l at
   unfolding write_of
   write_25_txs h = rw h
 
   module _ (h : held n (length ts) ≡ true) where
-    pub write_25_boxes : held m (length bs) ≡ false → written (wrote.Refused 25) l ≡ write_of ts n bs m b t l at
+    pub write_25_boxes : held m (length bs) ≡ false → written (Err 25) l ≡ write_of ts n bs m b t l at
     unfolding write_of
     write_25_boxes k = rw (h, k)
 
@@ -92,18 +92,18 @@ module _ (s l : List ℕ) (at k : ℕ) where
       let n : length s ≡ k - at = omega arith in
       rw (append_assoc (take at l) s (drop (at + length s) l)) (ap (take (k - at)) (drop_at (take at l) (s ++ drop (at + length s) l) at (length-take-le at l (omega arith))) ∙ take_at s (drop (at + length s) l) (k - at) n)
 
-  pub answered : (p : Bool) → (cond p (put_bytes s l at) (written (wrote.Refused 25) l)).answer ≡ wrote.Next k
-      → (k - at ≡ length s) × (take (k - at) (drop at (cond p (put_bytes s l at) (written (wrote.Refused 25) l)).out) ≡ s)
+  pub answered : (p : Bool) → (cond p (put_bytes s l at) (written (Err 25) l)).answer ≡ Ok k
+      → (k - at ≡ length s) × (take (k - at) (drop at (cond p (put_bytes s l at) (written (Err 25) l)).out) ≡ s)
   unfolding put_bytes
   answered true e = by_room (leb (at + length s) (length l)) refl e
     where
-      by_room : (q : Bool) → leb (at + length s) (length l) ≡ q → (cond q (written (wrote.Next (at + length s)) (write at s l)) (written (wrote.Refused 32) l)).answer ≡ wrote.Next k
-          → (k - at ≡ length s) × (take (k - at) (drop at (cond q (written (wrote.Next (at + length s)) (write at s l)) (written (wrote.Refused 32) l)).out) ≡ s)
+      by_room : (q : Bool) → leb (at + length s) (length l) ≡ q → (cond q (written (Ok (at + length s)) (write at s l)) (written (Err 32) l)).answer ≡ Ok k
+          → (k - at ≡ length s) × (take (k - at) (drop at (cond q (written (Ok (at + length s)) (write at s l)) (written (Err 32) l)).out) ≡ s)
       by_room true h e = let f : at + length s ≡ k = cc in (omega arith, bytes_written (leb-true (at + length s) (length l) h) f)
       by_room false h e = let x : ◌≡◌ {A = ℕ} 0 1 = cc in absurd (omega arith)
   answered false e = let x : ◌≡◌ {A = ℕ} 0 1 = cc in absurd (omega arith)
 
-pub round_trip : (ts : List ℤ) (n : ℕ) (bs : List ℤ) (m : ℕ) (b t : ℤ) (l : List ℕ) (at k : ℕ) → (write_of ts n bs m b t l at).answer ≡ wrote.Next k
+pub round_trip : (ts : List ℤ) (n : ℕ) (bs : List ℤ) (m : ℕ) (b t : ℤ) (l : List ℕ) (at k : ℕ) → (write_of ts n bs m b t l at).answer ≡ Ok k
     → Writable (take n ts) (take m bs) b t → (xs ys : List ℤ) → 512 ≤ length xs → 512 ≤ length ys
     → read_of row_limit (take (k - at) (drop at (write_of ts n bs m b t l at).out)) xs ys ≡ load (seg (take n ts) (take m bs) b t (k - at)) xs ys
 unfolding write_of

@@ -36,13 +36,13 @@ pub fn write_segment(
         ≡ write_of txs.now n_txs boxes.now n_boxes box_segment_count tx_segment_count out.old at }
 {
     if !is_held(n_txs, txs.len()) {
-        return Wrote::Refused(refusal::BUFFERS);
+        return Err(refusal::BUFFERS);
     }
     if !is_held(n_boxes, boxes.len()) {
-        return Wrote::Refused(refusal::BUFFERS);
+        return Err(refusal::BUFFERS);
     }
     if vlq_core::has_room(out.len(), at, ROW_LIMIT) {
-        return Wrote::Next(segment_writing::emit_segment(
+        return Ok(segment_writing::emit_segment(
             txs,
             n_txs,
             boxes,
@@ -62,9 +62,9 @@ pub fn write_segment(
         tx_segment_count,
     );
     if !vlq_core::has_room(out.len(), at, n) {
-        return Wrote::Refused(refusal::OUTPUT_TOO_SHORT);
+        return Err(refusal::OUTPUT_TOO_SHORT);
     }
-    Wrote::Next(segment_writing::emit_segment(
+    Ok(segment_writing::emit_segment(
         txs,
         n_txs,
         boxes,

@@ -1,17 +1,15 @@
 -- The starred lines of document 01, "Trial values", as one table: "Starred ones are proved together as one table theorem".
 -- Each is a value of the definition that the public call's contract cites: coded numbers as `put_i64` writes them, rows as `write_segment` does, spends
 -- and unspends as `flip_box_segment_entry` and `unflip_box_segment_entry` do.
-use Rattle.std.specs.Prelude.{◌≡◌, List, [], ◌∷◌, ℕ, ℤ, pos, negsuc, length, replicate}
+use Rattle.std.specs.Prelude.{◌≡◌, List, [], ◌∷◌, ℕ, ℤ, pos, negsuc, length, replicate, Ok, Err}
 use Rattle.index_types.specs.declared.ListCounts.{ListCounts}
 use Rattle.vlq_core.specs.Zigzag.{zig}
 use Rattle.vlq_core.specs.Groups.{enc}
-use Rattle.index_types.specs.declared.Wrote.TheVariants.{Next}
 use Rattle.vlq_core.specs.Writing.{Written, written}
 use Rattle.segment_core.specs.Loading.{padded}
 use Rattle.segment.specs.Calls.{write_of}
 use Rattle.buffer_core.specs.declared.Direction.{Direction}
 use Rattle.buffer_core.specs.declared.Direction.TheVariants.{Spend, Unspend}
-use Rattle.index_types.specs.declared.Flipped.TheVariants.{Done, Refused}
 use Rattle.buffer_core.specs.Edition.{edition_1}
 use Rattle.buffer_core.specs.Flip.{Flipping, flipping, flip_of}
 
@@ -32,10 +30,10 @@ flipped_in d parent n target head = flip_of edition_1 d parent (record { len = n
 
 -- it is accepted, or refused, and the head holds the numbers zs, which zeros follow to 512
 abbrev pub accepted : List ℤ → Flipping
-accepted zs = flipping (Done no_records) (padded zs) []
+accepted zs = flipping (Ok no_records) (padded zs) []
 
 abbrev pub refused : ℕ → List ℤ → Flipping
-refused code zs = flipping (Refused code) (padded zs) []
+refused code zs = flipping (Err code) (padded zs) []
 
 pub record TestVectors : Type 0 where
   -- "0 is 00"
@@ -51,9 +49,9 @@ pub record TestVectors : Type 0 where
   -- "-2^63 is nine FF, then 01"
   pub coded_minimum : coded (negsuc 9223372036854775807) ≡ 0xff ∷ 0xff ∷ 0xff ∷ 0xff ∷ 0xff ∷ 0xff ∷ 0xff ∷ 0xff ∷ 0xff ∷ 0x01 ∷ []
   -- "Row with txs [1], boxes [-1], counts 0 and 1: 02 02 02 01 00 02"
-  pub row : row_written (pos 1 ∷ []) (negsuc 0 ∷ []) (pos 0) (pos 1) 6 ≡ written (Next 6) (0x02 ∷ 0x02 ∷ 0x02 ∷ 0x01 ∷ 0x00 ∷ 0x02 ∷ [])
+  pub row : row_written (pos 1 ∷ []) (negsuc 0 ∷ []) (pos 0) (pos 1) 6 ≡ written (Ok 6) (0x02 ∷ 0x02 ∷ 0x02 ∷ 0x01 ∷ 0x00 ∷ 0x02 ∷ [])
   -- "Empty: 00 00 00 00"
-  pub row_empty : row_written [] [] (pos 0) (pos 0) 4 ≡ written (Next 4) (0x00 ∷ 0x00 ∷ 0x00 ∷ 0x00 ∷ [])
+  pub row_empty : row_written [] [] (pos 0) (pos 0) 4 ≡ written (Ok 4) (0x00 ∷ 0x00 ∷ 0x00 ∷ 0x00 ∷ [])
   -- "[5, 5] spent once: [-5, 5]"
   pub spent_once : (parent : List ℕ) → flipped_in Spend parent 2 (pos 5) (padded (pos 5 ∷ pos 5 ∷ [])) ≡ accepted (negsuc 4 ∷ pos 5 ∷ [])
   -- "twice, then unspent: [5, -5]"

@@ -12,12 +12,11 @@ use mir.Val.{SFits}
 use Rattle.signed.specs.Sign.{is_negative}
 use Rattle.vlq_core.specs.Zigzag.{zig}
 use Rattle.vlq_core.specs.Groups.{enc}
-use Rattle.vlq_core.specs.declared.Got.TheVariants as got
+use Rattle.std.specs.Prelude.{Ok, Err}
 use Rattle.vlq_core.specs.Reading.{read_at, signed_of}
 use Rattle.vlq_core.proofs.GroupLaws.{number_length}
 use Rattle.vlq_core.proofs.BackLaws.{signed_back}
-use Rattle.segment_core.specs.declared.Counts.{Counts}
-use Rattle.segment_core.specs.declared.Counts.TheVariants.{Both, Refused}
+use Rattle.segment_core.specs.Answers.{Counts}
 use Rattle.segment_core.specs.Row.{numbers_bytes, list_bytes, counts_bytes, row_bytes}
 use Rattle.segment_core.specs.Reading.{length_of, length_at, Nums, nums, bad, cons_nums, numbers_at, numbers_from, list_at, both_counts, counts_at, seg, segment_at}
 use Rattle.segment_core.proofs.SegmentLaws.{segment_is}
@@ -78,13 +77,13 @@ module _ (zs : List ℤ) (h : length zs ≤ 512) (f : All64 zs) (s p q : List �
   abbrev code : List ℕ
   code = enc (zig (pos (length zs)))
 
-  pub length_back : length_at s at ≡ got.Value (length zs) (at + length code)
+  pub length_back : length_at s at ≡ Ok (length zs, at + length code)
   unfolding length_at
   length_back =
       let y : List ℕ = numbers_bytes zs in
-      let r : signed_of (length_of s) got.Refused (read_at 32 s at) ≡ length_of s (pos (length zs)) (at + length code)
-      = ap (λ (l : List ℕ). signed_of (length_of s) got.Refused (read_at 32 l at)) (first s p code y q at e d)
-      ∙ signed_back (length_of s) got.Refused w32 (pos (length zs)) p (y ++ q) at d (omega arith) (record { sfits = omega arith }) in
+      let r : signed_of (length_of s) Err (read_at 32 s at) ≡ length_of s (pos (length zs)) (at + length code)
+      = ap (λ (l : List ℕ). signed_of (length_of s) Err (read_at 32 l at)) (first s p code y q at e d)
+      ∙ signed_back (length_of s) Err w32 (pos (length zs)) p (y ++ q) at d (omega arith) (record { sfits = omega arith }) in
       let t : length s ≡ length (p ++ code) + length (y ++ q) = ap length (second s p code y q at e d) ∙ length-append (p ++ code) (y ++ q) in
       let room : length zs ≤ length s - (at + length code) = omega (arith, numbers_some zs f, second_at s p code y q at e d, length-append y q) in
       r ∙ rw (le-ltb 512 (length zs) h, le-ltb (length s - (at + length code)) (length zs) room)
@@ -100,18 +99,18 @@ module _ (zs : List ℤ) (h : length zs ≤ 512) (f : All64 zs) (s p q : List �
 -- ---- the spill counts
 
 pub counts_back : (b t : ℤ) → Count b → Count t → (s p q : List ℕ) (at : ℕ) → s ≡ p ++ (counts_bytes b t ++ q) → length p ≡ at
-    → counts_at s at ≡ Both b t (at + length (counts_bytes b t))
+    → counts_at s at ≡ Ok (b, t, at + length (counts_bytes b t))
 unfolding counts_at
 counts_back b t h k s p q at e d =
     let x : List ℕ = enc (zig b) in
     let y : List ℕ = enc (zig t) in
-    let rest : ℤ → ℕ → Counts = λ b n. signed_of (both_counts b) Refused (read_at 32 s n) in
-    let r : signed_of rest Refused (read_at 32 s at) ≡ rest b (at + length x)
-    = ap (λ (l : List ℕ). signed_of rest Refused (read_at 32 l at)) (first s p x y q at e d) ∙ signed_back rest Refused w32 b p (y ++ q) at d (omega arith) h.1 in
+    let rest : ℤ → ℕ → Counts = λ b n. signed_of (both_counts b) Err (read_at 32 s n) in
+    let r : signed_of rest Err (read_at 32 s at) ≡ rest b (at + length x)
+    = ap (λ (l : List ℕ). signed_of rest Err (read_at 32 l at)) (first s p x y q at e d) ∙ signed_back rest Err w32 b p (y ++ q) at d (omega arith) h.1 in
     let u : rest b (at + length x) ≡ both_counts b t (at + length x + length y)
-    = ap (λ (l : List ℕ). signed_of (both_counts b) Refused (read_at 32 l (at + length x))) (second s p x y q at e d)
-    ∙ signed_back (both_counts b) Refused w32 t (p ++ x) q (at + length x) (second_at s p x y q at e d) (omega arith) k.1 in
-    r ∙ u ∙ rw (h.0, k.0) (ap (Both b t) (omega (arith, length-append x y)))
+    = ap (λ (l : List ℕ). signed_of (both_counts b) Err (read_at 32 l (at + length x))) (second s p x y q at e d)
+    ∙ signed_back (both_counts b) Err w32 t (p ++ x) q (at + length x) (second_at s p x y q at e d) (omega arith) k.1 in
+    r ∙ u ∙ rw (h.0, k.0) (ap (λ x. Ok (b, t, x)) (omega (arith, length-append x y)))
 
 -- ---- a segment, behind any bytes and before any others
 

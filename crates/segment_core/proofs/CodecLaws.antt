@@ -15,14 +15,13 @@ use mir.Val.{SFits}
 use Rattle.signed.specs.Sign.{is_negative}
 use Rattle.vlq_core.specs.Zigzag.{zig, zag}
 use Rattle.vlq_core.specs.Groups.{enc}
-use Rattle.vlq_core.specs.declared.Got.{Got}
-use Rattle.vlq_core.specs.declared.Got.TheVariants as got
+use Rattle.std.specs.Prelude.{Ok, Err}
+use Rattle.vlq_core.specs.Answers.{Got}
 use Rattle.vlq_core.specs.Reading.{read_at, signed_of}
 use Rattle.vlq_core.proofs.ZigzagLaws.{zag_fits}
 use Rattle.vlq_core.proofs.GroupLaws.{number_length}
 use Rattle.vlq_core.proofs.ReadLaws.{read_fits, read_next, read_refusals}
-use Rattle.segment_core.specs.declared.Counts.{Counts}
-use Rattle.segment_core.specs.declared.Counts.TheVariants as counts
+use Rattle.segment_core.specs.Answers.{Counts}
 use Rattle.segment_core.specs.Row.{numbers_bytes, list_bytes, row_bytes, row_limit}
 use Rattle.segment_core.specs.Reading.{length_of, length_at, Nums, nums, bad, cons_nums, numbers_at, numbers_from, list_at, both_counts, counts_at, Seg, seg, no_seg, list_then, counts_then, segment_at, ended, row_of, with_boxes, redo}
 use Rattle.segment_core.specs.Loading.{load}
@@ -77,20 +76,20 @@ module _ (s : List ℕ) where
       more z n f g (bad r) p = p
 
       by_answer : (g : Got) → read_at 64 s at ≡ g → ((n : ℕ) → n ≤ length s → GoodNums n (numbers_at k s n)) → GoodNums at (signed_of (λ z n. cons_nums z (numbers_at k s n)) bad g)
-      by_answer (got.Value v n) e rest =
+      by_answer (Ok (v, n)) e rest =
           let q = read_next 64 s at v n (sym e) in
           more (zag v) n (zag_fits w64 v (read_fits 64 s at v n (sym e))) q.0 (numbers_at k s n) (rest n q.1)
-      by_answer (got.Refused r) e rest = one_or_two 5 r (omega arith) (read_refusals 64 s at r (sym e))
+      by_answer (Err r) e rest = one_or_two 5 r (omega arith) (read_refusals 64 s at r (sym e))
 
   abbrev GoodLength : ℕ → Got → Type 0
-  GoodLength at (got.Value k n) = (at < n) × (n ≤ length s)
-  GoodLength at (got.Refused r) = Few 5 r
+  GoodLength at (Ok (k, n)) = (at < n) × (n ≤ length s)
+  GoodLength at (Err r) = Few 5 r
 
   length_good : (at : ℕ) → GoodLength at (length_at s at)
   unfolding length_at
   length_good at = by_answer (read_at 32 s at) refl
     where
-      by_tests : (p q : Bool) (k n : ℕ) → at < n → n ≤ length s → GoodLength at (cond p (got.Refused 4) (cond q (got.Refused 5) (got.Value k n)))
+      by_tests : (p q : Bool) (k n : ℕ) → at < n → n ≤ length s → GoodLength at (cond p (Err 4) (cond q (Err 5) (Ok (k, n))))
       by_tests true q k n f g = few 5 4 (omega arith) (omega arith)
       by_tests false true k n f g = few 5 5 (omega arith) (omega arith)
       by_tests false false k n f g = (f, g)
@@ -99,9 +98,9 @@ module _ (s : List ℕ) where
       by_sign (pos k) n f g = by_tests (ltb 512 k) (ltb (length s - n) k) k n f g
       by_sign (negsuc k) n f g = few 5 3 (omega arith) (omega arith)
 
-      by_answer : (g : Got) → read_at 32 s at ≡ g → GoodLength at (signed_of (length_of s) got.Refused g)
-      by_answer (got.Value v n) e = let q = read_next 32 s at v n (sym e) in by_sign (zag v) n q.0 q.1
-      by_answer (got.Refused r) e = one_or_two 5 r (omega arith) (read_refusals 32 s at r (sym e))
+      by_answer : (g : Got) → read_at 32 s at ≡ g → GoodLength at (signed_of (length_of s) Err g)
+      by_answer (Ok (v, n)) e = let q = read_next 32 s at v n (sym e) in by_sign (zag v) n q.0 q.1
+      by_answer (Err r) e = one_or_two 5 r (omega arith) (read_refusals 32 s at r (sym e))
 
   abbrev GoodList : ℕ → Nums → Type 0
   GoodList at (nums zs n) = All64 zs × (at < n) × (n ≤ length s)
@@ -116,32 +115,32 @@ module _ (s : List ℕ) where
       past n f (bad r) p = p
 
       by_answer : (g : Got) → GoodLength at g → GoodList at (numbers_from s g)
-      by_answer (got.Value k n) q = past n q.0 (numbers_at k s n) (numbers_good k n q.1)
-      by_answer (got.Refused r) q = q
+      by_answer (Ok (k, n)) q = past n q.0 (numbers_at k s n) (numbers_good k n q.1)
+      by_answer (Err r) q = q
 
   abbrev GoodCounts : ℕ → Counts → Type 0
-  GoodCounts at (counts.Both b t n) = Count b × Count t × (at < n) × (n ≤ length s)
-  GoodCounts at (counts.Refused r) = Few 6 r
+  GoodCounts at (Ok (b, t, n)) = Count b × Count t × (at < n) × (n ≤ length s)
+  GoodCounts at (Err r) = Few 6 r
 
   pub counts_good : (at : ℕ) → GoodCounts at (counts_at s at)
   unfolding counts_at
   counts_good at = by_first (read_at 32 s at) refl
     where
       by_signs : (b t : ℤ) (n : ℕ) (p q : Bool) → is_negative b ≡ p → is_negative t ≡ q → SFits w32 b → SFits w32 t → at < n → n ≤ length s
-          → GoodCounts at (cond (p || q) (counts.Refused 6) (counts.Both b t n))
+          → GoodCounts at (cond (p || q) (Err 6) (Ok (b, t, n)))
       by_signs b t n true q e f g h i j = few 6 6 (omega arith) (omega arith)
       by_signs b t n false true e f g h i j = few 6 6 (omega arith) (omega arith)
       by_signs b t n false false e f g h i j = ((e, g), (f, h), i, j)
 
-      by_second : (b : ℤ) (m : ℕ) → SFits w32 b → at < m → (g : Got) → read_at 32 s m ≡ g → GoodCounts at (signed_of (both_counts b) counts.Refused g)
-      by_second b m f h (got.Value v n) e =
+      by_second : (b : ℤ) (m : ℕ) → SFits w32 b → at < m → (g : Got) → read_at 32 s m ≡ g → GoodCounts at (signed_of (both_counts b) Err g)
+      by_second b m f h (Ok (v, n)) e =
           let q = read_next 32 s m v n (sym e) in
           by_signs b (zag v) n (is_negative b) (is_negative (zag v)) refl refl f (zag_fits w32 v (read_fits 32 s m v n (sym e))) (omega arith) q.1
-      by_second b m f h (got.Refused r) e = one_or_two 6 r (omega arith) (read_refusals 32 s m r (sym e))
+      by_second b m f h (Err r) e = one_or_two 6 r (omega arith) (read_refusals 32 s m r (sym e))
 
-      by_first : (g : Got) → read_at 32 s at ≡ g → GoodCounts at (signed_of (λ b n. signed_of (both_counts b) counts.Refused (read_at 32 s n)) counts.Refused g)
-      by_first (got.Value v n) e = by_second (zag v) n (zag_fits w32 v (read_fits 32 s at v n (sym e))) (read_next 32 s at v n (sym e)).0 (read_at 32 s n) refl
-      by_first (got.Refused r) e = one_or_two 6 r (omega arith) (read_refusals 32 s at r (sym e))
+      by_first : (g : Got) → read_at 32 s at ≡ g → GoodCounts at (signed_of (λ b n. signed_of (both_counts b) Err (read_at 32 s n)) Err g)
+      by_first (Ok (v, n)) e = by_second (zag v) n (zag_fits w32 v (read_fits 32 s at v n (sym e))) (read_next 32 s at v n (sym e)).0 (read_at 32 s n) refl
+      by_first (Err r) e = one_or_two 6 r (omega arith) (read_refusals 32 s at r (sym e))
 
 -- an accepted segment
 pub record Accepted (s : List ℕ) (at : ℕ) (ts bs : List ℤ) (b t : ℤ) (n : ℕ) : Type 0 where
@@ -162,12 +161,12 @@ module _ (s : List ℕ) (at : ℕ) where
   segment_good = by_txs (list_at s at) refl (list_good s at)
     where
       by_counts : (ts bs : List ℤ) (q : ℕ) → length ts ≤ 512 → All64 ts → length bs ≤ 512 → All64 bs → at < q → (g : Counts) → GoodCounts s q g → GoodSeg (counts_then (seg ts bs) g)
-      by_counts ts bs q a f d g h (counts.Both b t n) p = record {
+      by_counts ts bs q a f d g h (Ok (b, t, n)) p = record {
         content = record { txs_few = a; txs_fit = f; boxes_few = d; boxes_fit = g; box_count = p.0; tx_count = p.1 };
         after = omega (arith, p.2);
         within = p.3;
       }
-      by_counts ts bs q a f d g h (counts.Refused r) p = p
+      by_counts ts bs q a f d g h (Err r) p = p
 
       by_boxes : (ts : List ℤ) (p : ℕ) → length ts ≤ 512 → All64 ts → at < p → (g : Nums) → list_at s p ≡ g → GoodList s p g
           → GoodSeg (list_then (λ bs q. counts_then (seg ts bs) (counts_at s q)) g)

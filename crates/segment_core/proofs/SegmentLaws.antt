@@ -7,7 +7,7 @@ use lib.Dec.{eqb}
 use lib.IntN.{ℤ}
 use lib.ListN.{length}
 use Rattle.stores.specs.Stores.{write}
-use Rattle.segment_core.specs.declared.Counts.TheVariants as counts
+use Rattle.std.specs.Prelude.{Ok, Err}
 use Rattle.index_types.specs.declared.Loaded.TheVariants.{Read, Refused}
 use Rattle.segment_core.specs.Reading.{nums, bad, list_at, counts_at, Seg, seg, no_seg, list_then, counts_then, segment_at, ended}
 use Rattle.segment_core.specs.Loading.{loading, load, padded}
@@ -31,11 +31,11 @@ module _ (s : List ℕ) (at : ℕ) where
     segment_boxes_bad x f = ap (list_then boxes_then) e ∙ ap (list_then counts_from) f
 
     module _ (bs : List ℤ) (q : ℕ) (f : list_at s p ≡ nums bs q) where
-      pub segment_counts_bad : (x : ℕ) → counts_at s q ≡ counts.Refused x → segment_at s at ≡ no_seg x
+      pub segment_counts_bad : (x : ℕ) → counts_at s q ≡ Err x → segment_at s at ≡ no_seg x
       unfolding segment_at boxes_then counts_from
       segment_counts_bad x g = ap (list_then boxes_then) e ∙ ap (list_then counts_from) f ∙ ap (counts_then (seg ts bs)) g
 
-      pub segment_is : (b t : ℤ) (n : ℕ) → counts_at s q ≡ counts.Both b t n → segment_at s at ≡ seg ts bs b t n
+      pub segment_is : (b t : ℤ) (n : ℕ) → counts_at s q ≡ Ok (b, t, n) → segment_at s at ≡ seg ts bs b t n
       unfolding segment_at boxes_then counts_from
       segment_is b t n g = ap (list_then boxes_then) e ∙ ap (list_then counts_from) f ∙ ap (counts_then (seg ts bs)) g
 

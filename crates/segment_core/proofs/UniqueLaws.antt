@@ -15,14 +15,13 @@ use Rattle.stores.proofs.StoreLaws.{length_write}
 use Rattle.signed.specs.Sign.{is_negative}
 use Rattle.vlq_core.specs.Zigzag.{zig, zag}
 use Rattle.vlq_core.specs.Groups.{enc}
-use Rattle.vlq_core.specs.declared.Got.{Got}
-use Rattle.vlq_core.specs.declared.Got.TheVariants as got
+use Rattle.std.specs.Prelude.{Ok, Err}
+use Rattle.vlq_core.specs.Answers.{Got}
 use Rattle.vlq_core.specs.Reading.{read_at, signed_of}
 use Rattle.vlq_core.proofs.Split.{split}
 use Rattle.vlq_core.proofs.ReadLaws.{read_next}
 use Rattle.vlq_core.proofs.UniqueLaws.{Bytes, read_unique}
-use Rattle.segment_core.specs.declared.Counts.{Counts}
-use Rattle.segment_core.specs.declared.Counts.TheVariants as counts
+use Rattle.segment_core.specs.Answers.{Counts}
 use Rattle.segment_core.specs.Row.{numbers_bytes, list_bytes, counts_bytes, row_bytes}
 use Rattle.segment_core.specs.Reading.{length_of, length_at, Nums, nums, bad, cons_nums, numbers_at, numbers_from, list_at, both_counts, counts_at, Seg, seg, no_seg, list_then, counts_then, segment_at, ended, row_of}
 use Rattle.segment_core.specs.Loading.{padded}
@@ -51,7 +50,7 @@ module _ (s : List ℕ) (all : Bytes s) where
             ∙ ap₂ ◌++◌ p.is (ap (take (n - m)) (drop-drop (m - a) a s ∙ ap (λ (k : ℕ). drop k s) f) ∙ q.is);
       }
 
-  pub number : (k at v n : ℕ) → read_at k s at ≡ got.Value v n → Span at n (enc (zig (zag v)))
+  pub number : (k at v n : ℕ) → read_at k s at ≡ Ok (v, n) → Span at n (enc (zig (zag v)))
   number k at v n e = let r = read_next k s at v n (sym e) in record { past = omega (arith, r.0); is = read_unique k s at v n all e ∙ ap enc (sym (zig_zag v)) }
 
   abbrev NumsSpan : ℕ → Nums → Type 0
@@ -68,8 +67,8 @@ module _ (s : List ℕ) (all : Bytes s) where
       more v n p (bad r) q = tt
 
       by_answer : (g : Got) → read_at 64 s at ≡ g → ((n : ℕ) → NumsSpan n (numbers_at k s n)) → NumsSpan at (signed_of (λ z n. cons_nums z (numbers_at k s n)) bad g)
-      by_answer (got.Value v n) e rest = more v n (number 64 at v n e) (numbers_at k s n) (rest n)
-      by_answer (got.Refused r) e rest = tt
+      by_answer (Ok (v, n)) e rest = more v n (number 64 at v n e) (numbers_at k s n) (rest n)
+      by_answer (Err r) e rest = tt
 
   -- k numbers are as many
   numbers_many : (k at : ℕ) (zs : List ℤ) (n : ℕ) → numbers_at k s at ≡ nums zs n → length zs ≡ k
@@ -82,18 +81,18 @@ module _ (s : List ℕ) (all : Bytes s) where
       more z (bad r) e h = let x : ◌≡◌ {A = ℕ} 0 1 = cc in absurd (omega arith)
 
       by_answer : (g : Got) → signed_of (λ z n. cons_nums z (numbers_at k s n)) bad g ≡ nums zs n → ((m : ℕ) (ys : List ℤ) (j : ℕ) → numbers_at k s m ≡ nums ys j → length ys ≡ k) → length zs ≡ suc k
-      by_answer (got.Value v m) e h = more (zag v) (numbers_at k s m) e (h m)
-      by_answer (got.Refused r) e h = let x : ◌≡◌ {A = ℕ} 0 1 = cc in absurd (omega arith)
+      by_answer (Ok (v, m)) e h = more (zag v) (numbers_at k s m) e (h m)
+      by_answer (Err r) e h = let x : ◌≡◌ {A = ℕ} 0 1 = cc in absurd (omega arith)
 
   abbrev LengthSpan : ℕ → Got → Type 0
-  LengthSpan at (got.Value k n) = Span at n (enc (zig (pos k)))
-  LengthSpan at (got.Refused r) = Unit {0}
+  LengthSpan at (Ok (k, n)) = Span at n (enc (zig (pos k)))
+  LengthSpan at (Err r) = Unit {0}
 
   length_span : (at : ℕ) → LengthSpan at (length_at s at)
   unfolding length_at
   length_span at = by_answer (read_at 32 s at) refl
     where
-      by_tests : (p q : Bool) (k n : ℕ) → Span at n (enc (zig (pos k))) → LengthSpan at (cond p (got.Refused 4) (cond q (got.Refused 5) (got.Value k n)))
+      by_tests : (p q : Bool) (k n : ℕ) → Span at n (enc (zig (pos k))) → LengthSpan at (cond p (Err 4) (cond q (Err 5) (Ok (k, n))))
       by_tests true q k n x = tt
       by_tests false true k n x = tt
       by_tests false false k n x = x
@@ -102,9 +101,9 @@ module _ (s : List ℕ) (all : Bytes s) where
       by_sign (pos k) n x = by_tests (ltb 512 k) (ltb (length s - n) k) k n x
       by_sign (negsuc k) n x = tt
 
-      by_answer : (g : Got) → read_at 32 s at ≡ g → LengthSpan at (signed_of (length_of s) got.Refused g)
-      by_answer (got.Value v n) e = by_sign (zag v) n (number 32 at v n e)
-      by_answer (got.Refused r) e = tt
+      by_answer : (g : Got) → read_at 32 s at ≡ g → LengthSpan at (signed_of (length_of s) Err g)
+      by_answer (Ok (v, n)) e = by_sign (zag v) n (number 32 at v n e)
+      by_answer (Err r) e = tt
 
   abbrev ListSpan : ℕ → Nums → Type 0
   ListSpan at (nums zs n) = Span at n (list_bytes zs)
@@ -119,28 +118,28 @@ module _ (s : List ℕ) (all : Bytes s) where
       more k n p (bad r) e q = tt
 
       by_answer : (g : Got) → LengthSpan at g → ListSpan at (numbers_from s g)
-      by_answer (got.Value k n) p = more k n p (numbers_at k s n) refl (numbers_span k n)
-      by_answer (got.Refused r) p = tt
+      by_answer (Ok (k, n)) p = more k n p (numbers_at k s n) refl (numbers_span k n)
+      by_answer (Err r) p = tt
 
   abbrev CountsSpan : ℕ → Counts → Type 0
-  CountsSpan at (counts.Both b t n) = Span at n (counts_bytes b t)
-  CountsSpan at (counts.Refused r) = Unit {0}
+  CountsSpan at (Ok (b, t, n)) = Span at n (counts_bytes b t)
+  CountsSpan at (Err r) = Unit {0}
 
   counts_span : (at : ℕ) → CountsSpan at (counts_at s at)
   unfolding counts_at
   counts_span at = by_first (read_at 32 s at) refl
     where
-      by_signs : (x : Bool) (b t : ℤ) (n : ℕ) → Span at n (counts_bytes b t) → CountsSpan at (cond x (counts.Refused 6) (counts.Both b t n))
+      by_signs : (x : Bool) (b t : ℤ) (n : ℕ) → Span at n (counts_bytes b t) → CountsSpan at (cond x (Err 6) (Ok (b, t, n)))
       by_signs true b t n p = tt
       by_signs false b t n p = p
 
-      by_second : (b : ℤ) (m : ℕ) → Span at m (enc (zig b)) → (g : Got) → read_at 32 s m ≡ g → CountsSpan at (signed_of (both_counts b) counts.Refused g)
-      by_second b m p (got.Value v n) e = by_signs (is_negative b || is_negative (zag v)) b (zag v) n (both at m n (enc (zig b)) (enc (zig (zag v))) p (number 32 m v n e))
-      by_second b m p (got.Refused r) e = tt
+      by_second : (b : ℤ) (m : ℕ) → Span at m (enc (zig b)) → (g : Got) → read_at 32 s m ≡ g → CountsSpan at (signed_of (both_counts b) Err g)
+      by_second b m p (Ok (v, n)) e = by_signs (is_negative b || is_negative (zag v)) b (zag v) n (both at m n (enc (zig b)) (enc (zig (zag v))) p (number 32 m v n e))
+      by_second b m p (Err r) e = tt
 
-      by_first : (g : Got) → read_at 32 s at ≡ g → CountsSpan at (signed_of (λ b n. signed_of (both_counts b) counts.Refused (read_at 32 s n)) counts.Refused g)
-      by_first (got.Value v n) e = by_second (zag v) n (number 32 at v n e) (read_at 32 s n) refl
-      by_first (got.Refused r) e = tt
+      by_first : (g : Got) → read_at 32 s at ≡ g → CountsSpan at (signed_of (λ b n. signed_of (both_counts b) Err (read_at 32 s n)) Err g)
+      by_first (Ok (v, n)) e = by_second (zag v) n (number 32 at v n e) (read_at 32 s n) refl
+      by_first (Err r) e = tt
 
   abbrev SegSpan : ℕ → Seg → Type 0
   SegSpan at (seg ts bs b t n) = Span at n (row_bytes ts bs b t)
@@ -151,8 +150,8 @@ module _ (s : List ℕ) (all : Bytes s) where
   segment_span at = by_txs (list_at s at) (list_span at)
     where
       by_counts : (ts bs : List ℤ) (p q : ℕ) → Span at p (list_bytes ts) → Span p q (list_bytes bs) → (x : Counts) → CountsSpan q x → SegSpan at (counts_then (seg ts bs) x)
-      by_counts ts bs p q a c (counts.Both b t n) d = both at p n (list_bytes ts) (list_bytes bs ++ counts_bytes b t) a (both p q n (list_bytes bs) (counts_bytes b t) c d)
-      by_counts ts bs p q a c (counts.Refused r) d = tt
+      by_counts ts bs p q a c (Ok (b, t, n)) d = both at p n (list_bytes ts) (list_bytes bs ++ counts_bytes b t) a (both p q n (list_bytes bs) (counts_bytes b t) c d)
+      by_counts ts bs p q a c (Err r) d = tt
 
       by_boxes : (ts : List ℤ) (p : ℕ) → Span at p (list_bytes ts) → (x : Nums) → ListSpan p x → SegSpan at (list_then (λ bs q. counts_then (seg ts bs) (counts_at s q)) x)
       by_boxes ts p a (nums bs q) c = by_counts ts bs p q a c (counts_at s q) (counts_span q)

@@ -3,3 +3,4 @@ pub mod Row
 pub mod Reading
 pub mod Loading
 pub mod Internal
+pub mod Answers

@@ -2,24 +2,22 @@
 -- Each length is checked for 3, 4, 5 in that order, spill counts after both are read."
 -- Refusals: 1, 2 as a coded number; 3 negative length; 4 list above 512; 5 length above bytes left; 6 negative spill count; 8 bytes left over;
 -- 25 row above the limit.
-use Rattle.std.specs.Prelude.{ℕ, zero, suc, ◌-◌, Bool, true, cond, ◌||◌, not, List, [], ◌∷◌, leb, ltb, eqb, ℤ, pos, negsuc, length}
+use Rattle.std.specs.Prelude.{ℕ, zero, suc, ◌-◌, Bool, true, cond, ◌||◌, not, List, [], ◌∷◌, leb, ltb, eqb, ℤ, pos, negsuc, length, Ok, Err}
 use Rattle.index_types.specs.Limits.{segment_threshold}
 use Rattle.signed.specs.Sign.{is_negative}
-use Rattle.vlq_core.specs.declared.Got.{Got}
-use Rattle.vlq_core.specs.declared.Got.TheVariants.{Value, Refused}
+use Rattle.vlq_core.specs.Answers.{Got}
 use Rattle.vlq_core.specs.Reading.{read_at, signed_of}
-use Rattle.segment_core.specs.declared.Counts.{Counts}
-use Rattle.segment_core.specs.declared.Counts.TheVariants as counts
+use Rattle.segment_core.specs.Answers.{Counts}
 use Rattle.segment_core.specs.Row.{row_bytes}
 
 -- ---- a length: 3, then 4, then 5, which counts the bytes of s behind the length
 
 abbrev pub length_of : List ℕ → ℤ → ℕ → Got
-length_of s (pos k) n = cond (ltb segment_threshold k) (Refused 4) (cond (ltb (length s - n) k) (Refused 5) (Value k n))
-length_of s (negsuc k) n = Refused 3
+length_of s (pos k) n = cond (ltb segment_threshold k) (Err 4) (cond (ltb (length s - n) k) (Err 5) (Ok (k, n)))
+length_of s (negsuc k) n = Err 3
 
 unfoldable pub length_at : List ℕ → ℕ → Got
-length_at s at = signed_of (length_of s) Refused (read_at 32 s at)
+length_at s at = signed_of (length_of s) Err (read_at 32 s at)
 
 -- ---- a list: its numbers and the position after them, or the refusal
 
@@ -38,8 +36,8 @@ numbers_at (suc k) s at = signed_of (λ z n. cons_nums z (numbers_at k s n)) bad
 
 -- a length and its numbers
 abbrev pub numbers_from : List ℕ → Got → Nums
-numbers_from s (Value k n) = numbers_at k s n
-numbers_from s (Refused r) = bad r
+numbers_from s (Ok (k, n)) = numbers_at k s n
+numbers_from s (Err r) = bad r
 
 unfoldable pub list_at : List ℕ → ℕ → Nums
 list_at s at = numbers_from s (length_at s at)
@@ -47,10 +45,10 @@ list_at s at = numbers_from s (length_at s at)
 -- ---- the spill counts, of boxes and of transactions: both are read before either is tested
 
 abbrev pub both_counts : ℤ → ℤ → ℕ → Counts
-both_counts b t n = cond (is_negative b || is_negative t) (counts.Refused 6) (counts.Both b t n)
+both_counts b t n = cond (is_negative b || is_negative t) (Err 6) (Ok (b, t, n))
 
 unfoldable pub counts_at : List ℕ → ℕ → Counts
-counts_at s at = signed_of (λ b n. signed_of (both_counts b) counts.Refused (read_at 32 s n)) counts.Refused (read_at 32 s at)
+counts_at s at = signed_of (λ b n. signed_of (both_counts b) Err (read_at 32 s n)) Err (read_at 32 s at)
 
 -- ---- a segment: transactions, boxes, box spill count, tx spill count, and the position after them; or the refusal
 
@@ -63,8 +61,8 @@ list_then f (nums zs n) = f zs n
 list_then f (bad r) = no_seg r
 
 abbrev pub counts_then : (ℤ → ℤ → ℕ → Seg) → Counts → Seg
-counts_then f (counts.Both b t n) = f b t n
-counts_then f (counts.Refused r) = no_seg r
+counts_then f (Ok (b, t, n)) = f b t n
+counts_then f (Err r) = no_seg r
 
 -- the segment at position `at` of s, whatever follows it
 unfoldable pub segment_at : List ℕ → ℕ → Seg

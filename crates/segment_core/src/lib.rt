@@ -6,15 +6,7 @@
 pub const ROW_LIMIT: usize = 10254;
 
 // How many numbers were read and the position after them, or the refusal code.
-#[derive(Clone, Copy)]
-pub enum Part {
-    Listed(usize, usize),
-    Refused(u8),
-}
+pub type Part = Result<(usize, usize), u8>;
 
 // The spill counts, of boxes and of transactions, and the position after them, or the refusal code.
-#[derive(Clone, Copy)]
-pub enum Counts {
-    Both(i32, i32, usize),
-    Refused(u8),
-}
+pub type Counts = Result<(i32, i32, usize), u8>;

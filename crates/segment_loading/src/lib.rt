@@ -9,7 +9,6 @@ ghost use Rattle.segment_core.specs.Reading.{segment_at, ended};
 ghost use Rattle.segment_core.specs.Loading.{loading, load};
 
 use index_types::{Loaded, SEGMENT_THRESHOLD};
-use segment_core::{Counts, Part};
 
 // Whether a segment may end at a position of len bytes.
 fn may_end(must: bool, next: usize, len: usize) -> bool
@@ -26,11 +25,7 @@ fn copy_out(src: &[i64; SEGMENT_THRESHOLD], dst: &mut [i64])
     requires { (length src.now ≡ segment_threshold) × (segment_threshold ≤ length dst.old) }
     ensures { dst.new ≡ write 0 src.now dst.old }
 {
-    let mut i = 0;
-    while i < SEGMENT_THRESHOLD {
-        dst[i] = src[i];
-        i = i + 1;
-    }
+    dst[..SEGMENT_THRESHOLD].copy_from_slice(src);
 }
 
 // A segment at a position, which must end the bytes or may be followed by others.
@@ -42,12 +37,12 @@ fn load_segment(row: &[u8], at: usize, must_end: bool, txs: &mut [i64], boxes: &
     let mut t = [0i64; SEGMENT_THRESHOLD];
     let mut b = [0i64; SEGMENT_THRESHOLD];
     match segment_reading::read_list(row, at, &mut t) {
-        Part::Refused(code) => Loaded::Refused(code),
-        Part::Listed(n, p) => match segment_reading::read_list(row, p, &mut b) {
-            Part::Refused(code) => Loaded::Refused(code),
-            Part::Listed(m, q) => match segment_reading::read_counts(row, q) {
-                Counts::Refused(code) => Loaded::Refused(code),
-                Counts::Both(x, y, next) => {
+        Err(code) => Loaded::Refused(code),
+        Ok((n, p)) => match segment_reading::read_list(row, p, &mut b) {
+            Err(code) => Loaded::Refused(code),
+            Ok((m, q)) => match segment_reading::read_counts(row, q) {
+                Err(code) => Loaded::Refused(code),
+                Ok((x, y, next)) => {
                     if !may_end(must_end, next, row.len()) {
                         return Loaded::Refused(refusal::BYTES_LEFT_OVER);
                     }

@@ -7,7 +7,7 @@ ghost use Rattle.index_types.specs.Limits.{segment_threshold};
 ghost use Rattle.segment_core.specs.Reading.{length_at, numbers_at, list_at, counts_at};
 ghost use Rattle.segment_core.specs.Internal.{ReadInto};
 
-use index_types::{Int, Long, SEGMENT_THRESHOLD};
+use index_types::SEGMENT_THRESHOLD;
 use segment_core::{Counts, Part};
 use vlq_core::Got;
 
@@ -16,20 +16,20 @@ pub fn read_length(row: &[u8], at: usize) -> Got
     ensures { result ≡ length_at row.now at }
 {
     match vlq_reading::get_i32(row, at) {
-        Int::Number(n, next) => {
+        Ok((n, next)) => {
             if signed::is_negative_i32(n) {
-                return Got::Refused(refusal::NEGATIVE_LENGTH);
+                return Err(refusal::NEGATIVE_LENGTH);
             }
             let k = signed::usize_from_i32(n);
             if SEGMENT_THRESHOLD < k {
-                return Got::Refused(refusal::LIST_TOO_LONG);
+                return Err(refusal::LIST_TOO_LONG);
             }
             if row.len() - next < k {
-                return Got::Refused(refusal::LENGTH_ABOVE_BYTES_LEFT);
+                return Err(refusal::LENGTH_ABOVE_BYTES_LEFT);
             }
-            Got::Value(k as u64, next)
+            Ok((k as u64, next))
         }
-        Int::Refused(code) => Got::Refused(code),
+        Err(code) => Err(code),
     }
 }
 
@@ -39,27 +39,25 @@ fn read_numbers(row: &[u8], at: usize, k: usize, buf: &mut [i64; SEGMENT_THRESHO
     ensures { ReadInto (numbers_at k row.now at) buf.old result buf.new }
 {
     let mut next = at;
-    let mut i = 0;
-    while i < k {
+    for slot in &mut buf[..k] {
         let short = vlq_short::get_short(row, next);
         let size = short.size;
         if 0 < size {
-            buf[i] = vlq_reading::unzigzag(short.coded);
-            next = next + size;
+            *slot = vlq_reading::unzigzag(short.coded);
+            next += size;
         } else {
             match vlq_reading::get_i64(row, next) {
-                Long::Number(z, n) => {
-                    buf[i] = z;
+                Ok((z, n)) => {
+                    *slot = z;
                     next = n;
                 }
-                Long::Refused(code) => {
-                    return Part::Refused(code);
+                Err(code) => {
+                    return Err(code);
                 }
             }
         }
-        i = i + 1;
     }
-    Part::Listed(k, next)
+    Ok((k, next))
 }
 
 // A list: a length and its numbers.
@@ -67,8 +65,8 @@ pub fn read_list(row: &[u8], at: usize, buf: &mut [i64; SEGMENT_THRESHOLD]) -> P
     ensures { ReadInto (list_at row.now at) buf.old result buf.new }
 {
     match read_length(row, at) {
-        Got::Value(k, n) => read_numbers(row, n, k as usize, buf),
-        Got::Refused(code) => Part::Refused(code),
+        Ok((k, n)) => read_numbers(row, n, k as usize, buf),
+        Err(code) => Err(code),
     }
 }
 
@@ -77,18 +75,18 @@ pub fn read_counts(row: &[u8], at: usize) -> Counts
     ensures { result ≡ counts_at row.now at }
 {
     match vlq_reading::get_i32(row, at) {
-        Int::Number(b, n) => match vlq_reading::get_i32(row, n) {
-            Int::Number(t, next) => {
+        Ok((b, n)) => match vlq_reading::get_i32(row, n) {
+            Ok((t, next)) => {
                 if signed::is_negative_i32(b) {
-                    return Counts::Refused(refusal::NEGATIVE_SPILL_COUNT_READ);
+                    return Err(refusal::NEGATIVE_SPILL_COUNT_READ);
                 }
                 if signed::is_negative_i32(t) {
-                    return Counts::Refused(refusal::NEGATIVE_SPILL_COUNT_READ);
+                    return Err(refusal::NEGATIVE_SPILL_COUNT_READ);
                 }
-                Counts::Both(b, t, next)
+                Ok((b, t, next))
             }
-            Int::Refused(code) => Counts::Refused(code),
+            Err(code) => Err(code),
         },
-        Int::Refused(code) => Counts::Refused(code),
+        Err(code) => Err(code),
     }
 }

@@ -11,10 +11,8 @@ fn numbers_len(xs: &[i64], n: usize) -> usize
     ensures { (result ≡ length (numbers_bytes (take n xs.now))) × (result ≤ 5120) }
 {
     let mut sum = 0;
-    let mut i = 0;
-    while i < n {
-        sum = sum + vlq_writing::number_len(xs[i]);
-        i = i + 1;
+    for x in &xs[..n] {
+        sum += vlq_writing::number_len(*x);
     }
     sum
 }
@@ -24,10 +22,8 @@ fn emit_numbers(xs: &[i64], n: usize, out: &mut [u8], at: usize) -> usize
     ensures { Put (numbers_bytes (take n xs.now)) out.old at result out.new × (result ≤ at + 10 * n) }
 {
     let mut o = at;
-    let mut i = 0;
-    while i < n {
-        o = vlq_writing::emit_i64(xs[i], out, o);
-        i = i + 1;
+    for x in &xs[..n] {
+        o = vlq_writing::emit_i64(*x, out, o);
     }
     o
 }

@@ -34,7 +34,7 @@ pub fn list_histories(out: &mut [u8]) -> Wrote
     ensures { written result out.new ≡ put_bytes (bytes_of histories) out.old 0 }
 {
     if out.len() < HISTORIES_LENGTH {
-        return Wrote::Refused(refusal::OUTPUT_TOO_SHORT);
+        return Err(refusal::OUTPUT_TOO_SHORT);
     }
-    Wrote::Next(list_up_to(MOST_CALLS, out))
+    Ok(list_up_to(MOST_CALLS, out))
 }

@@ -16,10 +16,9 @@ use Rattle.segment_id.specs.declared.Kind.{Kind}
 use Rattle.buffer_core.specs.Edition.{RowRead, bad, good, edition_of}
 use Rattle.buffer_core.specs.Spills.{Sources, spill_read}
 use Rattle.buffer_core.specs.Rows.{then_more, then_rows, rows_up}
-use Rattle.row_edition.specs.declared.SpillRead.{SpillRead}
-use Rattle.row_edition.specs.declared.SpillRead.TheVariants.{Numbers, Refused}
+use Rattle.std.specs.Prelude.{Ok, Err}
+use Rattle.row_edition.specs.Answers.{SpillRead}
 use Rattle.row_edition.specs.Internal.{SpillInto}
-use Rattle.spill_rows.specs.declared.Read.TheVariants.{Good}
 use Rattle.spill_rows.specs.Internal.{read_of}
 use Rattle.spill_rows.proofs.CheckedLaws.{nope}
 use Rattle.side_order.specs.declared.Cursor.{Cursor}
@@ -44,34 +43,34 @@ module _ (f : ℕ → RowRead) (spills : ℕ) (head : List ℤ) where
   past_head n h = rw (lt-leb n spills h)
 
   -- a row, then the rows behind it
-  row_first : (n : ℕ) (zs : List ℤ) → n < spills → f n ≡ good zs → read_of (rows_up f n (spills - n)) ≡ Good → from_row f spills head n ≡ zs ++ from_row f spills head (n + 1)
+  row_first : (n : ℕ) (zs : List ℤ) → n < spills → f n ≡ good zs → read_of (rows_up f n (spills - n)) ≡ (Ok tt) → from_row f spills head n ≡ zs ++ from_row f spills head (n + 1)
   unfolding from_row rows_up
   row_first n zs h e g =
       let left : spills - n ≡ suc (spills - (n + 1)) = omega arith in
       rw (le-leb n spills (omega arith), le-leb (n + 1) spills (omega arith), left, e) (by_rows (rows_up f (n + 1) (spills - (n + 1))) (rw (left, e) at g))
     where
-      by_rows : (x : RowRead) → read_of (then_rows (good zs) x) ≡ Good → numbers_in (then_more zs x) ++ head ≡ zs ++ (numbers_in x ++ head)
+      by_rows : (x : RowRead) → read_of (then_rows (good zs) x) ≡ (Ok tt) → numbers_in (then_more zs x) ++ head ≡ zs ++ (numbers_in x ++ head)
       by_rows (bad c) q = nope (cc)
       by_rows (good ys) q = append_assoc zs ys head
 
-  rows_on : (n : ℕ) → n < spills → read_of (rows_up f n (spills - n)) ≡ Good → read_of (rows_up f (n + 1) (spills - (n + 1))) ≡ Good
+  rows_on : (n : ℕ) → n < spills → read_of (rows_up f n (spills - n)) ≡ (Ok tt) → read_of (rows_up f (n + 1) (spills - (n + 1))) ≡ Ok tt
   unfolding rows_up
   rows_on n h g = let left : spills - n ≡ suc (spills - (n + 1)) = omega arith in by_rows (f n) (rows_up f (n + 1) (spills - (n + 1))) (rw left at g)
     where
-      by_rows : (x y : RowRead) → read_of (then_rows x y) ≡ Good → read_of y ≡ Good
+      by_rows : (x y : RowRead) → read_of (then_rows x y) ≡ (Ok tt) → read_of y ≡ Ok tt
       by_rows (bad c) y q = nope (cc)
       by_rows (good zs) (bad c) q = nope (cc)
       by_rows (good zs) (good ys) q = refl
 
-  row_is_good : (n : ℕ) → n < spills → read_of (rows_up f n (spills - n)) ≡ Good → read_of (f n) ≡ Good
+  row_is_good : (n : ℕ) → n < spills → read_of (rows_up f n (spills - n)) ≡ (Ok tt) → read_of (f n) ≡ Ok tt
   unfolding rows_up
   row_is_good n h g = let left : spills - n ≡ suc (spills - (n + 1)) = omega arith in by_rows (f n) (rows_up f (n + 1) (spills - (n + 1))) (rw left at g)
     where
-      by_rows : (x y : RowRead) → read_of (then_rows x y) ≡ Good → read_of x ≡ Good
+      by_rows : (x y : RowRead) → read_of (then_rows x y) ≡ (Ok tt) → read_of x ≡ Ok tt
       by_rows (bad c) y q = nope (cc)
       by_rows (good zs) y q = refl
 
-  rows_none : (n : ℕ) → spills ≤ n → read_of (rows_up f n (spills - n)) ≡ Good
+  rows_none : (n : ℕ) → spills ≤ n → read_of (rows_up f n (spills - n)) ≡ Ok tt
   unfolding rows_up
   rows_none n h = let z : spills - n ≡ 0 = omega arith in rw z
 
@@ -90,7 +89,7 @@ record Row (x : RowRead) (n : ℕ) (out : List ℤ) : Type 0 where
   few : n ≤ 512
   placed : take n out ≡ numbers
 
-row_of : (y : RowRead) (r : SpillRead) (out : List ℤ) → TakenInto (taken_row y) r out → (n : ℕ) → r ≡ Numbers n → length out ≡ 512 → Row (taken_row y) n out
+row_of : (y : RowRead) (r : SpillRead) (out : List ℤ) → TakenInto (taken_row y) r out → (n : ℕ) → r ≡ Ok n → length out ≡ 512 → Row (taken_row y) n out
 row_of (bad c) r out t n e l = let s = t.read in nope (cc)
 row_of (good []) r out t n e l = let s = t.read in nope (cc)
 row_of (good (z ∷ zs)) r out t n e l =
@@ -114,7 +113,7 @@ module _ (v : RowEdition) (kind : Kind) (w : Sources) (spills : ℕ) (head : Lis
   pub stays : c.at < c.end → Filled v kind w spills head c before c before
   stays h = record { standing = S; same = refl; ended = λ k. absurd (omega arith) }
 
-  pub to_row : c.end ≤ c.at → c.next < spills → (r : SpillRead) (out : List ℤ) → TakenInto (g c.next) r out → (n : ℕ) → r ≡ Numbers n → length out ≡ 512
+  pub to_row : c.end ≤ c.at → c.next < spills → (r : SpillRead) (out : List ℤ) → TakenInto (g c.next) r out → (n : ℕ) → r ≡ Ok n → length out ≡ 512
       → Filled v kind w spills head c before (cursor_of (c.next + 1) 0 n) out
   unfolding to_compare
   to_row h k r out t n e l =
@@ -127,10 +126,10 @@ module _ (v : RowEdition) (kind : Kind) (w : Sources) (spills : ℕ) (head : Lis
       }
 
   -- a row that is behind the cursor is not refused
-  pub not_refused : c.next < spills → (r : SpillRead) (out : List ℤ) → TakenInto (g c.next) r out → (code : ℕ) → r ≡ Refused code → ⊥
+  pub not_refused : c.next < spills → (r : SpillRead) (out : List ℤ) → TakenInto (g c.next) r out → (code : ℕ) → r ≡ Err code → ⊥
   not_refused k r out t code e = by_row (g c.next) t.read (row_is_good g spills head c.next k S.taken)
     where
-      by_row : (x : RowRead) → SpillInto x r out → read_of x ≡ Good → ⊥
+      by_row : (x : RowRead) → SpillInto x r out → read_of x ≡ (Ok tt) → ⊥
       by_row (good zs) s q = let p = s.0 in nope (cc)
       by_row (bad d) s q = nope (cc)
 
@@ -176,7 +175,7 @@ module _ (v : RowEdition) (kind : Kind) (w : Sources) (spills : ℕ) (head : Lis
   pub step_stands : c.at < c.end → Standing v kind w spills (stepped c) row
   step_stands h = record { within = omega arith; bounded = S.bounded; counted = S.counted; long = S.long; taken = S.taken }
 
-pub starts : (v : RowEdition) (kind : Kind) (w : Sources) (spills : ℕ) (row : List ℤ) → length row ≡ 512 → read_of (rows_up (row_taken (edition_of v) kind w) 0 spills) ≡ Good → Standing v kind w spills (cursor_of 0 0 0) row
+pub starts : (v : RowEdition) (kind : Kind) (w : Sources) (spills : ℕ) (row : List ℤ) → length row ≡ 512 → read_of (rows_up (row_taken (edition_of v) kind w) 0 spills) ≡ (Ok tt) → Standing v kind w spills (cursor_of 0 0 0) row
 starts v kind w spills row l t = record { within = omega arith; bounded = omega arith; counted = omega arith; long = l; taken = rw left_all t }
 
 pub all_to_compare : (f : ℕ → RowRead) (spills : ℕ) (head row : List ℤ) → to_compare f spills head (cursor_of 0 0 0) row ≡ numbers_in (rows_up f 0 spills) ++ head

@@ -2,7 +2,7 @@
 use mathlib.Core.Path.{◌≡◌, refl, sym, ◌∙◌, ap}
 use mathlib.Core.Bool.{Bool, true, false, cond}
 use mathlib.Core.List.{List, ◌∷◌, ◌++◌}
-use Prim.Native.Nat.{ℕ, ◌+◌, ◌≤◌, ◌<◌}
+use Prim.Native.Nat.{ℕ, ◌≤◌, ◌<◌}
 use native.Mathlib.Omega.{arith}
 use lib.IntN.{ℤ, pos, nat_abs}
 use lib.ListN.{length, get_or}
@@ -12,8 +12,8 @@ use Rattle.segment_id.specs.declared.Kind.{Kind}
 use Rattle.buffer_core.specs.Edition.{Edition, RowRead, bad, good, edition_of}
 use Rattle.buffer_core.specs.Spills.{Sources}
 use Rattle.buffer_core.specs.Rows.{then_rows, rows_up}
-use Rattle.spill_rows.specs.declared.Read.{Read}
-use Rattle.spill_rows.specs.declared.Read.TheVariants.{Good, Faulty}
+use Rattle.std.specs.Prelude.{Ok, Err}
+use Rattle.spill_rows.specs.Answers.{Read}
 use Rattle.spill_rows.specs.Internal.{read_of}
 use Rattle.spill_rows.proofs.CheckedLaws.{nope}
 use Rattle.index_types.specs.declared.Order.{Order}
@@ -65,7 +65,7 @@ module _ (kind : Kind) (v : RowEdition) (w : Sources) (spills : ℕ) (head : Lis
 -- ---- a side that is checked
 
 module _ (E : Edition) (kind : Kind) (w : Sources) (spills : ℤ) (head : List ℤ) where
-  pub side_11 : is_negative spills ≡ true → Faulty 11 ≡ read_of (side_of E kind w spills head)
+  pub side_11 : is_negative spills ≡ true → Err 11 ≡ read_of (side_of E kind w spills head)
   unfolding side_of
   side_11 h = rw h
 
@@ -78,18 +78,18 @@ module _ (E : Edition) (kind : Kind) (w : Sources) (spills : ℤ) (head : List �
       by_rows (good zs) = refl
 
   -- the entries of a side that passed its checks
-  pub side_taken : (r : Read) → r ≡ read_of (side_of E kind w spills head) → r ≡ Good
-      → (is_negative spills ≡ false) × (read_of (rows_up (row_taken E kind w) 0 (nat_abs spills)) ≡ Good)
+  pub side_taken : (r : Read) → r ≡ read_of (side_of E kind w spills head) → r ≡ Ok tt
+      → (is_negative spills ≡ false) × (read_of (rows_up (row_taken E kind w) 0 (nat_abs spills)) ≡ (Ok tt))
       × (side_of E kind w spills head ≡ good (numbers_in (rows_up (row_taken E kind w) 0 (nat_abs spills)) ++ head))
   unfolding side_of
   side_taken r q g = by_sign (is_negative spills) refl (sym q ∙ g)
     where
-      by_rows : (x : RowRead) → read_of (then_rows x (good head)) ≡ Good → (read_of x ≡ Good) × (then_rows x (good head) ≡ good (numbers_in x ++ head))
+      by_rows : (x : RowRead) → read_of (then_rows x (good head)) ≡ (Ok tt) → (read_of x ≡ (Ok tt)) × (then_rows x (good head) ≡ good (numbers_in x ++ head))
       by_rows (bad c) q = nope (cc)
       by_rows (good zs) q = (refl, refl)
 
-      by_sign : (b : Bool) → is_negative spills ≡ b → read_of (cond b (bad 11) (then_rows (rows_up (row_taken E kind w) 0 (nat_abs spills)) (good head))) ≡ Good
-          → (b ≡ false) × (read_of (rows_up (row_taken E kind w) 0 (nat_abs spills)) ≡ Good)
+      by_sign : (b : Bool) → is_negative spills ≡ b → read_of (cond b (bad 11) (then_rows (rows_up (row_taken E kind w) 0 (nat_abs spills)) (good head))) ≡ Ok tt
+          → (b ≡ false) × (read_of (rows_up (row_taken E kind w) 0 (nat_abs spills)) ≡ (Ok tt))
           × (cond b (bad 11) (then_rows (rows_up (row_taken E kind w) 0 (nat_abs spills)) (good head)) ≡ good (numbers_in (rows_up (row_taken E kind w) 0 (nat_abs spills)) ++ head))
       by_sign true p q = nope (cc)
       by_sign false p q = let z = by_rows (rows_up (row_taken E kind w) 0 (nat_abs spills)) q in (refl, z.0, z.1)

@@ -1,5 +1,5 @@
 -- The steps of comparing two sides: what of a side is still to compare, and what the functions ask of their callers.
-use Rattle.std.specs.Prelude.{ℕ, ◌+◌, ◌*◌, ◌-◌, ◌≤◌, ◌<◌, ◌≡◌, true, cond, List, [], ◌++◌, leb, ℤ, length, take, drop}
+use Rattle.std.specs.Prelude.{ℕ, ◌+◌, ◌*◌, ◌-◌, ◌≤◌, ◌<◌, ◌≡◌, true, cond, List, [], ◌++◌, leb, ℤ, length, take, drop, Ok}
 use Rattle.index_types.specs.Limits.{segment_threshold}
 use Rattle.index_types.specs.declared.RowEdition.{RowEdition}
 use Rattle.segment_id.specs.declared.Kind.{Kind}
@@ -8,9 +8,8 @@ use Rattle.records.specs.Find.{distinct}
 use Rattle.buffer_core.specs.Edition.{RowRead, edition_of, record_size}
 use Rattle.buffer_core.specs.Spills.{Sources}
 use Rattle.buffer_core.specs.Rows.{rows_up}
-use Rattle.row_edition.specs.declared.SpillRead.{SpillRead}
+use Rattle.row_edition.specs.Answers.{SpillRead}
 use Rattle.row_edition.specs.Internal.{SpillInto}
-use Rattle.spill_rows.specs.declared.Read.TheVariants.{Good}
 use Rattle.spill_rows.specs.Internal.{read_of}
 use Rattle.side_order.specs.declared.Cursor.{Cursor}
 use Rattle.side_order.specs.Side.{row_taken, numbers_in}
@@ -46,7 +45,7 @@ pub record Standing (v : RowEdition) (kind : Kind) (w : Sources) (spills : ℕ) 
   pub bounded : c.end ≤ segment_threshold
   pub counted : c.next ≤ spills + 1
   pub long : length row ≡ segment_threshold
-  pub taken : read_of (rows_up (row_taken (edition_of v) kind w) c.next (spills - c.next)) ≡ Good
+  pub taken : read_of (rows_up (row_taken (edition_of v) kind w) c.next (spills - c.next)) ≡ Ok tt
 
 -- a cursor d that stands where there is an entry, if there is one, with the same to compare as at c
 pub record Filled (v : RowEdition) (kind : Kind) (w : Sources) (spills : ℕ) (head : List ℤ) (c : Cursor) (before : List ℤ) (d : Cursor) (row : List ℤ) : Type 0 where
@@ -57,7 +56,7 @@ pub record Filled (v : RowEdition) (kind : Kind) (w : Sources) (spills : ℕ) (h
 -- a side that passed its checks
 pub record TakenSide (v : RowEdition) (kind : Kind) (w : Sources) (spills : ℕ) (head : List ℤ) (len : ℕ) : Type 0 where
   pub ready : SideReady v w spills head len
-  pub taken : read_of (rows_up (row_taken (edition_of v) kind w) 0 spills) ≡ Good
+  pub taken : read_of (rows_up (row_taken (edition_of v) kind w) 0 spills) ≡ Ok tt
 
 -- its entries as one list
 abbrev pub side_entries : RowEdition → Kind → Sources → (spills : ℕ) → (head : List ℤ) → List ℤ

@@ -57,15 +57,11 @@ fn read_taken<'a>(
         hints,
         out,
     );
-    match read {
-        SpillRead::Numbers(n) => {
-            if n == 0 {
-                return SpillRead::Refused(refusal::ROW_WITHOUT_NUMBERS);
-            }
-            SpillRead::Numbers(n)
-        }
-        SpillRead::Refused(code) => SpillRead::Refused(code),
+    let n = read?;
+    if n == 0 {
+        return Err(refusal::ROW_WITHOUT_NUMBERS);
     }
+    Ok(n)
 }
 
 // Whether a pop would take the row of a spill number.
@@ -96,10 +92,8 @@ fn check_row<'a>(
         hints,
         &mut row,
     );
-    match read {
-        SpillRead::Numbers(_) => Read::Good,
-        SpillRead::Refused(code) => Read::Faulty(code),
-    }
+    read?;
+    Ok(())
 }
 
 // Whether a pop would take every row, from spill 0 up.
@@ -117,8 +111,7 @@ fn check_rows<'a>(
     requires { RowsReady edition (sources parent.now staged.now staged_count table.now table_count) spills }
     ensures { result ≡ read_of (rows_up (row_taken (edition_of edition) kind (sources parent.now staged.now staged_count table.now table_count)) 0 spills) }
 {
-    let mut n = 0;
-    while n < spills {
+    for n in 0..spills {
         let row = check_row(
             edition,
             kind,
@@ -131,14 +124,13 @@ fn check_rows<'a>(
             hints,
         );
         match row {
-            Read::Good => {}
-            Read::Faulty(code) => {
-                return Read::Faulty(code);
+            Ok(()) => {}
+            Err(code) => {
+                return Err(code);
             }
         }
-        n += 1;
     }
-    Read::Good
+    Ok(())
 }
 
 // Steps to the next row, or to the head behind the last, where the row in hand is used up.
@@ -180,12 +172,12 @@ fn fill<'a>(
             row,
         );
         return match read {
-            SpillRead::Numbers(n) => Cursor {
+            Ok(n) => Cursor {
                 next: next + 1,
                 at: 0,
                 end: n,
             },
-            SpillRead::Refused(_) => Cursor {
+            Err(_) => Cursor {
                 next: next + 1,
                 at: 0,
                 end: 0,
@@ -219,7 +211,7 @@ pub fn check_side<'a>(
     ensures { (head : List ℤ) → result ≡ read_of (side_of (edition_of edition) kind (sources parent.now staged.now staged_count table.now table_count) spills head) }
 {
     if signed::is_negative_i32(spills) {
-        return Read::Faulty(refusal::NEGATIVE_SPILL_COUNT);
+        return Err(refusal::NEGATIVE_SPILL_COUNT);
     }
     check_rows(
         edition,

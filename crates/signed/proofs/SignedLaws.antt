@@ -14,7 +14,7 @@ use mir.ValLaws.{to_z-of_z}
 use mir.Facts.{sfits_widen, Fits-nat_abs}
 use Rattle.signed.specs.Sign.{is_negative, wanted}
 use Rattle.signed.specs.Checked.{checked}
-use Rattle.signed.specs.declared.Checked.TheVariants.{Is, Out}
+use Rattle.std.specs.Prelude.{Some, None}
 
 -- ---- what is read back of a stored number
 
@@ -75,20 +75,20 @@ neg_mag z k h = natAbs_mag (neg_ℤ z) k (rw natAbs_neg h)
 
 -- ---- the checked answer
 
-pub checked_is : (z : ℤ) → mag z < 9223372036854775808 → checked z ≡ Is z
+pub checked_is : (z : ℤ) → mag z < 9223372036854775808 → checked z ≡ Some z
 unfolding checked
 checked_is z h = rw (lt-ltb _ _ h)
 
-pub checked_out : (z : ℤ) → 9223372036854775808 ≤ mag z → checked z ≡ Out
+pub checked_out : (z : ℤ) → 9223372036854775808 ≤ mag z → checked z ≡ None
 unfolding checked
 checked_out z h = rw (le-ltb _ _ h)
 
 -- what is answered is the number asked for, and within 64 signed bits
-pub checked_fits : (z y : ℤ) → checked z ≡ Is y → (y ≡ z) × (mag y < 9223372036854775808)
+pub checked_fits : (z y : ℤ) → checked z ≡ Some y → (y ≡ z) × (mag y < 9223372036854775808)
 unfolding checked
 checked_fits z y e = by_test (ltb (mag z) 9223372036854775808) refl e
   where
-    by_test : (t : Bool) → ltb (mag z) 9223372036854775808 ≡ t → cond t (Is z) Out ≡ Is y → (y ≡ z) × (mag y < 9223372036854775808)
+    by_test : (t : Bool) → ltb (mag z) 9223372036854775808 ≡ t → cond t (Some z) None ≡ Some y → (y ≡ z) × (mag y < 9223372036854775808)
     by_test true p e = let q : y ≡ z = cc in (q, rw q (ltb-true _ _ p))
     by_test false p e = let q : ◌≡◌ {A = ℕ} 0 1 = cc in absurd (omega arith)
 

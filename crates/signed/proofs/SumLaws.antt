@@ -12,7 +12,7 @@ use mir.Syntax.{w64}
 use mir.Val.{SFits, to_z, of_z}
 use Rattle.signed.specs.Sign.{is_negative}
 use Rattle.signed.specs.Checked.{checked}
-use Rattle.signed.specs.declared.Checked.TheVariants.{Is, Out}
+use Rattle.std.specs.Prelude.{Some, None}
 use Rattle.signed.proofs.SignedLaws.{back, back64, sign_test, checked_is, checked_out}
 
 -- K + z, where z is at least -K
@@ -175,8 +175,8 @@ module _ {limit z : ℤ} {test : Bool} (t : Tested M64 limit test z) where
   result_fits e = record { sfits = t.within e }
 
   -- the answers; x is the result of the operands themselves
-  pub answer_out : {x : ℤ} → z ≡ x → test ≡ true → Out ≡ checked x
+  pub answer_out : {x : ℤ} → z ≡ x → test ≡ true → None ≡ checked x
   answer_out q e = sym (ap checked (sym q) ∙ checked_out z (t.out e))
 
-  pub answer_is : {x : ℤ} → z ≡ x → test ≡ false → Is (kept z) ≡ checked x
-  answer_is q e = ap Is (back64 z (t.within e)) ∙ sym (ap checked (sym q) ∙ checked_is z (t.within e))
+  pub answer_is : {x : ℤ} → z ≡ x → test ≡ false → Some (kept z) ≡ checked x
+  answer_is q e = ap Some (back64 z (t.within e)) ∙ sym (ap checked (sym q) ∙ checked_is z (t.within e))

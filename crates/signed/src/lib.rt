@@ -38,47 +38,40 @@ pub fn negate(x: i64) -> i64
     -x
 }
 
-// A sum or difference, or that it leaves 64 signed bits.
-#[derive(Clone, Copy)]
-pub enum Checked {
-    Is(i64),
-    Out,
-}
-
 // The sum of two numbers.
-pub fn checked_add(a: i64, b: i64) -> Checked
+pub fn checked_add(a: i64, b: i64) -> Option<i64>
     ensures { result ≡ checked (a +ℤ b) }
 {
     if b < 0 {
         if a < -9223372036854775808 - b {
-            Checked::Out
+            None
         } else {
-            Checked::Is(a + b)
+            Some(a + b)
         }
     } else {
         if 9223372036854775807 - b < a {
-            Checked::Out
+            None
         } else {
-            Checked::Is(a + b)
+            Some(a + b)
         }
     }
 }
 
 // The difference of two numbers.
-pub fn checked_sub(a: i64, b: i64) -> Checked
+pub fn checked_sub(a: i64, b: i64) -> Option<i64>
     ensures { result ≡ checked (a -ℤ b) }
 {
     if b < 0 {
         if 9223372036854775807 + b < a {
-            Checked::Out
+            None
         } else {
-            Checked::Is(a - b)
+            Some(a - b)
         }
     } else {
         if a < -9223372036854775808 + b {
-            Checked::Out
+            None
         } else {
-            Checked::Is(a - b)
+            Some(a - b)
         }
     }
 }

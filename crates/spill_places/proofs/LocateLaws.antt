@@ -5,8 +5,7 @@ use mathlib.Core.List.{List, []}
 use mathlib.Core.Bool.{Bool, true, false, cond}
 use native.Mathlib.Omega.{arith}
 use lib.ListN.{length}
-use Rattle.records.specs.declared.Found.{Found}
-use Rattle.records.specs.declared.Found.TheVariants.{At, Nothing}
+use Rattle.std.specs.Prelude.{Option, Some, None}
 use Rattle.index_types.specs.declared.ListCounts.{ListCounts}
 use Rattle.records.specs.declared.Place.{Place}
 use Rattle.records.specs.declared.Place.TheVariants as place
@@ -41,9 +40,9 @@ pub within_table : (size : ℕ) (staged table : List ℕ) (r : Located) (i : ℕ
 within_table size staged table r i d w = rw d at w
 
 -- a record that was found lies within the list
-found_within : (size : ℕ) (c : ListCounts) (key l : List ℕ) (i : ℕ) → InBounds size c l → find_key key (keys size c.count l) ≡ At i
+found_within : (size : ℕ) (c : ListCounts) (key l : List ℕ) (i : ℕ) → InBounds size c l → find_key key (keys size c.count l) ≡ Some i
     → i * size + size ≤ length l
-found_within size c key l i b e = omega (arith, below_mul size c.count i (found_in key size c.count l i (At i) (sym e) refl), b.within)
+found_within size c key l i b e = omega (arith, below_mul size c.count i (found_in key size c.count l i (Some i) (sym e) refl), b.within)
 
 module _ (size limit : ℕ) (sc : ListCounts) (staged : List ℕ) (tc : ListCounts) (table key : List ℕ) where
   -- the record that an answer names lies within its list
@@ -52,11 +51,11 @@ module _ (size limit : ℕ) (sc : ListCounts) (staged : List ℕ) (tc : ListCoun
   located_within = by_test (spills_ok size limit sc staged tc table) refl
     where
       by_case : SpillsOk size limit sc staged tc table
-          → (f : Found) → find_key key (keys size sc.count staged) ≡ f → (g : Found) → find_key key (keys size tc.count table) ≡ g
+          → (f : Option ℕ) → find_key key (keys size sc.count staged) ≡ f → (g : Option ℕ) → find_key key (keys size tc.count table) ≡ g
           → Within size staged table (located (place_of f g))
-      by_case ok (At i) e g d = found_within size sc key staged i ok.in_staged.bounds e
-      by_case ok Nothing e (At i) d = found_within size tc key table i ok.in_table.bounds d
-      by_case ok Nothing e Nothing d = omega arith
+      by_case ok (Some i) e g d = found_within size sc key staged i ok.in_staged.bounds e
+      by_case ok None e (Some i) d = found_within size tc key table i ok.in_table.bounds d
+      by_case ok None e None d = omega arith
 
       by_test : (t : Bool) → spills_ok size limit sc staged tc table ≡ t
           → Within size staged table (cond t (located (locate_key size key sc.count staged tc.count table)) (Refused 25))

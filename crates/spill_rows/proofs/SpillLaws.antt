@@ -5,8 +5,7 @@ use mathlib.Core.List.{List}
 use native.Mathlib.Omega.{arith}
 use lib.IntN.{ℤ, pos}
 use lib.ListN.{length}
-use Rattle.records.specs.declared.Found.{Found}
-use Rattle.records.specs.declared.Found.TheVariants.{At, Nothing}
+use Rattle.std.specs.Prelude.{Option, Some, None, Err}
 use Rattle.records.specs.declared.Place.{Place}
 use Rattle.records.specs.declared.Place.TheVariants as place
 use Rattle.records.specs.Records.{keys}
@@ -17,8 +16,7 @@ use Rattle.segment_id.specs.declared.Kind.{Kind}
 use Rattle.index_types.specs.declared.RowEdition.{RowEdition}
 use Rattle.buffer_core.specs.Edition.{good, numbers_of, edition_of, record_size, row_under}
 use Rattle.buffer_core.specs.Spills.{sources, place_at, read_placed, spill_read}
-use Rattle.row_edition.specs.declared.SpillRead.{SpillRead}
-use Rattle.row_edition.specs.declared.SpillRead.TheVariants.{Refused}
+use Rattle.row_edition.specs.Answers.{SpillRead}
 use Rattle.row_edition.specs.Internal.{SpillInto}
 use Rattle.buffer_core.proofs.UnderLaws.{decode_few}
 
@@ -28,18 +26,18 @@ module _ (size : ℕ) (key staged : List ℕ) (m : ℕ) (table : List ℕ) (n : 
   pub staged_below : (i : ℕ) → p ≡ place.Staged i → i < m
   staged_below i d = by_found (find_key key (keys size m staged)) refl (find_key key (keys size n table)) (sym e ∙ d)
     where
-      by_found : (f : Found) → f ≡ find_key key (keys size m staged) → (g : Found) → place_of f g ≡ place.Staged i → i < m
-      by_found (At j) q g d = let a : j ≡ i = cc in found_in key size m staged i (At j) q (ap At a)
-      by_found Nothing q (At j) d = let z : ◌≡◌ {A = ℕ} 0 1 = cc in absurd (omega arith)
-      by_found Nothing q Nothing d = let z : ◌≡◌ {A = ℕ} 0 1 = cc in absurd (omega arith)
+      by_found : (f : Option ℕ) → f ≡ find_key key (keys size m staged) → (g : Option ℕ) → place_of f g ≡ place.Staged i → i < m
+      by_found (Some j) q g d = let a : j ≡ i = cc in found_in key size m staged i (Some j) q (ap Some a)
+      by_found None q (Some j) d = let z : ◌≡◌ {A = ℕ} 0 1 = cc in absurd (omega arith)
+      by_found None q None d = let z : ◌≡◌ {A = ℕ} 0 1 = cc in absurd (omega arith)
 
   pub table_below : (i : ℕ) → p ≡ place.Table i → i < n
   table_below i d = by_found (find_key key (keys size m staged)) (find_key key (keys size n table)) refl (sym e ∙ d)
     where
-      by_found : (f g : Found) → g ≡ find_key key (keys size n table) → place_of f g ≡ place.Table i → i < n
-      by_found (At j) g q d = let z : ◌≡◌ {A = ℕ} 0 1 = cc in absurd (omega arith)
-      by_found Nothing (At j) q d = let a : j ≡ i = cc in found_in key size n table i (At j) q (ap At a)
-      by_found Nothing Nothing q d = let z : ◌≡◌ {A = ℕ} 0 1 = cc in absurd (omega arith)
+      by_found : (f g : Option ℕ) → g ≡ find_key key (keys size n table) → place_of f g ≡ place.Table i → i < n
+      by_found (Some j) g q d = let z : ◌≡◌ {A = ℕ} 0 1 = cc in absurd (omega arith)
+      by_found None (Some j) q d = let a : j ≡ i = cc in found_in key size n table i (Some j) q (ap Some a)
+      by_found None None q d = let z : ◌≡◌ {A = ℕ} 0 1 = cc in absurd (omega arith)
 
 module _ (v : RowEdition) (kind : Kind) (parent staged : List ℕ) (m : ℕ) (table : List ℕ) (n number : ℕ) (key : List ℕ) (named_by : key ≡ row_key parent kind (pos number))
     (p : Place) (e : p ≡ locate_key (record_size v) key m staged n table) where
@@ -59,7 +57,7 @@ module _ (v : RowEdition) (kind : Kind) (parent staged : List ℕ) (m : ℕ) (ta
     unfolding spill_read
     under_table i d row q s = rw (place_is, d, ← q) s
 
-  pub under_missing : (out : List ℤ) → p ≡ place.Missing → SpillInto (spill_read (edition_of v) kind (sources parent staged m table n) number) (Refused 12) out
+  pub under_missing : (out : List ℤ) → p ≡ place.Missing → SpillInto (spill_read (edition_of v) kind (sources parent staged m table n) number) (Err 12) out
   unfolding spill_read
   under_missing out d = rw (place_is, d) refl
 

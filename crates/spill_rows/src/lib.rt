@@ -20,11 +20,7 @@ use row_edition::SpillRead;
 use segment_id::Kind;
 
 // A row's numbers passed the checks, or its refusal code.
-#[derive(Clone, Copy)]
-pub enum Read {
-    Good,
-    Faulty(u8),
-}
+pub type Read = Result<(), u8>;
 
 // The key of a spill number.
 pub fn spill_key(kind: Kind, parent: &[u8; 32], number: usize) -> [u8; 32]
@@ -73,7 +69,7 @@ pub fn read_under<'a>(
             let row = records::row_part(table, i * size, size);
             row_edition::read_row(edition, kind, parent, number, row, out)
         }
-        Place::Missing => SpillRead::Refused(refusal::ROW_MISSING),
+        Place::Missing => Err(refusal::ROW_MISSING),
     }
 }
 
@@ -110,17 +106,17 @@ pub fn read_checked_under<'a>(
         out,
     );
     match read {
-        SpillRead::Numbers(n) => {
+        Ok(n) => {
             if n != SEGMENT_THRESHOLD {
-                return Read::Faulty(refusal::ROW_OUT_OF_ORDER);
+                return Err(refusal::ROW_OUT_OF_ORDER);
             }
             if entry_order::order_ok(out, SEGMENT_THRESHOLD) {
-                Read::Good
+                Ok(())
             } else {
-                Read::Faulty(refusal::ROW_OUT_OF_ORDER)
+                Err(refusal::ROW_OUT_OF_ORDER)
             }
         }
-        SpillRead::Refused(code) => Read::Faulty(code),
+        Err(code) => Err(code),
     }
 }
 

@@ -6,16 +6,13 @@ ghost use Rattle.stores.specs.Stores.{write, Put};
 ghost use Rattle.stores.specs.Equal.{same_bytes};
 
 // Copies src into dst from `at` on.
+#[tactic(auto, unfolding(crate::specs::Stores::write))]
 pub fn copy_bytes(dst: &mut [u8], at: usize, src: &[u8])
     requires { at + length src.now ≤ length dst.old }
     ensures { dst.new ≡ write at src.now dst.old }
 {
-    let mut j = 0;
-    while j < src.len() {
-        let o = at + j;
-        dst[o] = src[j];
-        j += 1;
-    }
+    let end = at + src.len();
+    dst[at..end].copy_from_slice(src);
 }
 
 // Writes src from `at` on, and gives the position behind it.
@@ -37,85 +34,56 @@ pub fn put_byte(byte: u8, out: &mut [u8], at: usize) -> usize
 }
 
 // Sets n bytes from `at` on to 0.
+#[tactic(auto, unfolding(crate::specs::Stores::write))]
 pub fn clear_bytes(dst: &mut [u8], at: usize, n: usize)
     requires { at + n ≤ length dst.old }
     ensures { dst.new ≡ write at (replicate n 0) dst.old }
 {
-    let mut j = 0;
-    while j < n {
-        let o = at + j;
-        dst[o] = 0;
-        j += 1;
-    }
+    let end = at + n;
+    dst[at..end].fill(0);
 }
 
 // Copies the `count` bytes from `from` on to the places from `to` on, which does not lie behind `from`.
+#[tactic(auto, unfolding(crate::specs::Stores::write))]
 pub fn move_bytes(dst: &mut [u8], from: usize, to: usize, count: usize)
     requires { (to ≤ from) × (from + count ≤ length dst.old) }
     ensures { dst.new ≡ write to (take count (drop from dst.old)) dst.old }
 {
-    let mut j = 0;
-    while j < count {
-        let f = from + j;
-        let o = to + j;
-        dst[o] = dst[f];
-        j += 1;
-    }
+    let end = from + count;
+    dst.copy_within(from..end, to);
 }
 
 // Copies src into dst from `at` on.
+#[tactic(auto, unfolding(crate::specs::Stores::write))]
 pub fn copy_numbers(dst: &mut [i64], at: usize, src: &[i64])
     requires { at + length src.now ≤ length dst.old }
     ensures { dst.new ≡ write at src.now dst.old }
 {
-    let mut i = 0;
-    while i < src.len() {
-        let p = at + i;
-        dst[p] = src[i];
-        i += 1;
-    }
+    dst[at..at + src.len()].copy_from_slice(src);
 }
 
 // Sets n numbers from `at` on to 0.
+#[tactic(auto, unfolding(crate::specs::Stores::write))]
 pub fn clear_numbers(dst: &mut [i64], at: usize, n: usize)
     requires { at + n ≤ length dst.old }
     ensures { dst.new ≡ write at (replicate n (pos 0)) dst.old }
 {
-    let mut i = 0;
-    while i < n {
-        let p = at + i;
-        dst[p] = 0;
-        i += 1;
-    }
+    dst[at..at + n].fill(0);
 }
 
 // Copies the `count` numbers from `from` on to the places from `to` on, which does not lie behind `from`.
+#[tactic(auto, unfolding(crate::specs::Stores::write))]
 pub fn move_numbers(dst: &mut [i64], from: usize, to: usize, count: usize)
     requires { (to ≤ from) × (from + count ≤ length dst.old) }
     ensures { dst.new ≡ write to (take count (drop from dst.old)) dst.old }
 {
-    let mut i = 0;
-    while i < count {
-        let f = from + i;
-        let p = to + i;
-        dst[p] = dst[f];
-        i += 1;
-    }
+    dst.copy_within(from..from + count, to);
 }
 
 // Whether two byte strings are equal.
+#[tactic(auto, using(crate::proofs::EqualLaws::same_is_eq))]
 pub fn same_bytes(a: &[u8], b: &[u8]) -> bool
     ensures { result ≡ same_bytes a.now b.now }
 {
-    if a.len() != b.len() {
-        return false;
-    }
-    let mut i = 0;
-    while i < a.len() {
-        if a[i] != b[i] {
-            return false;
-        }
-        i += 1;
-    }
-    true
+    a == b
 }

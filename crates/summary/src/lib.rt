@@ -64,7 +64,7 @@ pub fn summarize_boxes<'a>(
             summary,
         );
     }
-    Summarized::Refused(refusal::BUFFERS)
+    Err(refusal::BUFFERS)
 }
 
 // ---- append and pop
@@ -97,7 +97,7 @@ pub fn append_box_entry_with_summary(
             summary,
         );
     }
-    Appended::Refused(refusal::BUFFERS)
+    Err(refusal::BUFFERS)
 }
 
 // The last box number of the head; on an empty head the newest row becomes the head first, and its line is cleared.
@@ -133,12 +133,8 @@ pub fn pop_box_entry_with_summary(
         lines,
         summary,
     );
-    match popped {
-        Popped::Number(n, after, staged_after, deleted_after) => {
-            PoppedBox::Number(BoxNumber(n), after, staged_after, deleted_after)
-        }
-        Popped::Refused(code) => PoppedBox::Refused(code),
-    }
+    let (n, after, staged_after, deleted_after) = popped?;
+    Ok((BoxNumber(n), after, staged_after, deleted_after))
 }
 
 // ---- spend, unspend and tally
@@ -222,5 +218,5 @@ pub fn tally_with_summary(
     if summary_checks::tally_ok(counts, head, lines, summary) {
         return summary_tally::tally_lines(counts, head, lines, summary);
     }
-    Tallied::Refused(refusal::BUFFERS)
+    Err(refusal::BUFFERS)
 }

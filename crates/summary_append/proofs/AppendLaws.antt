@@ -11,8 +11,8 @@ use borrow.Author.Tests.{lt-ltb, le-ltb, leb-false}
 use Rattle.signed.specs.Sign.{is_negative}
 use Rattle.index_types.specs.declared.ListCounts.{ListCounts}
 use Rattle.index_types.specs.declared.HeadCounts.{HeadCounts}
-use Rattle.index_types.specs.declared.Appended.{Appended}
-use Rattle.index_types.specs.declared.Appended.TheVariants.{Done, Refused}
+use Rattle.std.specs.Prelude.{Ok, Err}
+use Rattle.index_types.specs.Answers.{Appended}
 use Rattle.records.specs.Changes.{full_for}
 use Rattle.segment_id.specs.declared.Kind.TheVariants.{Box}
 use Rattle.buffer_core.specs.Edition.{Edition}
@@ -48,9 +48,9 @@ module _ (E : Edition) (parent : List ℕ) (h : HeadCounts) (number : ℤ) (c : 
       (ap (λ (x : Appending). is_done x.answer) (sym e) ∙ sym q ∙ t) free
     where
       by_tests : (a : Bool) → is_negative h.spills ≡ a → (b u : Bool) → u ≡ false → (l g f : Bool) → leb lines (nat_abs h.spills) ≡ f
-          → is_done (cond a (appending (Refused 11) head staged) (cond b (appending (Refused 17) head staged)
-          (cond u (appending (Done (counts_of (h.len + 1) h.spills) c) (set head h.len number) staged)
-          (cond l (appending (Refused 18) head staged) (cond g (appending (Refused 16) head staged)
+          → is_done (cond a (appending (Err 11) head staged) (cond b (appending (Err 17) head staged)
+          (cond u (appending (Ok (counts_of (h.len + 1) h.spills, c)) (set head h.len number) staged)
+          (cond l (appending (Err 18) head staged) (cond g (appending (Err 16) head staged)
           (spilled E Box (E.key Box parent (pos (nat_abs h.spills))) parent (nat_abs h.spills) number c head staged)))))).answer ≡ true
           → (not a && (not b && (not u && (not l && f)))) ≡ false → (is_negative h.spills ≡ false) × (nat_abs h.spills < lines)
       by_tests true p b u w l g f r s t = nope (cc)
@@ -67,13 +67,13 @@ module _ (E : Edition) (parent : List ℕ) (h : HeadCounts) (number : ℤ) (c : 
   full_after o e k d q l m S S' w = ap (with_summary o) (w ∙ by_answer o.answer q) ∙ ap (λ (x : Appending). after_append x h head S) e
     where
       by_answer : (a : Appended) → d ≡ is_done a → cond d (put_line (nat_abs h.spills) l S) S ≡ summary_appended a h head S
-      by_answer (Done h' c') q = rw (q, le-ltb h.len 512 k) (ap (λ (x : List ℕ). put_line (nat_abs h.spills) x S) m)
-      by_answer (Refused code) q = rw q
+      by_answer (Ok (h', c')) q = rw (q, le-ltb h.len 512 k) (ap (λ (x : List ℕ). put_line (nat_abs h.spills) x S) m)
+      by_answer (Err code) q = rw q
 
   -- ---- the ways out
 
   module _ (lines : ℕ) (S : List ℕ) where
-    pub append_36 : missing h number lines ≡ true → with_summary (appending (Refused 36) head staged) S ≡ append_lines E parent h number c head staged lines S
+    pub append_36 : missing h number lines ≡ true → with_summary (appending (Err 36) head staged) S ≡ append_lines E parent h number c head staged lines S
     unfolding append_lines
     append_36 e = rw e
 
@@ -83,8 +83,8 @@ module _ (E : Edition) (parent : List ℕ) (h : HeadCounts) (number : ℤ) (c : 
       append_end k o q = rw e (ap (with_summary o) (by_answer o.answer) ∙ ap (λ (x : Appending). after_append x h head S) q)
         where
           by_answer : (a : Appended) → S ≡ summary_appended a h head S
-          by_answer (Done h' c') = rw (lt-ltb h.len 512 k)
-          by_answer (Refused code) = refl
+          by_answer (Ok (h', c')) = rw (lt-ltb h.len 512 k)
+          by_answer (Err code) = refl
 
       pub append_full : (x : WithSummary Appending) → x ≡ after_append plain h head S → x ≡ append_lines E parent h number c head staged lines S
       unfolding append_lines

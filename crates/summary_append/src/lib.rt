@@ -70,7 +70,7 @@ pub fn append(
 {
     let len = counts.len;
     if summary_moves::lines_missing(counts, number, lines) {
-        return Appended::Refused(refusal::SUMMARY_TOO_SHORT);
+        return Err(refusal::SUMMARY_TOO_SHORT);
     }
     if len < SEGMENT_THRESHOLD {
         return append_core::append(

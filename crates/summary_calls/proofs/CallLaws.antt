@@ -8,14 +8,10 @@ use lib.ListN.{length, take}
 use Rattle.index_types.specs.declared.ListCounts.{ListCounts}
 use Rattle.index_types.specs.declared.HeadCounts.{HeadCounts}
 use Rattle.index_types.specs.declared.RowEdition.{RowEdition}
-use Rattle.index_types.specs.declared.Appended.TheVariants as appended
-use Rattle.index_types.specs.declared.Popped.{Popped}
-use Rattle.index_types.specs.declared.Popped.TheVariants as popped
-use Rattle.index_types.specs.declared.Flipped.TheVariants as flipped
-use Rattle.index_types.specs.declared.Summarized.{Summarized}
-use Rattle.index_types.specs.declared.Summarized.TheVariants as summarized
-use Rattle.index_types.specs.declared.Tallied.{Tallied}
-use Rattle.index_types.specs.declared.Tallied.TheVariants as tallied
+use Rattle.std.specs.Prelude.{Ok, Err}
+use Rattle.index_types.specs.Answers.{Popped}
+use Rattle.index_types.specs.Answers.{Summarized}
+use Rattle.index_types.specs.Answers.{Tallied}
 use Rattle.records.proofs.CheckLaws.{and_left}
 use Rattle.buffer_core.specs.declared.Direction.{Direction}
 use Rattle.buffer_core.specs.Edition.{edition_of}
@@ -44,7 +40,7 @@ module _ (lines : ℕ) (S : List ℕ) where
     abbrev append_passes : Bool
     append_passes = append_ok (edition_of v) h c head staged && lines_ok lines S
 
-    pub append_25 : append_passes ≡ false → with_summary (appending (appended.Refused 25) head staged) S ≡ append_lines_of (edition_of v) parent h number c head staged lines S
+    pub append_25 : append_passes ≡ false → with_summary (appending (Err 25) head staged) S ≡ append_lines_of (edition_of v) parent h number c head staged lines S
     unfolding append_lines_of
     append_25 e = rw e
 
@@ -62,7 +58,7 @@ module _ (lines : ℕ) (S : List ℕ) where
     abbrev pop_passes : Bool
     pop_passes = pop_ok (edition_of v) h b head && lines_ok lines S
 
-    pub pop_25 : pop_passes ≡ false → with_summary (popping (popped.Refused 25) head b.staged b.deleted) S ≡ pop_lines_of (edition_of v) parent h b head lines S
+    pub pop_25 : pop_passes ≡ false → with_summary (popping (Err 25) head b.staged b.deleted) S ≡ pop_lines_of (edition_of v) parent h b head lines S
     unfolding pop_lines_of
     pop_25 e = rw e
 
@@ -86,7 +82,7 @@ module _ (lines : ℕ) (S : List ℕ) where
         (flip_facts v h c staged e table head (and_left (flip_ok (edition_of v) h c staged e table head) (lines_ok lines S) q), room (flip_ok (edition_of v) h c staged e table head) lines S q)
 
     module _ (d : Direction) (target : ℤ) where
-      pub flip_25 : flip_passes ≡ false → with_summary (flipping (flipped.Refused 25) head staged) S ≡ flip_lines_of (edition_of v) d parent h target c staged e table head lines S
+      pub flip_25 : flip_passes ≡ false → with_summary (flipping (Err 25) head staged) S ≡ flip_lines_of (edition_of v) d parent h target c staged e table head lines S
       unfolding flip_lines_of
       flip_25 q = rw q
 
@@ -95,7 +91,7 @@ module _ (lines : ℕ) (S : List ℕ) where
       unfolding flip_lines_of
       flip_goes q o f = rw q f
 
-    pub made_25 : flip_passes ≡ false → with_summary (summarized.Refused 25) S ≡ summary_of (edition_of v) parent h c staged e table head lines S
+    pub made_25 : flip_passes ≡ false → with_summary (Err 25) S ≡ summary_of (edition_of v) parent h c staged e table head lines S
     unfolding summary_of
     made_25 q = rw q
 
@@ -111,7 +107,7 @@ module _ (lines : ℕ) (S : List ℕ) where
     abbrev tally_passes : Bool
     tally_passes = head_ok h head && lines_ok lines S
 
-    pub tally_25 : tally_passes ≡ false → tallied.Refused 25 ≡ tally_lines_of h head lines S
+    pub tally_25 : tally_passes ≡ false → Err 25 ≡ tally_lines_of h head lines S
     unfolding tally_lines_of
     tally_25 e = rw e
 
@@ -124,5 +120,5 @@ module _ (lines : ℕ) (S : List ℕ) where
 
 -- the popped number, as the number of a box
 pub same_number : (r : Popped) (n : ℤ) (h : HeadCounts) (c d : ListCounts) (head : List ℤ) (staged deleted S : List ℕ) (o : WithSummary Popping) → with_summary (popping r head staged deleted) S ≡ o
-    → r ≡ popped.Number n h c d → (m : ℤ) → m ≡ n → with_summary (popping (popped.Number m h c d) head staged deleted) S ≡ o
+    → r ≡ Ok (n, h, c, d) → (m : ℤ) → m ≡ n → with_summary (popping (Ok (m, h, c, d)) head staged deleted) S ≡ o
 same_number r n h c d head staged deleted S o e f m g = rw (g, ← f) e

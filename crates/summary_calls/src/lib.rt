@@ -59,7 +59,7 @@ pub fn pop_entry(
             summary,
         );
     }
-    Popped::Refused(refusal::BUFFERS)
+    Err(refusal::BUFFERS)
 }
 
 // A spend or an unspend, as the direction says.
@@ -106,5 +106,5 @@ pub fn flip_entry(
             summary,
         );
     }
-    Flipped::Refused(refusal::BUFFERS)
+    Err(refusal::BUFFERS)
 }

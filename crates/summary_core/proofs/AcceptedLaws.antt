@@ -13,12 +13,10 @@ use Rattle.index_types.specs.declared.ListCounts.{ListCounts}
 use Rattle.records.specs.Changes.{full_for}
 use Rattle.segment_id.specs.declared.Kind.{Kind}
 use Rattle.index_types.specs.declared.HeadCounts.{HeadCounts}
-use Rattle.index_types.specs.declared.Appended.{Appended}
-use Rattle.index_types.specs.declared.Appended.TheVariants as appended
-use Rattle.index_types.specs.declared.Popped.{Popped}
-use Rattle.index_types.specs.declared.Popped.TheVariants as popped
-use Rattle.index_types.specs.declared.Flushed.{Flushed}
-use Rattle.index_types.specs.declared.Flushed.TheVariants as flushed
+use Rattle.std.specs.Prelude.{Ok, Err}
+use Rattle.index_types.specs.Answers.{Appended}
+use Rattle.index_types.specs.Answers.{Popped}
+use Rattle.index_types.specs.Answers.{Flushed}
 use Rattle.buffer_core.specs.Edition.{Edition, RowRead, bad, good}
 use Rattle.buffer_core.specs.Spills.{Sources, sources, spill_read}
 use Rattle.buffer_core.specs.Append.{Appending, appending, counts_of, spilled, spill_of, append_core, append_ok, append_of}
@@ -27,16 +25,16 @@ use Rattle.buffer_core.specs.Flush.{flushing, new_keys, flush_core, flush_of}
 use Rattle.buffer_core.specs.Flush as Fl
 
 abbrev pub IsAppended : Appended → Type 0
-IsAppended (appended.Done h c) = Unit {0}
-IsAppended (appended.Refused code) = ⊥
+IsAppended (Ok (h, c)) = Unit {0}
+IsAppended (Err code) = ⊥
 
 abbrev pub IsPopped : Popped → Type 0
-IsPopped (popped.Number n h c d) = Unit {0}
-IsPopped (popped.Refused code) = ⊥
+IsPopped (Ok (n, h, c, d)) = Unit {0}
+IsPopped (Err code) = ⊥
 
 abbrev pub IsFlushed : Flushed → Type 0
-IsFlushed (flushed.Done t c d) = Unit {0}
-IsFlushed (flushed.Refused code) = ⊥
+IsFlushed (Ok (t, c, d)) = Unit {0}
+IsFlushed (Err code) = ⊥
 
 -- ---- an append
 module _ (E : Edition) (kind : Kind) (parent : List ℕ) (h : HeadCounts) (number : ℤ) (c : ListCounts) (head : List ℤ) (staged : List ℕ) where
@@ -47,7 +45,7 @@ module _ (E : Edition) (kind : Kind) (parent : List ℕ) (h : HeadCounts) (numbe
   key = E.key kind parent (pos k)
 
   abbrev longer : Appending
-  longer = appending (appended.Done (counts_of (h.len + 1) h.spills) c) (set head h.len number) staged
+  longer = appending (Ok (counts_of (h.len + 1) h.spills, c)) (set head h.len number) staged
 
   -- it went to the end of the head, or the head became a row
   pub data AppendCase (o : Appending) : Type 0 where
@@ -66,10 +64,10 @@ module _ (E : Edition) (kind : Kind) (parent : List ℕ) (h : HeadCounts) (numbe
     where
       by_sign : (a : Bool) → is_negative h.spills ≡ a → (b : Bool) → is_negative number ≡ b → (d : Bool) → ltb h.len 512 ≡ d → (e : Bool) → leb 2147483647 k ≡ e
           → (f : Bool) → full_for E.size c key staged ≡ f
-          → IsAppended (cond a (appending (appended.Refused 11) head staged) (cond b (appending (appended.Refused 17) head staged) (cond d longer
-          (cond e (appending (appended.Refused 18) head staged) (cond f (appending (appended.Refused 16) head staged) (spilled E kind key parent k number c head staged)))))).answer
-          → AppendTook (cond a (appending (appended.Refused 11) head staged) (cond b (appending (appended.Refused 17) head staged) (cond d longer
-          (cond e (appending (appended.Refused 18) head staged) (cond f (appending (appended.Refused 16) head staged) (spilled E kind key parent k number c head staged))))))
+          → IsAppended (cond a (appending (Err 11) head staged) (cond b (appending (Err 17) head staged) (cond d longer
+          (cond e (appending (Err 18) head staged) (cond f (appending (Err 16) head staged) (spilled E kind key parent k number c head staged)))))).answer
+          → AppendTook (cond a (appending (Err 11) head staged) (cond b (appending (Err 17) head staged) (cond d longer
+          (cond e (appending (Err 18) head staged) (cond f (appending (Err 16) head staged) (spilled E kind key parent k number c head staged))))))
       by_sign true p b q d r e s f t x = absurd x
       by_sign false p true q d r e s f t x = absurd x
       by_sign false p false q true r e s f t x = record { fits = ok; not_below = p; positive = q; kind_of_append = grew r refl }
@@ -81,8 +79,8 @@ module _ (E : Edition) (kind : Kind) (parent : List ℕ) (h : HeadCounts) (numbe
   unfolding append_of
   append_took = by_ok (append_ok E h c head staged) refl
     where
-      by_ok : (x : Bool) → append_ok E h c head staged ≡ x → IsAppended (cond x (append_core E kind parent h number c head staged) (appending (appended.Refused 25) head staged)).answer
-          → AppendTook (cond x (append_core E kind parent h number c head staged) (appending (appended.Refused 25) head staged))
+      by_ok : (x : Bool) → append_ok E h c head staged ≡ x → IsAppended (cond x (append_core E kind parent h number c head staged) (appending (Err 25) head staged)).answer
+          → AppendTook (cond x (append_core E kind parent h number c head staged) (appending (Err 25) head staged))
       by_ok true a y = core_took a y
       by_ok false a y = absurd y
 
@@ -95,10 +93,10 @@ module _ (E : Edition) (kind : Kind) (parent : List ℕ) (h : HeadCounts) (b : L
   w = sources parent b.staged b.staged_counts.count b.table b.table_counts.count
 
   abbrev no_pop : ℕ → Popping
-  no_pop code = popping (popped.Refused code) head b.staged b.deleted
+  no_pop code = popping (Err code) head b.staged b.deleted
 
   abbrev shorter : Popping
-  shorter = popping (popped.Number (last_of h.len head) (counts_of (h.len - 1) h.spills) b.staged_counts b.deleted_counts) (without_last h.len head) b.staged b.deleted
+  shorter = popping (Ok (last_of h.len head, counts_of (h.len - 1) h.spills, b.staged_counts, b.deleted_counts)) (without_last h.len head) b.staged b.deleted
 
   -- it took the last of the head, or of the newest row, which became the head
   pub data PopCase (o : Popping) : Type 0 where
@@ -153,7 +151,7 @@ unfolding flush_of flush_core
 flush_took E b = by_ok (lists_ok E b) refl (leb (new_keys E b) (b.table_counts.capacity - b.table_counts.count)) refl
   where
     by_ok : (x : Bool) → lists_ok E b ≡ x → (y : Bool) → leb (new_keys E b) (b.table_counts.capacity - b.table_counts.count) ≡ y
-        → IsFlushed (cond x (cond y (Fl.flushed E b) (flushing (flushed.Refused 22) b.table b.staged b.deleted)) (flushing (flushed.Refused 25) b.table b.staged b.deleted)).answer
+        → IsFlushed (cond x (cond y (Fl.flushed E b) (flushing (Err 22) b.table b.staged b.deleted)) (flushing (Err 25) b.table b.staged b.deleted)).answer
         → FlushTook E b
     by_ok true a true r x = record { fits = a; room = leb-true (new_keys E b) (b.table_counts.capacity - b.table_counts.count) r; result = rw (a, r) }
     by_ok true a false r x = absurd x

@@ -9,8 +9,8 @@ use lib.ListN.{length}
 use borrow.Author.Tests.{le-leb}
 use Rattle.index_types.specs.declared.ListCounts.{ListCounts}
 use Rattle.index_types.specs.declared.HeadCounts.{HeadCounts}
-use Rattle.index_types.specs.declared.Summarized.{Summarized}
-use Rattle.index_types.specs.declared.Summarized.TheVariants.{Done}
+use Rattle.std.specs.Prelude.{Ok}
+use Rattle.index_types.specs.Answers.{Summarized}
 use Rattle.segment_id.specs.declared.Kind.TheVariants.{Box}
 use Rattle.buffer_core.specs.declared.Direction.{Direction}
 use Rattle.buffer_core.specs.Edition.{Edition}
@@ -31,7 +31,7 @@ use Rattle.summary_core.proofs.SearchLaws.{Right, row_right, flip_plain}
 use Rattle.summary_core.proofs.TallyLaws as Ta
 
 module _ (E : Edition) (parent : List ℕ) (h : HeadCounts) (c : ListCounts) (staged : List ℕ) (e : ListCounts) (table : List ℕ) (head : List ℤ) (lines : ℕ) (S : List ℕ)
-    (current : summary_of E parent h c staged e table head lines S ≡ with_summary Done S) where
+    (current : summary_of E parent h c staged e table head lines S ≡ with_summary (Ok tt) S) where
   abbrev w : Sources
   w = sources parent staged c.count table e.count
 

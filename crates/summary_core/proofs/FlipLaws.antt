@@ -11,23 +11,20 @@ use lib.ListN.{length, take}
 use borrow.Author.Tests.{ltb-true, lt-leb, eqb-true}
 use Rattle.index_types.specs.declared.ListCounts.{ListCounts}
 use Rattle.index_types.specs.declared.HeadCounts.{HeadCounts}
-use Rattle.index_types.specs.declared.Flipped.{Flipped}
-use Rattle.index_types.specs.declared.Flipped.TheVariants as flipped
+use Rattle.index_types.specs.Answers.{Flipped}
 use Rattle.stores.specs.Stores.{write}
 use Rattle.signed.specs.Sign.{is_negative}
 use Rattle.entries.specs.Order.{order_ok}
 use Rattle.entries.specs.Flip.{position, flipped_at}
 use Rattle.entries.specs.declared.Position.{Position}
 use Rattle.entries.specs.declared.Position.TheVariants.{At, Seen, Absent}
-use Rattle.records.specs.declared.Found.{Found}
-use Rattle.records.specs.declared.Found.TheVariants as found
+use Rattle.std.specs.Prelude.{Option, Some, None, Ok, Err}
 use Rattle.records.specs.Records.{keys, record_of}
 use Rattle.records.specs.Find.{find_key, is_found, place_of, row_at}
 use Rattle.records.specs.Changes.{slot, count_after, with_count, put_record, full_for}
 use Rattle.segment_id.specs.declared.Kind.TheVariants.{Box}
 use Rattle.buffer_core.specs.declared.Direction.{Direction}
-use Rattle.buffer_core.specs.declared.Low.{Low}
-use Rattle.buffer_core.specs.declared.Low.TheVariants.{Upto, Broken}
+use Rattle.buffer_core.specs.Answers.{Low}
 use Rattle.buffer_core.specs.declared.Look.{Look}
 use Rattle.buffer_core.specs.declared.Look.TheVariants.{Take, Stop, Next, Fail}
 use Rattle.buffer_core.specs.declared.Walk.{Walk}
@@ -42,8 +39,8 @@ use Rattle.summary_core.specs.Flip.{line_lead, line_look, look_in_row, walk_afte
 use Rattle.summary_core.proofs.SearchLaws.{Within, search_within}
 
 abbrev pub IsFlipped : Flipped → Type 0
-IsFlipped (flipped.Done c) = Unit {0}
-IsFlipped (flipped.Refused code) = ⊥
+IsFlipped (Ok c) = Unit {0}
+IsFlipped (Err code) = ⊥
 
 -- ---- a row that passes the checks of a spend was read
 pub record Checked (r : RowRead) (zs : List ℤ) : Type 0 where
@@ -105,7 +102,7 @@ module _ (E : Edition) (parent : List ℕ) (c : ListCounts) (staged : List ℕ) 
       pub coded : E.decode Box parent (pos n) row ≡ good zs
       pub room : full_for E.size c (key_at E Box w n) staged ≡ false
       pub flipped : done_by E x c head staged
-          ≡ flipping (flipped.Done (counts_with E (key_at E Box w n) c staged)) head (bytes_with E (key_at E Box w n) (E.with_boxes parent (pos n) row (flipped_at (At at) zs)) c staged)
+          ≡ flipping (Ok (counts_with E (key_at E Box w n) c staged)) head (bytes_with E (key_at E Box w n) (E.with_boxes parent (pos n) row (flipped_at (At at) zs)) c staged)
       pub lined : (S : List ℕ) → summary_staged E w (Hit n at) x S ≡ put_line n (line_of (flipped_at (At at) zs)) S
 
     -- ---- the match in a row
@@ -120,30 +117,30 @@ module _ (E : Edition) (parent : List ℕ) (c : ListCounts) (staged : List ℕ) 
       unfolding row_flipped
       flipped_row row h = ap (λ (r : RowRead). E.with_boxes parent (pos n) row (flipped_at (At at) (boxes_in E r))) h
 
-      put_is : (f : Found) → f ≡ find_key key (keys E.size c.count staged) → (row : List ℕ)
-          → flipping (flipped.Done (with_count (count_after f c.count) c)) head (write (slot f c.count * E.size) (record_of E.size key row) staged)
-          ≡ flipping (flipped.Done (counts_with E key c staged)) head (bytes_with E key row c staged)
+      put_is : (f : Option ℕ) → f ≡ find_key key (keys E.size c.count staged) → (row : List ℕ)
+          → flipping (Ok (with_count (count_after f c.count) c)) head (write (slot f c.count * E.size) (record_of E.size key row) staged)
+          ≡ flipping (Ok (counts_with E key c staged)) head (bytes_with E key row c staged)
       unfolding put_record
       put_is f q row = rw q
 
-      not_full : (f : Found) → f ≡ find_key key (keys E.size c.count staged) → not (is_found f) && leb c.capacity c.count ≡ false → full_for E.size c key staged ≡ false
+      not_full : (f : Option ℕ) → f ≡ find_key key (keys E.size c.count staged) → not (is_found f) && leb c.capacity c.count ≡ false → full_for E.size c key staged ≡ false
       unfolding full_for
       not_full f q r = rw (← q) r
 
-      by_place : (f g : Found) → f ≡ find_key key (keys E.size c.count staged) → read_placed E Box w n (place_of f g) ≡ good zs
+      by_place : (f g : Option ℕ) → f ≡ find_key key (keys E.size c.count staged) → read_placed E Box w n (place_of f g) ≡ good zs
           → IsFlipped (done_by E (stage_from E w c.capacity n at (place_of f g)) c head staged).answer → RowFlipped (stage_from E w c.capacity n at (place_of f g)) n at zs
-      by_place (found.At i) g q h x =
+      by_place (Some i) g q h x =
           let row : List ℕ = row_at E.size i staged in
           record {
             row = row;
             below = below;
             passes = passes;
             coded = h;
-            room = not_full (found.At i) q refl;
-            flipped = ap (λ (y : List ℕ). done_by E (stage i c.count key y) c head staged) (flipped_row row h) ∙ put_is (found.At i) q (E.with_boxes parent (pos n) row (flipped_at (At at) zs));
+            room = not_full (Some i) q refl;
+            flipped = ap (λ (y : List ℕ). done_by E (stage i c.count key y) c head staged) (flipped_row row h) ∙ put_is (Some i) q (E.with_boxes parent (pos n) row (flipped_at (At at) zs));
             lined = line_is;
           }
-      by_place found.Nothing (found.At j) q h x = by_room (ltb c.count c.capacity) refl x
+      by_place None (Some j) q h x = by_room (ltb c.count c.capacity) refl x
         where
           row : List ℕ
           row = row_at E.size j table
@@ -156,12 +153,12 @@ module _ (E : Edition) (parent : List ℕ) (c : ListCounts) (staged : List ℕ) 
             below = below;
             passes = passes;
             coded = h;
-            room = not_full found.Nothing q (lt-leb c.capacity c.count (ltb-true c.count c.capacity r));
-            flipped = ap (λ (y : List ℕ). done_by E (stage c.count (c.count + 1) key y) c head staged) (flipped_row row h) ∙ put_is found.Nothing q (E.with_boxes parent (pos n) row (flipped_at (At at) zs));
+            room = not_full None q (lt-leb c.capacity c.count (ltb-true c.count c.capacity r));
+            flipped = ap (λ (y : List ℕ). done_by E (stage c.count (c.count + 1) key y) c head staged) (flipped_row row h) ∙ put_is None q (E.with_boxes parent (pos n) row (flipped_at (At at) zs));
             lined = line_is;
           }
           by_room false r x = absurd x
-      by_place found.Nothing found.Nothing q h x = absurd x
+      by_place None None q h x = absurd x
 
       staged_row : IsFlipped (done_by E (stage_at E w c.capacity n at) c head staged).answer → RowFlipped (stage_at E w c.capacity n at) n at zs
       unfolding stage_at place_at spill_read
@@ -187,8 +184,8 @@ module _ (E : Edition) (parent : List ℕ) (c : ListCounts) (staged : List ℕ) 
     by_walk look takes low seen m (Failed code) q x = absurd x
 
     by_low : (look : ℕ → Look) → Takes look → (seen : Bool) (y : Low) → Within k y → Walked (walk_after look seen y) → Ends (walk_after look seen y)
-    by_low look takes seen (Upto low) m x = by_walk look takes low seen m (walk_from look low seen) refl x
-    by_low look takes seen (Broken code) m x = absurd x
+    by_low look takes seen (Ok low) m x = by_walk look takes low seen m (walk_from look low seen) refl x
+    by_low look takes seen (Err code) m x = absurd x
 
     -- ---- without a summary
     pub data FlipCase (x : Effect) : Type 0 where
@@ -199,8 +196,8 @@ module _ (E : Edition) (parent : List ℕ) (c : ListCounts) (staged : List ℕ) 
     ended x y = let q = y.is in rw q (in_row y.n y.at y.zs y.flipped)
 
     search_is : (t : ℕ) (d seen : Bool) (y : Low) → after_search E w c.capacity t d seen y ≡ after_walk E w c.capacity (walk_after (look_at E w t d) seen y)
-    search_is t d seen (Upto low) = refl
-    search_is t d seen (Broken code) = refl
+    search_is t d seen (Ok low) = refl
+    search_is t d seen (Err code) = refl
 
     rows_took : (t : ℕ) (d seen : Bool) → IsFlipped (done_by E (in_rows E w c.capacity t d k seen) c head staged).answer → FlipCase (in_rows E w c.capacity t d k seen)
     unfolding in_rows
@@ -275,7 +272,7 @@ module _ (E : Edition) (parent : List ℕ) (c : ListCounts) (staged : List ℕ) 
     flip_took = by_ok (flip_ok E h c staged e table head) refl
       where
         no_flip : Flipping
-        no_flip = flipping (flipped.Refused 25) head staged
+        no_flip = flipping (Err 25) head staged
 
         by_ok : (x : Bool) → flip_ok E h c staged e table head ≡ x → IsFlipped (cond x (done_by E plain_effect c head staged) no_flip).answer → FlipTook (cond x (done_by E plain_effect c head staged) no_flip)
         by_ok false a q = absurd q
@@ -315,7 +312,7 @@ module _ (E : Edition) (parent : List ℕ) (c : ListCounts) (staged : List ℕ) 
       flip_lines_took = by_ok (flip_ok E h c staged e table head) refl (lines_ok lines S)
         where
           no_flip : WithSummary Flipping
-          no_flip = with_summary (flipping (flipped.Refused 25) head staged) S
+          no_flip = with_summary (flipping (Err 25) head staged) S
 
           by_ok : (x : Bool) → flip_ok E h c staged e table head ≡ x → (y : Bool) → IsFlipped (cond (x && y) (done_lines E act c head staged) no_flip).result.answer
               → FlipLinesTook (cond (x && y) (done_lines E act c head staged) no_flip)
@@ -325,7 +322,7 @@ module _ (E : Edition) (parent : List ℕ) (c : ListCounts) (staged : List ℕ) 
 
       -- ---- a refused call leaves what it borrows as it was
       abbrev pub FlipLinesSame : WithSummary Flipping → Type 0
-      FlipLinesSame o = (code : ℕ) → o.result.answer ≡ flipped.Refused code → (o.result.head ≡ head) × (o.result.staged ≡ staged) × (o.summary ≡ S)
+      FlipLinesSame o = (code : ℕ) → o.result.answer ≡ Err code → (o.result.head ≡ head) × (o.result.staged ≡ staged) × (o.summary ≡ S)
 
       abbrev EffectSame : WithSummary Effect → Type 0
       EffectSame a = FlipLinesSame (done_lines E a c head staged)

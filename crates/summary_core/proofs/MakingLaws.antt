@@ -11,10 +11,9 @@ use lib.Seq.{drop_at}
 use borrow.Author.Tests.{leb-true, ltb-false, le-leb, le-ltb}
 use Rattle.index_types.specs.declared.ListCounts.{ListCounts}
 use Rattle.index_types.specs.declared.HeadCounts.{HeadCounts}
-use Rattle.index_types.specs.declared.Summarized.{Summarized}
+use Rattle.std.specs.Prelude.{Ok, Err}
+use Rattle.index_types.specs.Answers.{Summarized}
 use Rattle.index_types.specs.declared.Tally.{Tally}
-use Rattle.index_types.specs.declared.Tallied.TheVariants as tallied
-use Rattle.index_types.specs.declared.Summarized.TheVariants.{Done, Refused}
 use Rattle.stores.specs.Stores.{write}
 use Rattle.stores.proofs.StoreLaws.{length_write}
 use Rattle.signed.specs.Sign.{is_negative}
@@ -52,16 +51,16 @@ module _ (E : Edition) (parent : List ℕ) (h : HeadCounts) (c : ListCounts) (st
     pub numbers : List ℤ
     pub rows : all_rows ≡ good numbers
 
-  no_tally : (code : ℕ) (t : Tally) → tallied.Refused code ≡ tallied.Counts t → ⊥
+  no_tally : (code : ℕ) (t : Tally) → Err code ≡ Ok t → ⊥
   no_tally code t q = let z : ◌≡◌ {A = ℕ} 0 1 = cc in omega arith
 
   -- a tally that is accepted made them
-  pub tally_checks : (t : Tally) → tally_of E parent h c staged e table head ≡ tallied.Counts t → Checks
+  pub tally_checks : (t : Tally) → tally_of E parent h c staged e table head ≡ Ok t → Checks
   unfolding tally_of tally_core
   tally_checks t = by_tests (flip_ok E h c staged e table head) refl (order_ok (take h.len head)) refl (is_negative h.spills) refl all_rows refl
     where
       by_tests : (u : Bool) → flip_ok E h c staged e table head ≡ u → (v : Bool) → order_ok (take h.len head) ≡ v → (x : Bool) → is_negative h.spills ≡ x → (r : RowRead) → all_rows ≡ r
-          → cond u (cond v (cond x (tallied.Refused 11) (tally_over r (take h.len head))) (tallied.Refused 10)) (tallied.Refused 25) ≡ tallied.Counts t → Checks
+          → cond u (cond v (cond x (Err 11) (tally_over r (take h.len head))) (Err 10)) (Err 25) ≡ Ok t → Checks
       by_tests false a v b x d r g q = absurd (no_tally 25 t q)
       by_tests true a false b x d r g q = absurd (no_tally 10 t q)
       by_tests true a true b true d r g q = absurd (no_tally 11 t q)
@@ -94,7 +93,7 @@ module _ (E : Edition) (parent : List ℕ) (h : HeadCounts) (c : ListCounts) (st
     pub room : k ≤ lines
 
   -- then the call is accepted
-  pub accepted : (p : Passing) → afresh ≡ with_summary Done (write 0 (lines_of k p.checks.numbers ++ replicate ((lines - k) * 5) 0) S)
+  pub accepted : (p : Passing) → afresh ≡ with_summary (Ok tt) (write 0 (lines_of k p.checks.numbers ++ replicate ((lines - k) * 5) 0) S)
   unfolding summary_of summary_core
   accepted p = rw (
     and_true (flip_ok E h c staged e table head) (lines_ok lines S) p.checks.fits (le-leb (lines * 5) (length S) p.long),
@@ -105,9 +104,9 @@ module _ (E : Edition) (parent : List ℕ) (h : HeadCounts) (c : ListCounts) (st
   ) refl
 
   abbrev refused_by : ℕ → WithSummary Summarized
-  refused_by code = with_summary (Refused code) S
+  refused_by code = with_summary (Err code) S
 
-  no : (code : ℕ) → (refused_by code).result ≡ Done → ⊥
+  no : (code : ℕ) → (refused_by code).result ≡ (Ok tt) → ⊥
   no code q = let z : ◌≡◌ {A = ℕ} 0 1 = cc in omega arith
 
   abbrev rows_put : WithSummary Summarized
@@ -117,12 +116,12 @@ module _ (E : Edition) (parent : List ℕ) (h : HeadCounts) (c : ListCounts) (st
   Fit = flip_ok E h c staged e table head && lines_ok lines S ≡ true
 
   -- and it is accepted only then
-  pub passing : afresh.result ≡ Done → Passing
+  pub passing : afresh.result ≡ (Ok tt) → Passing
   unfolding summary_of summary_core
   passing q = by_ok (flip_ok E h c staged e table head && lines_ok lines S) refl q
     where
       by_rows : Fit → order_ok (take h.len head) ≡ true → is_negative h.spills ≡ false → ltb lines k ≡ false
-          → (x : RowRead) → rows_up (row_checked E w) 0 k ≡ x → (put_lines x k lines S).result ≡ Done → Passing
+          → (x : RowRead) → rows_up (row_checked E w) 0 k ≡ x → (put_lines x k lines S).result ≡ (Ok tt) → Passing
       by_rows a o s r (bad code) f q = absurd (no code q)
       by_rows a o s r (good zs) f q = record {
         checks = record { fits = and_left (flip_ok E h c staged e table head) (lines_ok lines S) a; in_order = o; not_below = s; numbers = zs; rows = f };
@@ -131,22 +130,22 @@ module _ (E : Edition) (parent : List ℕ) (h : HeadCounts) (c : ListCounts) (st
       }
 
       by_room : Fit → order_ok (take h.len head) ≡ true → is_negative h.spills ≡ false → (x : Bool) → ltb lines k ≡ x
-          → (cond x (refused_by 36) rows_put).result ≡ Done → Passing
+          → (cond x (refused_by 36) rows_put).result ≡ (Ok tt) → Passing
       by_room a o s true r q = absurd (no 36 q)
       by_room a o s false r q = by_rows a o s r (rows_up (row_checked E w) 0 k) refl q
 
       by_sign : Fit → order_ok (take h.len head) ≡ true → (x : Bool) → is_negative h.spills ≡ x
-          → (cond x (refused_by 11) (cond (ltb lines k) (refused_by 36) rows_put)).result ≡ Done → Passing
+          → (cond x (refused_by 11) (cond (ltb lines k) (refused_by 36) rows_put)).result ≡ (Ok tt) → Passing
       by_sign a o true s q = absurd (no 11 q)
       by_sign a o false s q = by_room a o s (ltb lines k) refl q
 
       by_order : Fit → (x : Bool) → order_ok (take h.len head) ≡ x
-          → (cond x (cond (is_negative h.spills) (refused_by 11) (cond (ltb lines k) (refused_by 36) rows_put)) (refused_by 10)).result ≡ Done → Passing
+          → (cond x (cond (is_negative h.spills) (refused_by 11) (cond (ltb lines k) (refused_by 36) rows_put)) (refused_by 10)).result ≡ (Ok tt) → Passing
       by_order a true o q = by_sign a o (is_negative h.spills) refl q
       by_order a false o q = absurd (no 10 q)
 
       by_ok : (x : Bool) → flip_ok E h c staged e table head && lines_ok lines S ≡ x
-          → (cond x (summary_core E w h.spills (take h.len head) lines S) (refused_by 25)).result ≡ Done → Passing
+          → (cond x (summary_core E w h.spills (take h.len head) lines S) (refused_by 25)).result ≡ (Ok tt) → Passing
       by_ok true a q = by_order a (order_ok (take h.len head)) refl q
       by_ok false a q = absurd (no 25 q)
 
@@ -154,25 +153,25 @@ module _ (E : Edition) (parent : List ℕ) (h : HeadCounts) (c : ListCounts) (st
     pub made_rows : Made (row_checked E w) 0 k (lines_of k p.checks.numbers)
     made_rows = made (row_checked E w) (λ i. checked_512 (spill_read E _ w i)) 0 k p.checks.numbers p.checks.rows
 
-    unchanged : afresh ≡ with_summary Done S → write 0 (lines_of k p.checks.numbers ++ replicate ((lines - k) * 5) 0) S ≡ S
+    unchanged : afresh ≡ with_summary (Ok tt) S → write 0 (lines_of k p.checks.numbers ++ replicate ((lines - k) * 5) 0) S ≡ S
     unchanged q = ap (λ (x : WithSummary Summarized). x.summary) (sym (accepted p) ∙ q)
 
     -- a summary that stays as it is has the lines of the rows, and zeros after them
-    pub current_row : afresh ≡ with_summary Done S → (i : ℕ) (zs : List ℤ) → i < k → row_checked E w i ≡ good zs → line_at S i ≡ line_of zs
+    pub current_row : afresh ≡ with_summary (Ok tt) S → (i : ℕ) (zs : List ℤ) → i < k → row_checked E w i ≡ good zs → line_at S i ≡ line_of zs
     current_row q = afresh_row (row_checked E w) k lines (lines_of k p.checks.numbers) S made_rows p.room p.long (unchanged q)
 
-    pub current_free : afresh ≡ with_summary Done S → (i : ℕ) → k ≤ i → i < lines → line_at S i ≡ no_line
+    pub current_free : afresh ≡ with_summary (Ok tt) S → (i : ℕ) → k ≤ i → i < lines → line_at S i ≡ no_line
     current_free q = afresh_free (row_checked E w) k lines (lines_of k p.checks.numbers) S made_rows p.room p.long (unchanged q)
 
     -- and one that has them stays as it is
     pub current : ((i : ℕ) (zs : List ℤ) → i < k → row_checked E w i ≡ good zs → line_at S i ≡ line_of zs) → ((i : ℕ) → k ≤ i → i < lines → line_at S i ≡ no_line)
-        → afresh ≡ with_summary Done S
+        → afresh ≡ with_summary (Ok tt) S
     current rows free =
-        accepted p ∙ ap (λ (T : List ℕ). with_summary Done T) (afresh_same (row_checked E w) k lines (lines_of k p.checks.numbers) S made_rows p.room p.long rows free)
+        accepted p ∙ ap (λ (T : List ℕ). with_summary (Ok tt) T) (afresh_same (row_checked E w) k lines (lines_of k p.checks.numbers) S made_rows p.room p.long rows free)
 
   -- ---- a refused call leaves the summary
   abbrev Same : WithSummary Summarized → Type 0
-  Same o = (code : ℕ) → o.result ≡ Refused code → o.summary ≡ S
+  Same o = (code : ℕ) → o.result ≡ Err code → o.summary ≡ S
 
   put_same : (x : RowRead) → Same (put_lines x k lines S)
   put_same (bad r) code q = refl
@@ -194,8 +193,8 @@ unfolding write
 write_again l S = ap (λ (x : List ℕ). l ++ x) (drop_at l (drop (0 + length l) S) (0 + length l) (omega arith))
 
 pub made_current : (E : Edition) (parent : List ℕ) (h : HeadCounts) (c : ListCounts) (staged : List ℕ) (e : ListCounts) (table : List ℕ) (head : List ℤ) (lines : ℕ) (S : List ℕ)
-    → (summary_of E parent h c staged e table head lines S).result ≡ Done
-    → summary_of E parent h c staged e table head lines (summary_of E parent h c staged e table head lines S).summary ≡ with_summary Done (summary_of E parent h c staged e table head lines S).summary
+    → (summary_of E parent h c staged e table head lines S).result ≡ Ok tt
+    → summary_of E parent h c staged e table head lines (summary_of E parent h c staged e table head lines S).summary ≡ with_summary (Ok tt) (summary_of E parent h c staged e table head lines S).summary
 made_current E parent h c staged e table head lines S q =
     let p = passing E parent h c staged e table head lines S q in
     let all : List ℕ = lines_of (nat_abs h.spills) p.checks.numbers ++ replicate ((lines - nat_abs h.spills) * 5) 0 in
@@ -206,4 +205,4 @@ made_current E parent h c staged e table head lines S q =
     let r : Passing E parent h c staged e table head lines T
     = record { checks = p.checks; long = omega (arith, p.long); room = p.room } in
     let z : (summary_of E parent h c staged e table head lines S).summary ≡ T = ap (λ (x : WithSummary Summarized). x.summary) (accepted E parent h c staged e table head lines S p) in
-    rw z (accepted E parent h c staged e table head lines T r ∙ ap (λ (x : List ℕ). with_summary Done x) (write_again all S))
+    rw z (accepted E parent h c staged e table head lines T r ∙ ap (λ (x : List ℕ). with_summary (Ok tt) x) (write_again all S))

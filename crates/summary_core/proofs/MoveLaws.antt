@@ -12,10 +12,9 @@ use lib.ListN.{take}
 use borrow.Author.Tests.{leb-false, lt-leb, le-ltb}
 use Rattle.index_types.specs.declared.ListCounts.{ListCounts}
 use Rattle.index_types.specs.declared.HeadCounts.{HeadCounts}
-use Rattle.index_types.specs.declared.Appended.{Appended}
-use Rattle.index_types.specs.declared.Appended.TheVariants as appended
-use Rattle.index_types.specs.declared.Popped.{Popped}
-use Rattle.index_types.specs.declared.Popped.TheVariants as popped
+use Rattle.std.specs.Prelude.{Ok, Err}
+use Rattle.index_types.specs.Answers.{Appended}
+use Rattle.index_types.specs.Answers.{Popped}
 use Rattle.signed.specs.Sign.{is_negative}
 use Rattle.segment_id.specs.declared.Kind.TheVariants.{Box}
 use Rattle.buffer_core.specs.Edition.{Edition}
@@ -58,7 +57,7 @@ module _ (E : Edition) (parent : List ℕ) (h : HeadCounts) (lines : ℕ) (S : L
     core = append_core E Box parent h number c head staged
 
     abbrev no_append : ℕ → WithSummary Appending
-    no_append code = with_summary (appending (appended.Refused code) head staged) S
+    no_append code = with_summary (appending (Err code) head staged) S
 
     core_is : append_ok E h c head staged ≡ true → core ≡ append_of E Box parent h number c head staged
     unfolding append_of
@@ -71,8 +70,8 @@ module _ (E : Edition) (parent : List ℕ) (h : HeadCounts) (lines : ℕ) (S : L
       pub free : ltb h.len 512 ≡ false → nat_abs h.spills < lines
 
     made_line : (a : Appended) → IsAppended a → summary_appended a h head S ≡ cond (ltb h.len 512) S (put_line (nat_abs h.spills) (line_of (take 512 head)) S)
-    made_line (appended.Done h' c') x = refl
-    made_line (appended.Refused code) x = absurd x
+    made_line (Ok (h', c')) x = refl
+    made_line (Err code) x = absurd x
 
     -- the second 36 was not met
     line_free : too_few_lines h lines || no_free_line h number lines ≡ false → is_negative h.spills ≡ false → is_negative number ≡ false
@@ -100,16 +99,16 @@ module _ (E : Edition) (parent : List ℕ) (h : HeadCounts) (lines : ℕ) (S : L
     -- the append without a summary, or 36
     module _ (long : lines_ok lines S ≡ true) (room : nat_abs h.spills ≤ lines) where
       by_free : (t : Bool) → no_free_line h number lines ≡ t
-          → appended_lines.result ≡ cond (append_ok E h c head staged) (cond t (appending (appended.Refused 36) head staged) core) (appending (appended.Refused 25) head staged)
+          → appended_lines.result ≡ cond (append_ok E h c head staged) (cond t (appending (Err 36) head staged) core) (appending (Err 25) head staged)
       unfolding append_lines_of append_lines
       by_free t e = by_ok (append_ok E h c head staged)
         where
-          by_test : (x : Bool) → (cond x (no_append 36) (after_append core h head S)).result ≡ cond x (appending (appended.Refused 36) head staged) core
+          by_test : (x : Bool) → (cond x (no_append 36) (after_append core h head S)).result ≡ cond x (appending (Err 36) head staged) core
           by_test true = refl
           by_test false = refl
 
           by_ok : (x : Bool) → (cond (x && lines_ok lines S) (append_lines E parent h number c head staged lines S) (no_append 25)).result
-              ≡ cond x (cond t (appending (appended.Refused 36) head staged) core) (appending (appended.Refused 25) head staged)
+              ≡ cond x (cond t (appending (Err 36) head staged) core) (appending (Err 25) head staged)
           by_ok true = rw (long, enough room, e) (by_test t)
           by_ok false = refl
 
@@ -117,24 +116,24 @@ module _ (E : Edition) (parent : List ℕ) (h : HeadCounts) (lines : ℕ) (S : L
       unfolding append_of
       append_plain e = by_free false e
 
-      pub append_plain_or_36 : (appended_lines.result ≡ append_of E Box parent h number c head staged) ⊎ (appended_lines.result.answer ≡ appended.Refused 36)
+      pub append_plain_or_36 : (appended_lines.result ≡ append_of E Box parent h number c head staged) ⊎ (appended_lines.result.answer ≡ Err 36)
       unfolding append_of
       append_plain_or_36 = by_test (no_free_line h number lines) refl
         where
           by_ok : (x : Bool) → append_ok E h c head staged ≡ x
-              → appended_lines.result ≡ cond x (appending (appended.Refused 36) head staged) (appending (appended.Refused 25) head staged)
-              → (appended_lines.result ≡ append_of E Box parent h number c head staged) ⊎ (appended_lines.result.answer ≡ appended.Refused 36)
+              → appended_lines.result ≡ cond x (appending (Err 36) head staged) (appending (Err 25) head staged)
+              → (appended_lines.result ≡ append_of E Box parent h number c head staged) ⊎ (appended_lines.result.answer ≡ Err 36)
           by_ok true a q = inr (ap (λ (o : Appending). o.answer) q)
           by_ok false a q = inl (q ∙ rw a)
 
           by_test : (t : Bool) → no_free_line h number lines ≡ t
-              → (appended_lines.result ≡ append_of E Box parent h number c head staged) ⊎ (appended_lines.result.answer ≡ appended.Refused 36)
+              → (appended_lines.result ≡ append_of E Box parent h number c head staged) ⊎ (appended_lines.result.answer ≡ Err 36)
           by_test true e = by_ok (append_ok E h c head staged) refl (by_free true e)
           by_test false e = inl (append_plain e)
 
     -- a refused append
     abbrev pub AppendLinesSame : WithSummary Appending → Type 0
-    AppendLinesSame o = (code : ℕ) → o.result.answer ≡ appended.Refused code → (o.result.head ≡ head) × (o.result.staged ≡ staged) × (o.summary ≡ S)
+    AppendLinesSame o = (code : ℕ) → o.result.answer ≡ Err code → (o.result.head ≡ head) × (o.result.staged ≡ staged) × (o.summary ≡ S)
 
     pub append_lines_same : AppendLinesSame appended_lines
     unfolding append_lines_of append_lines
@@ -150,15 +149,15 @@ module _ (E : Edition) (parent : List ℕ) (h : HeadCounts) (lines : ℕ) (S : L
     popped_lines = pop_lines_of E parent h b head lines S
 
     abbrev no_pop : ℕ → WithSummary Popping
-    no_pop code = with_summary (popping (popped.Refused code) head b.staged b.deleted) S
+    no_pop code = with_summary (popping (Err code) head b.staged b.deleted) S
 
     pub record PopLinesTook (o : WithSummary Popping) : Type 0 where
       pub plain : o.result ≡ pop_of E Box parent h b head
       pub summary : o.summary ≡ cond (ltb 0 h.len) S (put_line (nat_abs h.spills - 1) no_line S)
 
     left_line : (a : Popped) → IsPopped a → summary_popped a h S ≡ cond (ltb 0 h.len) S (put_line (nat_abs h.spills - 1) no_line S)
-    left_line (popped.Number m h' c d) x = refl
-    left_line (popped.Refused code) x = absurd x
+    left_line (Ok (m, h', c, d)) x = refl
+    left_line (Err code) x = absurd x
 
     pop_core_is : pop_ok E h b head ≡ true → pop_core E Box parent h b head ≡ pop_of E Box parent h b head
     unfolding pop_of
@@ -181,14 +180,14 @@ module _ (E : Edition) (parent : List ℕ) (h : HeadCounts) (lines : ℕ) (S : L
     pop_plain long room = by_ok (pop_ok E h b head)
       where
         by_ok : (x : Bool) → (cond (x && lines_ok lines S) (pop_lines E parent h b head lines S) (no_pop 25)).result
-            ≡ cond x (pop_core E Box parent h b head) (popping (popped.Refused 25) head b.staged b.deleted)
+            ≡ cond x (pop_core E Box parent h b head) (popping (Err 25) head b.staged b.deleted)
         by_ok true = rw (long, enough room) refl
         by_ok false = refl
 
     -- a refused pop
     abbrev pub PopLinesSame : WithSummary Popping → Type 0
     PopLinesSame o =
-        (code : ℕ) → o.result.answer ≡ popped.Refused code
+        (code : ℕ) → o.result.answer ≡ Err code
         → (o.result.head ≡ head) × (o.result.staged ≡ b.staged) × (o.result.deleted ≡ b.deleted) × (o.summary ≡ S)
 
     pub pop_lines_same : PopLinesSame popped_lines

@@ -10,17 +10,15 @@ use lib.ListN.{take, get_or}
 use borrow.Author.Tests.{ltb-true, le-ltb}
 use Rattle.index_types.specs.declared.ListCounts.{ListCounts}
 use Rattle.index_types.specs.declared.HeadCounts.{HeadCounts}
-use Rattle.index_types.specs.declared.Flipped.TheVariants as flipped
+use Rattle.std.specs.Prelude.{Ok, Err}
 use Rattle.signed.specs.Sign.{is_negative}
 use Rattle.entries.specs.Order.{order_ok}
 use Rattle.entries.specs.Flip.{position}
 use Rattle.entries.specs.declared.Position.{Position}
 use Rattle.entries.specs.declared.Position.TheVariants.{At, Seen, Absent}
 use Rattle.buffer_core.specs.declared.Direction.{Direction}
-use Rattle.buffer_core.specs.declared.Lead.{Lead}
-use Rattle.buffer_core.specs.declared.Lead.TheVariants.{Leads, NoLead}
-use Rattle.buffer_core.specs.declared.Low.{Low}
-use Rattle.buffer_core.specs.declared.Low.TheVariants.{Upto, Broken}
+use Rattle.buffer_core.specs.Answers.{Lead}
+use Rattle.buffer_core.specs.Answers.{Low}
 use Rattle.buffer_core.specs.declared.Look.{Look}
 use Rattle.buffer_core.specs.declared.Look.TheVariants.{Take, Stop, Next, Fail}
 use Rattle.buffer_core.specs.Edition.{Edition, RowRead, good}
@@ -40,8 +38,8 @@ search_cong f g t (suc k) lo hi h =
   where
     by_order : (x : Bool) → ltb lo hi ≡ x → search_by f t k (middle lo hi + 1) hi ≡ search_by g t k (middle lo hi + 1) hi
         → (lo < hi → search_by f t k lo (middle lo hi) ≡ search_by g t k lo (middle lo hi))
-        → cond x (half (f (middle lo hi)) t (search_by f t k (middle lo hi + 1) hi) (search_by f t k lo (middle lo hi))) (Upto lo)
-        ≡ cond x (half (g (middle lo hi)) t (search_by g t k (middle lo hi + 1) hi) (search_by g t k lo (middle lo hi))) (Upto lo)
+        → cond x (half (f (middle lo hi)) t (search_by f t k (middle lo hi + 1) hi) (search_by f t k lo (middle lo hi))) (Ok lo)
+        ≡ cond x (half (g (middle lo hi)) t (search_by g t k (middle lo hi + 1) hi) (search_by g t k lo (middle lo hi))) (Ok lo)
     by_order true e a b =
         let o : lo < hi = ltb-true lo hi e in
         λ i. half (h (middle lo hi) (omega arith) i) t (a i) (b o i)
@@ -49,20 +47,20 @@ search_cong f g t (suc k) lo hi h =
 
 -- a halving ends at most at its high end
 abbrev pub Within : ℕ → Low → Type 0
-Within hi (Upto low) = low ≤ hi
-Within hi (Broken code) = Unit {0}
+Within hi (Ok low) = low ≤ hi
+Within hi (Err code) = Unit {0}
 
 within_half : (hi : ℕ) (x : Lead) (t : ℕ) (a b : Low) → Within hi a → Within hi b → Within hi (half x t a b)
-within_half hi (Leads y) t a b p q = by (leb y t)
+within_half hi (Ok y) t a b p q = by (leb y t)
   where
     by : (z : Bool) → Within hi (cond z a b)
     by true = p
     by false = q
-within_half hi (NoLead code) t a b p q = tt
+within_half hi (Err code) t a b p q = tt
 
 within_up : (hi hi' : ℕ) (x : Low) → hi ≤ hi' → Within hi x → Within hi' x
-within_up hi hi' (Upto low) h w = omega arith
-within_up hi hi' (Broken code) h w = tt
+within_up hi hi' (Ok low) h w = omega arith
+within_up hi hi' (Err code) h w = tt
 
 pub search_within : (f : ℕ → Lead) (t k lo hi : ℕ) → lo ≤ hi → Within hi (search_by f t k lo hi)
 unfolding search_by
@@ -71,7 +69,7 @@ search_within f t (suc k) lo hi h =
     by_order (ltb lo hi) refl (λ o. search_within f t k (middle lo hi + 1) hi (omega arith)) (λ o. search_within f t k lo (middle lo hi) (omega arith))
   where
     by_order : (x : Bool) → ltb lo hi ≡ x → (lo < hi → Within hi (search_by f t k (middle lo hi + 1) hi)) → (lo < hi → Within (middle lo hi) (search_by f t k lo (middle lo hi)))
-        → Within hi (cond x (half (f (middle lo hi)) t (search_by f t k (middle lo hi + 1) hi) (search_by f t k lo (middle lo hi))) (Upto lo))
+        → Within hi (cond x (half (f (middle lo hi)) t (search_by f t k (middle lo hi + 1) hi) (search_by f t k lo (middle lo hi))) (Ok lo))
     by_order true e a b =
         let o : lo < hi = ltb-true lo hi e in
         within_half hi (f (middle lo hi)) t (search_by f t k (middle lo hi + 1) hi) (search_by f t k lo (middle lo hi)) (a o)
@@ -113,7 +111,7 @@ module _ (E : Edition) (w : Sources) (S : List ℕ) (spills : ℕ) where
 
   module _ (right : (n : ℕ) → n < spills → Right n) where
     lead_same : (n : ℕ) → n < spills → line_lead S n ≡ lead_at E w n
-    lead_same n h = let r = right n h in ap Leads r.first ∙ sym (ap lead_of r.passes)
+    lead_same n h = let r = right n h in ap Ok r.first ∙ sym (ap lead_of r.passes)
 
     look_same : (t : ℕ) (d : Bool) (n : ℕ) → n < spills → line_look E w S t d n ≡ look_at E w t d n
     unfolding look_in
@@ -123,8 +121,8 @@ module _ (E : Edition) (w : Sources) (S : List ℕ) (spills : ℕ) where
 
     by_low : (t : ℕ) (d seen : Bool) (capacity : ℕ) (x : Low) → Within spills x
         → after_walk E w capacity (walk_after (line_look E w S t d) seen x) ≡ after_search E w capacity t d seen x
-    by_low t d seen capacity (Upto low) h = ap (after_walk E w capacity) (walk_cong (line_look E w S t d) (look_at E w t d) low seen (λ m q. look_same t d m (omega arith)))
-    by_low t d seen capacity (Broken code) h = refl
+    by_low t d seen capacity (Ok low) h = ap (after_walk E w capacity) (walk_cong (line_look E w S t d) (look_at E w t d) low seen (λ m q. look_same t d m (omega arith)))
+    by_low t d seen capacity (Err code) h = refl
 
     pub rows_same : (capacity t : ℕ) (d seen : Bool) → (in_lines E w capacity t d spills S seen).result ≡ in_rows E w capacity t d spills seen
     unfolding in_lines walk_lines in_rows
@@ -180,7 +178,7 @@ module _ (E : Edition) (parent : List ℕ) (h : HeadCounts) (lines : ℕ) (S : L
 
       by_ok : (x : Bool)
           → (cond (x && lines_ok lines S) (done_lines E (flip_lines E (sources parent staged c.count table e.count) c.capacity d target h.spills (take h.len head) lines S) c head staged)
-          (with_summary (flipping (flipped.Refused 25) head staged) S)).result
-          ≡ cond x (done_by E (flip_effect E (sources parent staged c.count table e.count) c.capacity d target h.spills (take h.len head)) c head staged) (flipping (flipped.Refused 25) head staged)
+          (with_summary (flipping (Err 25) head staged) S)).result
+          ≡ cond x (done_by E (flip_effect E (sources parent staged c.count table e.count) c.capacity d target h.spills (take h.len head)) c head staged) (flipping (Err 25) head staged)
       by_ok true = rw long (ap (λ (a : Effect). done_by E a c head staged) same)
       by_ok false = refl

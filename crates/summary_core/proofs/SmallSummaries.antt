@@ -6,14 +6,11 @@ use Prim.Native.Nat.{ℕ}
 use lib.IntN.{ℤ, pos, negsuc}
 use lib.ListN.{replicate}
 use Rattle.index_types.specs.declared.ListCounts.{ListCounts}
-use Rattle.index_types.specs.declared.Summarized.{Summarized}
-use Rattle.index_types.specs.declared.Summarized.TheVariants as summarized
-use Rattle.index_types.specs.declared.Appended.{Appended}
-use Rattle.index_types.specs.declared.Appended.TheVariants as appended
-use Rattle.index_types.specs.declared.Flipped.{Flipped}
-use Rattle.index_types.specs.declared.Flipped.TheVariants as flipped
-use Rattle.index_types.specs.declared.Tallied.{Tallied}
-use Rattle.index_types.specs.declared.Tallied.TheVariants as tallied
+use Rattle.std.specs.Prelude.{Ok, Err}
+use Rattle.index_types.specs.Answers.{Summarized}
+use Rattle.index_types.specs.Answers.{Appended}
+use Rattle.index_types.specs.Answers.{Flipped}
+use Rattle.index_types.specs.Answers.{Tallied}
 use Rattle.stores.specs.Stores.{write}
 use Rattle.stores.specs.Equal.{same_bytes}
 use Rattle.entries.specs.Tally.{how_many}
@@ -49,15 +46,15 @@ five_line = 5 ∷ 5 ∷ 512 ∷ 0 ∷ 0 ∷ []
 abbrev made_of : (lines : ℕ) → WithSummary Summarized
 made_of lines = summary_of marked_rows [] (counts_of 0 (pos 1)) (one_place 0) (replicate 36 0) (one_place 1) (marked_row 0) no_numbers lines (replicate 11 9)
 
-pub made_two_lines : made_of 2 ≡ with_summary summarized.Done (five_line ++ replicate 5 0 ++ (9 ∷ []))
+pub made_two_lines : made_of 2 ≡ with_summary (Ok tt) (five_line ++ replicate 5 0 ++ (9 ∷ []))
 unfolding summary_of summary_core rows_up lines_of line_of how_many flip_ok place_at spill_read records_ok lengths_ok distinct records find_from stored_row same_bytes write
 made_two_lines = refl
 
-pub made_no_line : made_of 0 ≡ with_summary (summarized.Refused 36) (replicate 11 9)
+pub made_no_line : made_of 0 ≡ with_summary (Err 36) (replicate 11 9)
 unfolding summary_of summary_core flip_ok records_ok lengths_ok distinct records find_from same_bytes
 made_no_line = refl
 
-pub made_three_lines : made_of 3 ≡ with_summary (summarized.Refused 25) (replicate 11 9)
+pub made_three_lines : made_of 3 ≡ with_summary (Err 25) (replicate 11 9)
 unfolding summary_of flip_ok records_ok lengths_ok distinct records find_from same_bytes
 made_three_lines = refl
 
@@ -68,21 +65,21 @@ spent_in n S =
     (o.result.answer, o.summary)
 
 -- "a line they write is made anew from its row"
-pub spend_writes_the_line : spent_in 1 five_line ≡ (flipped.Done (one_place 1), 5 ∷ 5 ∷ 511 ∷ 0 ∷ 1 ∷ [])
+pub spend_writes_the_line : spent_in 1 five_line ≡ (Ok (one_place 1), 5 ∷ 5 ∷ 511 ∷ 0 ∷ 1 ∷ [])
 unfolding flip_lines_of flip_lines_core flip_lines in_lines walk_lines search_by walk_from stage_at row_flipped put_line line_of how_many flip_ok place_at spill_read records_ok lengths_ok distinct records find_from stored_row record_of same_bytes write
 spend_writes_the_line = refl
 
 -- "reads only rows it searches, so damage elsewhere goes unnoticed": the row is not there, and is missed only where its line may hold the target
-pub spend_reads_the_row : spent_in 0 five_line ≡ (flipped.Refused 12, five_line)
+pub spend_reads_the_row : spent_in 0 five_line ≡ (Err 12, five_line)
 unfolding flip_lines_of flip_lines_core flip_lines in_lines walk_lines search_by walk_from stage_at row_flipped flip_ok place_at spill_read records_ok lengths_ok distinct records find_from stored_row record_of same_bytes
 spend_reads_the_row = refl
 
-pub spend_passes_the_row : spent_in 0 (5 ∷ 4 ∷ 512 ∷ 0 ∷ 0 ∷ []) ≡ (flipped.Refused 15, 5 ∷ 4 ∷ 512 ∷ 0 ∷ 0 ∷ [])
+pub spend_passes_the_row : spent_in 0 (5 ∷ 4 ∷ 512 ∷ 0 ∷ 0 ∷ []) ≡ (Err 15, 5 ∷ 4 ∷ 512 ∷ 0 ∷ 0 ∷ [])
 unfolding flip_lines_of flip_lines_core flip_lines in_lines walk_lines search_by walk_from stage_at row_flipped flip_ok place_at spill_read records_ok lengths_ok distinct records find_from stored_row record_of same_bytes
 spend_passes_the_row = refl
 
 -- "walks over the summary": the row is there and holds the target, and its line, which says that it ends below, decides
-pub spend_believes_the_line : spent_in 1 (5 ∷ 4 ∷ 512 ∷ 0 ∷ 0 ∷ []) ≡ (flipped.Refused 15, 5 ∷ 4 ∷ 512 ∷ 0 ∷ 0 ∷ [])
+pub spend_believes_the_line : spent_in 1 (5 ∷ 4 ∷ 512 ∷ 0 ∷ 0 ∷ []) ≡ (Err 15, 5 ∷ 4 ∷ 512 ∷ 0 ∷ 0 ∷ [])
 unfolding flip_lines_of flip_lines_core flip_lines in_lines walk_lines search_by walk_from stage_at row_flipped flip_ok place_at spill_read records_ok lengths_ok distinct records find_from stored_row record_of same_bytes
 spend_believes_the_line = refl
 
@@ -93,24 +90,24 @@ no_place = record { count = 0; capacity = 0 }
 abbrev appended_to : (len spills lines : ℕ) (number : ℤ) → Appended
 appended_to len spills lines number = (append_lines marked_rows [] (counts_of len (pos spills)) number no_place no_numbers [] lines []).result.answer
 
-pub too_few_lines_before_17 : appended_to 512 2 1 (negsuc 0) ≡ appended.Refused 36
+pub too_few_lines_before_17 : appended_to 512 2 1 (negsuc 0) ≡ Err 36
 unfolding append_lines append_core spill_of
 too_few_lines_before_17 = refl
 
-pub negative_before_no_free_line : appended_to 512 1 1 (negsuc 0) ≡ appended.Refused 17
+pub negative_before_no_free_line : appended_to 512 1 1 (negsuc 0) ≡ Err 17
 unfolding append_lines append_core spill_of
 negative_before_no_free_line = refl
 
-pub count_before_no_free_line : appended_to 512 2147483647 2147483647 (pos 1) ≡ appended.Refused 18
+pub count_before_no_free_line : appended_to 512 2147483647 2147483647 (pos 1) ≡ Err 18
 unfolding append_lines append_core spill_of
 count_before_no_free_line = refl
 
-pub no_free_line_before_16 : appended_to 512 1 1 (pos 1) ≡ appended.Refused 36
+pub no_free_line_before_16 : appended_to 512 1 1 (pos 1) ≡ Err 36
 unfolding append_lines append_core spill_of
 no_free_line_before_16 = refl
 
 -- "when a box append spills": a head with room needs no line
-pub no_line_needed : appended_to 511 1 1 (pos 1) ≡ appended.Done (counts_of 512 (pos 1)) no_place
+pub no_line_needed : appended_to 511 1 1 (pos 1) ≡ Ok (counts_of 512 (pos 1), no_place)
 unfolding append_lines append_core spill_of
 no_line_needed = refl
 
@@ -130,11 +127,11 @@ pop_clears_the_line = refl
 abbrev tally_with : List ℕ → Tallied
 tally_with S = tally_lines_of (counts_of 2 (pos 2)) (pos 0 ∷ negsuc 8 ∷ no_numbers) 2 S
 
-pub tally_adds_lines : tally_with (1 ∷ 2 ∷ 500 ∷ 4 ∷ 8 ∷ 3 ∷ 4 ∷ 0 ∷ 0 ∷ 512 ∷ []) ≡ tallied.Counts (record { unspent = 500; spent = 521; unknown = 5 })
+pub tally_adds_lines : tally_with (1 ∷ 2 ∷ 500 ∷ 4 ∷ 8 ∷ 3 ∷ 4 ∷ 0 ∷ 0 ∷ 512 ∷ []) ≡ Ok (record { unspent = 500; spent = 521; unknown = 5 })
 unfolding tally_lines_of tally_lines add_lines how_many
 tally_adds_lines = refl
 
 -- "when a line's three counts do not add up to 512"
-pub tally_checks_lines : tally_with (1 ∷ 2 ∷ 500 ∷ 4 ∷ 8 ∷ 3 ∷ 4 ∷ 0 ∷ 0 ∷ 511 ∷ []) ≡ tallied.Refused 36
+pub tally_checks_lines : tally_with (1 ∷ 2 ∷ 500 ∷ 4 ∷ 8 ∷ 3 ∷ 4 ∷ 0 ∷ 0 ∷ 511 ∷ []) ≡ Err 36
 unfolding tally_lines_of tally_lines add_lines how_many
 tally_checks_lines = refl

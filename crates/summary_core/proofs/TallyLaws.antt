@@ -11,8 +11,8 @@ use borrow.Author.Tests.{eq-eqb, le-leb, le-ltb}
 use Rattle.index_types.specs.declared.ListCounts.{ListCounts}
 use Rattle.index_types.specs.declared.HeadCounts.{HeadCounts}
 use Rattle.index_types.specs.declared.Tally.{Tally}
-use Rattle.index_types.specs.declared.Tallied.{Tallied}
-use Rattle.index_types.specs.declared.Tallied.TheVariants.{Counts, Refused}
+use Rattle.std.specs.Prelude.{Ok, Err}
+use Rattle.index_types.specs.Answers.{Tallied}
 use Rattle.entries.specs.Tally.{figures, plus}
 use Rattle.entries.proofs.TallyLaws.{adds_up, figures_append, plus_none, plus_comm, plus_assoc}
 use Rattle.records.specs.Checks.{records_ok}
@@ -38,18 +38,18 @@ figures_right S n zs e =
 module _ (f : ℕ → RowRead) (sized : (i : ℕ) → Sized 512 (f i)) (S : List ℕ) where
   -- the lines of k rows from n up, on top of t
   lines_added : (n k : ℕ) (t : Tally) (all : List ℤ) → ((i : ℕ) (zs : List ℤ) → n ≤ i → i < n + k → f i ≡ good zs → line_at S i ≡ line_of zs)
-      → rows_up f n k ≡ good all → add_lines S n k t ≡ Counts (plus t (figures all))
+      → rows_up f n k ≡ good all → add_lines S n k t ≡ Ok (plus t (figures all))
   unfolding add_lines rows_up
   lines_added n zero t all right e =
       let q : [] ≡ all = cc in
-      ap Counts (sym (plus_none t)) ∙ ap (λ (l : List ℤ). Counts (plus t (figures l))) q
+      ap Ok (sym (plus_none t)) ∙ ap (λ (l : List ℤ). Ok (plus t (figures l))) q
   lines_added n (suc k) t all right e =
       by_row (f n) refl (rows_up f (n + 1) k) refl e (λ u ys g. lines_added (n + 1) k u ys (λ i zs p q r. right i zs (omega arith) (omega arith) r) g)
     where
       by_row : (r : RowRead) → f n ≡ r → (rest : RowRead) → rows_up f (n + 1) k ≡ rest → then_rows r rest ≡ good all
-          → ((u : Tally) (ys : List ℤ) → rows_up f (n + 1) k ≡ good ys → add_lines S (n + 1) k u ≡ Counts (plus u (figures ys)))
-          → cond (eqb ((figures_at S n).unspent + (figures_at S n).spent + (figures_at S n).unknown) 512) (add_lines S (n + 1) k (plus t (figures_at S n))) (Refused 36)
-          ≡ Counts (plus t (figures all))
+          → ((u : Tally) (ys : List ℤ) → rows_up f (n + 1) k ≡ good ys → add_lines S (n + 1) k u ≡ Ok (plus u (figures ys)))
+          → cond (eqb ((figures_at S n).unspent + (figures_at S n).spent + (figures_at S n).unknown) 512) (add_lines S (n + 1) k (plus t (figures_at S n))) (Err 36)
+          ≡ Ok (plus t (figures all))
       by_row (bad code) d rest g e ih = let z : ◌≡◌ {A = ℕ} 0 1 = cc in absurd (omega arith)
       by_row (good zs) d (bad code) g e ih = let z : ◌≡◌ {A = ℕ} 0 1 = cc in absurd (omega arith)
       by_row (good zs) d (good ys) g e ih =
@@ -58,8 +58,8 @@ module _ (f : ℕ → RowRead) (sized : (i : ℕ) → Sized 512 (f i)) (S : List
           let b : (figures_at S n).unspent + (figures_at S n).spent + (figures_at S n).unknown ≡ 512
           = ap (λ (x : Tally). x.unspent + x.spent + x.unknown) a ∙ adds_up zs ∙ subst (Sized 512) d (sized n) in
           rw (eq-eqb ((figures_at S n).unspent + (figures_at S n).spent + (figures_at S n).unknown) 512 b)
-          (ih (plus t (figures_at S n)) ys g ∙ ap (λ (x : Tally). Counts (plus (plus t x) (figures ys))) a
-          ∙ ap Counts (plus_assoc t (figures zs) (figures ys) ∙ ap (plus t) (sym (figures_append zs ys) ∙ ap figures q)))
+          (ih (plus t (figures_at S n)) ys g ∙ ap (λ (x : Tally). Ok (plus (plus t x) (figures ys))) a
+          ∙ ap Ok (plus_assoc t (figures zs) (figures ys) ∙ ap (plus t) (sym (figures_append zs ys) ∙ ap figures q)))
 
 module _ (E : Edition) (parent : List ℕ) (h : HeadCounts) (c : ListCounts) (staged : List ℕ) (e : ListCounts) (table : List ℕ) (head : List ℤ) (lines : ℕ) (S : List ℕ) where
   abbrev w : Sources
@@ -74,7 +74,7 @@ module _ (E : Edition) (parent : List ℕ) (h : HeadCounts) (c : ListCounts) (st
 
   module _ (p : Passing E parent h c staged e table head lines S) where
     abbrev total : Tallied
-    total = Counts (plus (figures (take h.len head)) (figures p.checks.numbers))
+    total = Ok (plus (figures (take h.len head)) (figures p.checks.numbers))
 
     over_lines : ((i : ℕ) (zs : List ℤ) → i < k → row_checked E w i ≡ good zs → line_at S i ≡ line_of zs) → tally_lines_of h head lines S ≡ total
     unfolding tally_lines_of tally_lines
@@ -86,7 +86,7 @@ module _ (E : Edition) (parent : List ℕ) (h : HeadCounts) (c : ListCounts) (st
     unfolding tally_of tally_core
     over_rows =
         rw (p.checks.fits, p.checks.in_order, p.checks.not_below, p.checks.rows)
-        (ap Counts (figures_append p.checks.numbers (take h.len head) ∙ plus_comm (figures p.checks.numbers) (figures (take h.len head))))
+        (ap Ok (figures_append p.checks.numbers (take h.len head) ∙ plus_comm (figures p.checks.numbers) (figures (take h.len head))))
 
     pub tally_plain : ((i : ℕ) (zs : List ℤ) → i < k → row_checked E w i ≡ good zs → line_at S i ≡ line_of zs)
         → tally_lines_of h head lines S ≡ tally_of E parent h c staged e table head

@@ -1,20 +1,17 @@
 -- A spend or an unspend with a summary (document 02, U8): "The search halves and walks over the summary and reads only rows it searches, so damage elsewhere goes
 -- unnoticed". 25, 9, 10, 11, 36, the head, then the lines; a row is read (12, 1 to 6, 34, 8, 35, 13) only where its line's last absolute value is not below the
 -- target; then 16, or 14 and 15.
-use Rattle.std.specs.Prelude.{ℕ, Bool, true, false, cond, ◌&&◌, List, ltb, leb, ℤ, nat_abs, take}
+use Rattle.std.specs.Prelude.{ℕ, Bool, true, false, cond, ◌&&◌, List, ltb, leb, ℤ, nat_abs, take, Ok, Err}
 use Rattle.index_types.specs.declared.ListCounts.{ListCounts}
 use Rattle.index_types.specs.declared.HeadCounts.{HeadCounts}
-use Rattle.index_types.specs.declared.Flipped.TheVariants.{Refused}
 use Rattle.signed.specs.Sign.{is_negative}
 use Rattle.entries.specs.Order.{order_ok}
 use Rattle.entries.specs.Flip.{position, flipped_at}
 use Rattle.entries.specs.declared.Position.{Position}
 use Rattle.entries.specs.declared.Position.TheVariants.{At, Seen, Absent}
 use Rattle.buffer_core.specs.declared.Direction.{Direction}
-use Rattle.buffer_core.specs.declared.Lead.{Lead}
-use Rattle.buffer_core.specs.declared.Lead.TheVariants.{Leads}
-use Rattle.buffer_core.specs.declared.Low.{Low}
-use Rattle.buffer_core.specs.declared.Low.TheVariants.{Upto, Broken}
+use Rattle.buffer_core.specs.Answers.{Lead}
+use Rattle.buffer_core.specs.Answers.{Low}
 use Rattle.buffer_core.specs.declared.Look.{Look}
 use Rattle.buffer_core.specs.declared.Look.TheVariants.{Stop, Fail}
 use Rattle.buffer_core.specs.declared.Walk.{Walk}
@@ -26,7 +23,7 @@ use Rattle.summary_core.specs.Lines.{at_line, line_of, put_line, lines_ok, WithS
 
 -- "The search halves .. over the summary": the first absolute value of a row, from its line
 abbrev pub line_lead : List ℕ → ℕ → Lead
-line_lead S n = Leads (at_line S n 0)
+line_lead S n = Ok (at_line S n 0)
 
 -- a row that is searched; `ends` says whether the walk ends behind it
 abbrev pub look_in_row : RowRead → (target : ℕ) (spend ends : Bool) → Look
@@ -35,8 +32,8 @@ look_in_row (bad code) target d ends = Fail code
 
 -- the walk from where the halving ended
 abbrev pub walk_after : (ℕ → Look) → (seen : Bool) → Low → Walk
-walk_after look seen (Upto low) = walk_from look low seen
-walk_after look seen (Broken code) = Failed code
+walk_after look seen (Ok low) = walk_from look low seen
+walk_after look seen (Err code) = Failed code
 
 -- a match in the head writes no line
 abbrev pub head_or_lines : Position → (Bool → WithSummary Effect) → List ℕ → WithSummary Effect
@@ -90,4 +87,4 @@ module _ (E : Edition) where
   unfoldable pub flip_lines_of : Direction → (parent : List ℕ) → HeadCounts → ℤ → ListCounts → (staged : List ℕ) → ListCounts → (table : List ℕ) → List ℤ → (lines : ℕ) → List ℕ → WithSummary Flipping
   flip_lines_of d parent h target c staged e table head lines S =
       cond (flip_ok E h c staged e table head && lines_ok lines S) (flip_lines_core d parent h target c staged e table head lines S)
-      (with_summary (flipping (Refused 25) head staged) S)
+      (with_summary (flipping (Err 25) head staged) S)

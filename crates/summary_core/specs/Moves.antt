@@ -1,14 +1,12 @@
 -- Box appends and box pops with a summary (document 02, U8): "Box appends, spends, unspends and box pops keep it current; a line they write is made anew from its
 -- row, a vacated line is set to zero." "36 when the summary has fewer lines than the box spill count, tested after 11, or when a box append spills and the lent
 -- summary has no free line, tested after 18". For an append 25, 11, 36, 17, 18, 36, 16; for a pop 25, 11, 36, 19 and the rest as without a summary.
-use Rattle.std.specs.Prelude.{ℕ, ◌-◌, Bool, not, cond, ◌&&◌, ◌||◌, List, ltb, leb, ℤ, nat_abs, take}
+use Rattle.std.specs.Prelude.{ℕ, ◌-◌, Bool, not, cond, ◌&&◌, ◌||◌, List, ltb, leb, ℤ, nat_abs, take, Ok, Err}
 use Rattle.index_types.specs.Limits.{segment_threshold, spill_limit}
 use Rattle.index_types.specs.declared.ListCounts.{ListCounts}
 use Rattle.index_types.specs.declared.HeadCounts.{HeadCounts}
-use Rattle.index_types.specs.declared.Appended.{Appended}
-use Rattle.index_types.specs.declared.Appended.TheVariants as appended
-use Rattle.index_types.specs.declared.Popped.{Popped}
-use Rattle.index_types.specs.declared.Popped.TheVariants as popped
+use Rattle.index_types.specs.Answers.{Appended}
+use Rattle.index_types.specs.Answers.{Popped}
 use Rattle.signed.specs.Sign.{is_negative}
 use Rattle.segment_id.specs.declared.Kind.TheVariants.{Box}
 use Rattle.buffer_core.specs.Edition.{Edition}
@@ -30,9 +28,9 @@ no_free_line h number lines =
 
 -- the summary after an append without one: an accepted append to a full head made a row of the head's 512 numbers, "a line they write is made anew from its row"
 abbrev pub summary_appended : Appended → HeadCounts → List ℤ → List ℕ → List ℕ
-summary_appended (appended.Done h' c) h head S =
+summary_appended (Ok (h', c)) h head S =
     cond (ltb h.len segment_threshold) S (put_line (nat_abs h.spills) (line_of (take segment_threshold head)) S)
-summary_appended (appended.Refused code) h head S = S
+summary_appended (Err code) h head S = S
 
 abbrev pub after_append : Appending → HeadCounts → List ℤ → List ℕ → WithSummary Appending
 after_append o h head S = with_summary o (summary_appended o.answer h head S)
@@ -41,8 +39,8 @@ after_append o h head S = with_summary o (summary_appended o.answer h head S)
 
 -- the summary after a pop without one: an accepted pop from an empty head took the newest row, "a vacated line is set to zero"
 abbrev pub summary_popped : Popped → HeadCounts → List ℕ → List ℕ
-summary_popped (popped.Number n h' c d) h S = cond (ltb 0 h.len) S (put_line (nat_abs h.spills - 1) no_line S)
-summary_popped (popped.Refused code) h S = S
+summary_popped (Ok (n, h', c, d)) h S = cond (ltb 0 h.len) S (put_line (nat_abs h.spills - 1) no_line S)
+summary_popped (Err code) h S = S
 
 abbrev pub after_pop : Popping → HeadCounts → List ℕ → WithSummary Popping
 after_pop o h S = with_summary o (summary_popped o.answer h S)
@@ -51,21 +49,21 @@ module _ (E : Edition) where
   -- both 36, then the append as it is without a summary
   unfoldable pub append_lines : (parent : List ℕ) → HeadCounts → ℤ → ListCounts → List ℤ → (staged : List ℕ) → (lines : ℕ) → List ℕ → WithSummary Appending
   append_lines parent h number c head staged lines S =
-      cond (too_few_lines h lines || no_free_line h number lines) (with_summary (appending (appended.Refused 36) head staged) S)
+      cond (too_few_lines h lines || no_free_line h number lines) (with_summary (appending (Err 36) head staged) S)
       (after_append (append_core E Box parent h number c head staged) h head S)
 
   unfoldable pub append_lines_of : (parent : List ℕ) → HeadCounts → ℤ → ListCounts → List ℤ → (staged : List ℕ) → (lines : ℕ) → List ℕ → WithSummary Appending
   append_lines_of parent h number c head staged lines S =
       cond (append_ok E h c head staged && lines_ok lines S) (append_lines parent h number c head staged lines S)
-      (with_summary (appending (appended.Refused 25) head staged) S)
+      (with_summary (appending (Err 25) head staged) S)
 
   -- 36, then the pop as it is without a summary
   unfoldable pub pop_lines : (parent : List ℕ) → HeadCounts → Lists → List ℤ → (lines : ℕ) → List ℕ → WithSummary Popping
   pop_lines parent h b head lines S =
-      cond (too_few_lines h lines) (with_summary (popping (popped.Refused 36) head b.staged b.deleted) S)
+      cond (too_few_lines h lines) (with_summary (popping (Err 36) head b.staged b.deleted) S)
       (after_pop (pop_core E Box parent h b head) h S)
 
   unfoldable pub pop_lines_of : (parent : List ℕ) → HeadCounts → Lists → List ℤ → (lines : ℕ) → List ℕ → WithSummary Popping
   pop_lines_of parent h b head lines S =
       cond (pop_ok E h b head && lines_ok lines S) (pop_lines parent h b head lines S)
-      (with_summary (popping (popped.Refused 25) head b.staged b.deleted) S)
+      (with_summary (popping (Err 25) head b.staged b.deleted) S)

@@ -16,10 +16,9 @@ use Rattle.entries.specs.declared.Position.TheVariants.{At, Seen, Absent}
 use Rattle.index_types.specs.declared.ListCounts.{ListCounts}
 use Rattle.index_types.specs.declared.HeadCounts.{HeadCounts}
 use Rattle.index_types.specs.declared.RowEdition.{RowEdition}
-use Rattle.index_types.specs.declared.Flipped.{Flipped}
-use Rattle.index_types.specs.declared.Flipped.TheVariants.{Done, Refused}
+use Rattle.std.specs.Prelude.{Ok, Err}
+use Rattle.index_types.specs.Answers.{Flipped}
 use Rattle.buffer_core.specs.declared.Direction.{Direction}
-use Rattle.buffer_core.specs.declared.Low.TheVariants.{Upto}
 use Rattle.buffer_core.specs.Edition.{edition_of}
 use Rattle.buffer_core.specs.Spills.{Sources, sources}
 use Rattle.buffer_core.specs.Flip.{search_in, walk_from, Flipping, flipping, spends}
@@ -30,7 +29,7 @@ use Rattle.summary_take.specs.Internal.{StagesLines}
 module _ (v : RowEdition) (w : Sources) (c : ListCounts) (staged S : List ℕ) (t : ℕ) (d : Bool) (spills : ℕ) where
   -- ---- the lines
 
-  pub lines_walked : (seen : Bool) (low : ℕ) → Upto low ≡ search_in (line_lead S) t 0 spills → (r : Flipped) (staged' S' : List ℕ)
+  pub lines_walked : (seen : Bool) (low : ℕ) → Ok low ≡ search_in (line_lead S) t 0 spills → (r : Flipped) (staged' S' : List ℕ)
       → StagesLines v (after_lines (edition_of v) w c.capacity S (walk_from (line_look (edition_of v) w S t d) low seen)) c staged r staged' S'
       → StagesLines v (in_lines (edition_of v) w c.capacity t d spills S seen) c staged r staged' S'
   unfolding in_lines walk_lines
@@ -42,7 +41,7 @@ module _ (v : RowEdition) (w : Sources) (c : ListCounts) (staged S : List ℕ) (
     abbrev out : WithSummary Flipping
     out = done_lines (edition_of v) (head_or_lines (position d t (take n head) 0 false) (in_lines (edition_of v) w c.capacity t d spills S) S) c head staged
 
-    pub order_head : (i : ℕ) (head' : List ℤ) → p ≡ At i → head' ≡ flipped_at (At i) head → with_summary (flipping (Done c) head' staged) S ≡ out
+    pub order_head : (i : ℕ) (head' : List ℤ) → p ≡ At i → head' ≡ flipped_at (At i) head → with_summary (flipping (Ok c) head' staged) S ≡ out
     order_head i head' q h = rw (sym e ∙ q, h)
 
     module _ (r : Flipped) (staged' S' : List ℕ) where
@@ -59,7 +58,7 @@ module _ (v : RowEdition) (d : Direction) (parent : List ℕ) (h : HeadCounts) (
   abbrev whole : WithSummary Flipping
   whole = flip_lines_core (edition_of v) d parent h z c staged e table head lines S
 
-  pub flip_9 : 9223372036854775808 ≤ t → with_summary (flipping (Refused 9) head staged) S ≡ whole
+  pub flip_9 : 9223372036854775808 ≤ t → with_summary (flipping (Err 9) head staged) S ≡ whole
   unfolding flip_lines_core flip_lines
   flip_9 k = let q : 9223372036854775808 ≤ nat_abs z = omega arith in rw (le-leb 9223372036854775808 (nat_abs z) q)
 
@@ -67,17 +66,17 @@ module _ (v : RowEdition) (d : Direction) (parent : List ℕ) (h : HeadCounts) (
     target_least : leb 9223372036854775808 (nat_abs z) ≡ false
     target_least = lt-leb 9223372036854775808 (nat_abs z) (omega arith)
 
-    pub flip_10 : order_ok (take h.len head) ≡ false → with_summary (flipping (Refused 10) head staged) S ≡ whole
+    pub flip_10 : order_ok (take h.len head) ≡ false → with_summary (flipping (Err 10) head staged) S ≡ whole
     unfolding flip_lines_core flip_lines
     flip_10 o = rw (target_least, o)
 
     module _ (o : order_ok (take h.len head) ≡ true) where
-      pub flip_11 : is_negative h.spills ≡ true → with_summary (flipping (Refused 11) head staged) S ≡ whole
+      pub flip_11 : is_negative h.spills ≡ true → with_summary (flipping (Err 11) head staged) S ≡ whole
       unfolding flip_lines_core flip_lines
       flip_11 b = rw (target_least, o, b)
 
       module _ (b : is_negative h.spills ≡ false) (n : ℕ) (en : n ≡ nat_abs h.spills) where
-        pub flip_36 : lines < n → with_summary (flipping (Refused 36) head staged) S ≡ whole
+        pub flip_36 : lines < n → with_summary (flipping (Err 36) head staged) S ≡ whole
         unfolding flip_lines_core flip_lines
         flip_36 l = rw (target_least, o, b, ← en, lt-ltb lines n l)
 

@@ -80,7 +80,7 @@ fn flip_in_order(
     match position {
         Position::At(i) => {
             entry_flips::flip_at(head, i);
-            Flipped::Done(staged_counts)
+            Ok(staged_counts)
         }
         Position::Seen => flip_rows(
             edition,
@@ -136,17 +136,17 @@ pub fn flip(
     let spills = counts.spills;
     let table_count = table_counts.count;
     if 9223372036854775808 <= size {
-        return Flipped::Refused(refusal::TARGET_IS_MINIMUM);
+        return Err(refusal::TARGET_IS_MINIMUM);
     }
     if !entry_order::order_ok(head, len) {
-        return Flipped::Refused(refusal::HEAD_OUT_OF_ORDER);
+        return Err(refusal::HEAD_OUT_OF_ORDER);
     }
     if signed::is_negative_i32(spills) {
-        return Flipped::Refused(refusal::NEGATIVE_SPILL_COUNT);
+        return Err(refusal::NEGATIVE_SPILL_COUNT);
     }
     let rows = signed::usize_from_i32(spills);
     if lines < rows {
-        return Flipped::Refused(refusal::SUMMARY_TOO_SHORT);
+        return Err(refusal::SUMMARY_TOO_SHORT);
     }
     flip_in_order(
         edition,

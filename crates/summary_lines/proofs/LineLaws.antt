@@ -1,13 +1,12 @@
 -- Laws of a line: its five numbers stored one after the other, and made of a list's first 512 numbers.
 use Prim.Native.Nat.{ℕ, suc, ◌+◌, ◌*◌, ◌≤◌}
-use mathlib.Core.Path.{◌≡◌, refl, sym, ap, ◌∙◌}
+use mathlib.Core.Path.{◌≡◌, sym, ap, ◌∙◌}
 use mathlib.Core.List.{List, [], ◌∷◌}
 use native.Mathlib.Omega.{arith}
 use lib.IntN.{ℤ, pos, nat_abs}
 use lib.ListN.{length, take, get_or, set}
-use lib.Seq.{get_or-take, sets}
+use lib.Seq.{get_or-take}
 use Rattle.index_types.specs.declared.Tally.{Tally}
-use Rattle.stores.specs.Stores.{write}
 use Rattle.stores.proofs.StoreLaws.{sets_write}
 use Rattle.entries.specs.Tally.{figures}
 use Rattle.summary_core.specs.Lines.{line_of, put_line}

@@ -72,12 +72,7 @@ pub fn clear_places(summary: &mut [u64], at: usize, n: usize)
     requires { at + n ≤ length summary.old }
     ensures { summary.new ≡ write at (replicate n 0) summary.old }
 {
-    let mut j = 0;
-    while j < n {
-        let o = at + j;
-        summary[o] = 0;
-        j += 1;
-    }
+    summary[at..at + n].fill(0);
 }
 
 // A number of a line.

@@ -43,8 +43,8 @@ pub fn is_done(appended: Appended) -> bool
     ensures { result ≡ is_done appended }
 {
     match appended {
-        Appended::Done(_, _) => true,
-        Appended::Refused(_) => false,
+        Ok((_, _)) => true,
+        Err(_) => false,
     }
 }
 
@@ -74,8 +74,8 @@ pub fn is_number(popped: Popped) -> bool
     ensures { result ≡ is_number popped }
 {
     match popped {
-        Popped::Number(_, _, _, _) => true,
-        Popped::Refused(_) => false,
+        Ok((_, _, _, _)) => true,
+        Err(_) => false,
     }
 }
 

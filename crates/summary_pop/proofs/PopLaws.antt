@@ -9,8 +9,8 @@ use lib.IntN.{ℤ, nat_abs}
 use borrow.Author.Tests.{lt-ltb, le-ltb, ltb-false, eqb-false}
 use Rattle.signed.specs.Sign.{is_negative}
 use Rattle.index_types.specs.declared.HeadCounts.{HeadCounts}
-use Rattle.index_types.specs.declared.Popped.{Popped}
-use Rattle.index_types.specs.declared.Popped.TheVariants.{Number, Refused}
+use Rattle.std.specs.Prelude.{Ok, Err}
+use Rattle.index_types.specs.Answers.{Popped}
 use Rattle.segment_id.specs.declared.Kind.TheVariants.{Box}
 use Rattle.buffer_core.specs.Edition.{Edition}
 use Rattle.buffer_core.specs.Append.{counts_of}
@@ -39,9 +39,9 @@ module _ (E : Edition) (parent : List ℕ) (h : HeadCounts) (b : Lists) (head : 
       (ap (λ (x : Popping). is_number x.answer) (sym e) ∙ sym q ∙ t) enough
     where
       by_tests : (a : Bool) → is_negative h.spills ≡ a → (u : Bool) → u ≡ false → (z : Bool) → eqb (nat_abs h.spills) 0 ≡ z → (f : Bool) → ltb lines (nat_abs h.spills) ≡ f
-          → is_number (cond a (popping (Refused 11) head b.staged b.deleted) (cond u
-          (popping (Number (last_of h.len head) (counts_of (h.len - 1) h.spills) b.staged_counts b.deleted_counts) (without_last h.len head) b.staged b.deleted)
-          (cond z (popping (Refused 19) head b.staged b.deleted) (unspill_of E Box parent (nat_abs h.spills - 1) b head)))).answer ≡ true
+          → is_number (cond a (popping (Err 11) head b.staged b.deleted) (cond u
+          (popping (Ok (last_of h.len head, counts_of (h.len - 1) h.spills, b.staged_counts, b.deleted_counts)) (without_last h.len head) b.staged b.deleted)
+          (cond z (popping (Err 19) head b.staged b.deleted) (unspill_of E Box parent (nat_abs h.spills - 1) b head)))).answer ≡ true
           → (not a && f) ≡ false → Vacates lines
       by_tests true p u w z y f r s t = nope (cc)
       by_tests false p true w z y f r s t = nope (cc)
@@ -60,13 +60,13 @@ module _ (E : Edition) (parent : List ℕ) (h : HeadCounts) (b : Lists) (head : 
   empty_after o e k d q S S' w = ap (with_summary o) (w ∙ by_answer o.answer q) ∙ ap (λ (x : Popping). after_pop x h S) e
     where
       by_answer : (a : Popped) → d ≡ is_number a → cond d (put_line (nat_abs h.spills - 1) no_line S) S ≡ summary_popped a h S
-      by_answer (Number z h' c' d') q = rw (q, le-ltb 0 h.len k)
-      by_answer (Refused code) q = rw q
+      by_answer (Ok (z, h', c', d')) q = rw (q, le-ltb 0 h.len k)
+      by_answer (Err code) q = rw q
 
   -- ---- the ways out
 
   module _ (lines : ℕ) (S : List ℕ) where
-    pub pop_36 : too_few_lines h lines ≡ true → with_summary (popping (Refused 36) head b.staged b.deleted) S ≡ pop_lines E parent h b head lines S
+    pub pop_36 : too_few_lines h lines ≡ true → with_summary (popping (Err 36) head b.staged b.deleted) S ≡ pop_lines E parent h b head lines S
     unfolding pop_lines
     pop_36 e = rw e
 
@@ -76,8 +76,8 @@ module _ (E : Edition) (parent : List ℕ) (h : HeadCounts) (b : Lists) (head : 
       pop_last k o q = rw e (ap (with_summary o) (by_answer o.answer) ∙ ap (λ (x : Popping). after_pop x h S) q)
         where
           by_answer : (a : Popped) → S ≡ summary_popped a h S
-          by_answer (Number z h' c' d') = rw (lt-ltb 0 h.len k)
-          by_answer (Refused code) = refl
+          by_answer (Ok (z, h', c', d')) = rw (lt-ltb 0 h.len k)
+          by_answer (Err code) = refl
 
       pub pop_row : (x : WithSummary Popping) → x ≡ after_pop plain h S → x ≡ pop_lines E parent h b head lines S
       unfolding pop_lines

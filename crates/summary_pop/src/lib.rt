@@ -76,7 +76,7 @@ pub fn pop(
 {
     let len = counts.len;
     if summary_moves::too_few_lines(counts, lines) {
-        return Popped::Refused(refusal::SUMMARY_TOO_SHORT);
+        return Err(refusal::SUMMARY_TOO_SHORT);
     }
     if 0 < len {
         return pop_core::pop(

@@ -14,15 +14,14 @@ use Rattle.stores.proofs.StoreLaws.{length_write, write_write}
 use Rattle.signed.specs.Sign.{is_negative}
 use Rattle.entries.specs.Order.{order_ok}
 use Rattle.records.proofs.CheckLaws.{and_left}
-use Rattle.index_types.specs.declared.Summarized.{Summarized}
-use Rattle.index_types.specs.declared.Summarized.TheVariants.{Done, Refused}
+use Rattle.std.specs.Prelude.{Ok, Err}
+use Rattle.index_types.specs.Answers.{Summarized}
 use Rattle.segment_id.specs.declared.Kind.TheVariants.{Box}
 use Rattle.buffer_core.specs.Edition.{Edition, RowRead, good, bad}
 use Rattle.buffer_core.specs.Spills.{Sources, spill_read}
 use Rattle.buffer_core.specs.Rows.{then_rows, rows_up}
 use Rattle.buffer_core.specs.Flip.{check_row, row_checked}
-use Rattle.spill_rows.specs.declared.Read.{Read}
-use Rattle.spill_rows.specs.declared.Read.TheVariants.{Good, Faulty}
+use Rattle.spill_rows.specs.Answers.{Read}
 use Rattle.spill_rows.specs.Internal.{CheckedInto, read_of}
 use Rattle.spill_rows.proofs.CheckedLaws.{nope, faulty}
 use Rattle.summary_core.specs.Lines.{line_of, put_line, WithSummary, with_summary}
@@ -34,19 +33,15 @@ use Rattle.summary_rows.specs.Internal.{row_line, row_lines}
 
 module _ (x : RowRead) (r : Read) (out : List ℤ) (s : CheckedInto x r out) (n : ℕ) (S S' : List ℕ) where
   -- l is what a local holds of the line
-  pub row_written : r ≡ Good → take 512 out ≡ out → (l : List ℕ) → l ≡ line_of (take 512 out) → S' ≡ put_line n l S → S' ≡ row_line x n S
+  pub row_written : r ≡ (Ok tt) → take 512 out ≡ out → (l : List ℕ) → l ≡ line_of (take 512 out) → S' ≡ put_line n l S → S' ≡ row_line x n S
   row_written e q l p h = h ∙ rw (s.numbers e) (ap (λ (m : List ℕ). put_line n m S) (p ∙ ap line_of q))
 
-pub row_unwritten : (x : RowRead) (r : Read) (out : List ℤ) → CheckedInto x r out → (n : ℕ) (S : List ℕ) (code : ℕ) → r ≡ Faulty code → S ≡ row_line x n S
+pub row_unwritten : (x : RowRead) (r : Read) (out : List ℤ) → CheckedInto x r out → (n : ℕ) (S : List ℕ) (code : ℕ) → r ≡ Err code → S ≡ row_line x n S
 row_unwritten x r out s n S code e = rw (faulty x r out s code e)
 
 pub put_line_long : (n : ℕ) (l S : List ℕ) → length l ≡ 5 → n * 5 + 5 ≤ length S → length (put_line n l S) ≡ length S
 unfolding put_line
 put_line_long n l S e h = length_write (n * 5) l S (omega arith)
-
-pub row_line_long : (x : RowRead) (n : ℕ) (S : List ℕ) → n * 5 + 5 ≤ length S → length (row_line x n S) ≡ length S
-row_line_long (good zs) n S h = put_line_long n (line_of zs) S (length_line zs) h
-row_line_long (bad code) n S h = refl
 
 -- ---- a turn of the loop, and its end
 
@@ -57,13 +52,6 @@ row_turn f n m S S' h e = let k : m - n ≡ suc (m - (n + 1)) = omega arith in r
 pub row_past : (f : ℕ → RowRead) (n m : ℕ) (S : List ℕ) → m ≤ n → row_lines f n (m - n) S ≡ S
 unfolding row_lines
 row_past f n m S h = let k : m - n ≡ 0 = omega arith in rw k
-
-pub row_lines_long : (f : ℕ → RowRead) (n k : ℕ) (S : List ℕ) → (n + k) * 5 ≤ length S → length (row_lines f n k S) ≡ length S
-unfolding row_lines
-row_lines_long f n zero S h = refl
-row_lines_long f n (suc k) S h =
-    let a : length (row_line (f n) n S) ≡ length S = row_line_long (f n) n S (omega arith) in
-    row_lines_long f (n + 1) k (row_line (f n) n S) (omega arith) ∙ a
 
 -- ---- rows that pass: the lines of all of them
 
@@ -119,12 +107,12 @@ module _ (E : Edition) (w : Sources) where
   -- ---- the summary that is left
 
   module _ (spills lines : ℕ) (S : List ℕ) where
-    pub made_good : spills ≤ lines → lines * 5 ≤ length S → Good ≡ read_of (rows_up f 0 spills) → (S' : List ℕ)
+    pub made_good : spills ≤ lines → lines * 5 ≤ length S → (Ok tt) ≡ read_of (rows_up f 0 spills) → (S' : List ℕ)
         → S' ≡ write (spills * 5) (replicate ((lines - spills) * 5) 0) (row_lines f 0 spills S)
-        → with_summary Done S' ≡ put_lines (rows_up f 0 spills) spills lines S
+        → with_summary (Ok tt) S' ≡ put_lines (rows_up f 0 spills) spills lines S
     made_good few room e S' q = by_rows (rows_up f 0 spills) refl e
       where
-        by_rows : (x : RowRead) → rows_up f 0 spills ≡ x → Good ≡ read_of x → with_summary Done S' ≡ put_lines x spills lines S
+        by_rows : (x : RowRead) → rows_up f 0 spills ≡ x → (Ok tt) ≡ read_of x → with_summary (Ok tt) S' ≡ put_lines x spills lines S
         by_rows (bad code) r e = nope (cc)
         by_rows (good rows) r e =
             let z : List ℕ = replicate ((lines - spills) * 5) 0 in
@@ -133,29 +121,29 @@ module _ (E : Edition) (w : Sources) where
             let a : row_lines f 0 spills S ≡ write 0 (lines_of spills rows) S = all_lines 0 spills S (omega arith) rows r in
             let b : write (spills * 5) z (write 0 (lines_of spills rows) S) ≡ write 0 (lines_of spills rows ++ z) S
             = write_write 0 (spills * 5) (lines_of spills rows) z S (omega arith) (omega arith) in
-            ap (with_summary Done) (q ∙ ap (write (spills * 5) z) a ∙ b)
+            ap (with_summary (Ok tt)) (q ∙ ap (write (spills * 5) z) a ∙ b)
 
-    pub made_bad : (code : ℕ) → Faulty code ≡ read_of (rows_up f 0 spills) → with_summary (Refused code) S ≡ put_lines (rows_up f 0 spills) spills lines S
+    pub made_bad : (code : ℕ) → Err code ≡ read_of (rows_up f 0 spills) → with_summary (Err code) S ≡ put_lines (rows_up f 0 spills) spills lines S
     made_bad code e = by_rows (rows_up f 0 spills) e
       where
-        by_rows : (x : RowRead) → Faulty code ≡ read_of x → with_summary (Refused code) S ≡ put_lines x spills lines S
+        by_rows : (x : RowRead) → Err code ≡ read_of x → with_summary (Err code) S ≡ put_lines x spills lines S
         by_rows (good rows) e = nope (cc)
-        by_rows (bad d) e = let z : code ≡ d = cc in ap (λ (c : ℕ). with_summary (Refused c) S) z
+        by_rows (bad d) e = let z : code ≡ d = cc in ap (λ (c : ℕ). with_summary (Err c) S) z
 
   -- ---- the ways out
 
   module _ (spills : ℤ) (zs : List ℤ) (lines : ℕ) (S : List ℕ) where
-    pub made_10 : order_ok zs ≡ false → with_summary (Refused 10) S ≡ summary_core E w spills zs lines S
+    pub made_10 : order_ok zs ≡ false → with_summary (Err 10) S ≡ summary_core E w spills zs lines S
     unfolding summary_core
     made_10 e = rw e
 
     module _ (e : order_ok zs ≡ true) where
-      pub made_11 : is_negative spills ≡ true → with_summary (Refused 11) S ≡ summary_core E w spills zs lines S
+      pub made_11 : is_negative spills ≡ true → with_summary (Err 11) S ≡ summary_core E w spills zs lines S
       unfolding summary_core
       made_11 d = rw (e, d)
 
       module _ (d : is_negative spills ≡ false) (n : ℕ) (a : n ≡ nat_abs spills) where
-        pub made_36 : lines < n → with_summary (Refused 36) S ≡ summary_core E w spills zs lines S
+        pub made_36 : lines < n → with_summary (Err 36) S ≡ summary_core E w spills zs lines S
         unfolding summary_core
         made_36 h = rw (e, d, ← a, lt-ltb lines n h)
 

@@ -20,7 +20,6 @@ use index_types::{
     HeadCounts, ListCounts, RowEdition, SEGMENT_THRESHOLD, SUMMARY_LINE, Summarized,
 };
 use record_hints::{FEW_RECORDS, HINTS};
-use spill_rows::Read;
 
 // Writes the line of the row of a spill number. A refused row writes nothing; none is met, since all are checked before.
 fn put_row<'a>(
@@ -52,11 +51,11 @@ fn put_row<'a>(
         &mut row,
     );
     match read {
-        Read::Good => {
+        Ok(()) => {
             let line = summary_lines::line_of(&row);
             summary_lines::put_line(summary, number, line);
         }
-        Read::Faulty(_) => {}
+        Err(_) => {}
     }
 }
 
@@ -77,8 +76,7 @@ fn put_rows<'a>(
     ensures { summary.new
         ≡ row_lines (row_checked (edition_of edition) (sources parent.now staged.now staged_count table.now table_count)) 0 spills summary.old }
 {
-    let mut n = 0;
-    while n < spills {
+    for n in 0..spills {
         put_row(
             edition,
             parent,
@@ -90,7 +88,6 @@ fn put_rows<'a>(
             hints,
             summary,
         );
-        n += 1;
     }
 }
 
@@ -158,7 +155,7 @@ fn summarize_hinted<'a>(
         hints,
     );
     match read {
-        Read::Good => {
+        Ok(()) => {
             put_lines(
                 edition,
                 parent,
@@ -171,9 +168,9 @@ fn summarize_hinted<'a>(
                 lines,
                 summary,
             );
-            Summarized::Done
+            Ok(())
         }
-        Read::Faulty(code) => Summarized::Refused(code),
+        Err(code) => Err(code),
     }
 }
 
@@ -248,14 +245,14 @@ pub fn summarize<'a>(
     let len = counts.len;
     let spills = counts.spills;
     if !entry_order::order_ok(head, len) {
-        return Summarized::Refused(refusal::HEAD_OUT_OF_ORDER);
+        return Err(refusal::HEAD_OUT_OF_ORDER);
     }
     if signed::is_negative_i32(spills) {
-        return Summarized::Refused(refusal::NEGATIVE_SPILL_COUNT);
+        return Err(refusal::NEGATIVE_SPILL_COUNT);
     }
     let rows = signed::usize_from_i32(spills);
     if lines < rows {
-        return Summarized::Refused(refusal::SUMMARY_TOO_SHORT);
+        return Err(refusal::SUMMARY_TOO_SHORT);
     }
     summarize_spills(
         edition,

@@ -13,8 +13,8 @@ use Rattle.entries.specs.Flip.{flipped_at}
 use Rattle.entries.specs.declared.Position.TheVariants.{At}
 use Rattle.index_types.specs.declared.ListCounts.{ListCounts}
 use Rattle.index_types.specs.declared.RowEdition.{RowEdition}
-use Rattle.index_types.specs.declared.Flipped.{Flipped}
-use Rattle.index_types.specs.declared.Flipped.TheVariants.{Done, Refused}
+use Rattle.std.specs.Prelude.{Ok, Err}
+use Rattle.index_types.specs.Answers.{Flipped}
 use Rattle.records.specs.declared.Place.{Place}
 use Rattle.records.specs.declared.Place.TheVariants.{Staged, Table, Missing}
 use Rattle.segment_id.specs.declared.Kind.TheVariants.{Box}
@@ -77,16 +77,16 @@ module _ (ed : RowEdition) (w : Sources) (c : ListCounts) (staged : List ℕ) (n
           let k : length row' ≡ 512 = ap length er ∙ length-set row at (neg_ℤ (get_or row at (pos 0))) ∙ long in
           el ∙ ap line_of (take_all 512 row' (omega arith) ∙ er)
 
-      refused : (code : ℕ) → r ≡ Refused code → S' ≡ S
+      refused : (code : ℕ) → r ≡ Err code → S' ≡ S
       refused code q = let f : d ≡ false = ed' ∙ ap is_done q in e ∙ rw f
 
-      done : (c' : ListCounts) → r ≡ Done c' → S' ≡ put_line n l S
+      done : (c' : ListCounts) → r ≡ Ok c' → S' ≡ put_line n l S
       done c' q = let f : d ≡ true = ed' ∙ ap is_done q in e ∙ rw f
 
       by_effect : (x : Effect) → Shelf x → flipping r head staged' ≡ done_by (edition_of ed) x c head staged
           → with_summary (flipping r head staged') S' ≡ with_summary (done_by (edition_of ed) x c head staged) (summary_staged (edition_of ed) w (Hit n at) x S)
       by_effect (refuse code) h q =
-          let a : r ≡ Refused code = ap (λ (y : Flipping). y.answer) q in
+          let a : r ≡ Err code = ap (λ (y : Flipping). y.answer) q in
           λ i. with_summary (q i) (refused code a i)
       by_effect (flip_head i) h q = absurd h
       by_effect (stage slot count key bytes) h q =

@@ -1,9 +1,8 @@
 -- What the steps of a spend or an unspend with a summary answer and leave.
-use Rattle.std.specs.Prelude.{ℕ, ◌≡◌, Bool, true, false, List, ℤ}
+use Rattle.std.specs.Prelude.{ℕ, ◌≡◌, Bool, true, false, List, ℤ, Ok, Err}
 use Rattle.index_types.specs.declared.ListCounts.{ListCounts}
 use Rattle.index_types.specs.declared.RowEdition.{RowEdition}
-use Rattle.index_types.specs.declared.Flipped.{Flipped}
-use Rattle.index_types.specs.declared.Flipped.TheVariants.{Done, Refused}
+use Rattle.index_types.specs.Answers.{Flipped}
 use Rattle.buffer_core.specs.Edition.{edition_of}
 use Rattle.buffer_core.specs.Flip.{Effect, flipping}
 use Rattle.summary_core.specs.Lines.{WithSummary, with_summary}
@@ -11,8 +10,8 @@ use Rattle.summary_core.specs.Flip.{done_lines}
 
 -- whether a row was staged
 abbrev pub is_done : Flipped → Bool
-is_done (Done c) = true
-is_done (Refused code) = false
+is_done (Ok c) = true
+is_done (Err code) = false
 
 -- the answer r, the staged spills and the summary at exit are what the effect and the summary after it say of them, and every head is left
 abbrev pub StagesLines : RowEdition → WithSummary Effect → ListCounts → (staged : List ℕ) → Flipped → (staged' S' : List ℕ) → Type 0

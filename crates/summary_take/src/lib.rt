@@ -23,8 +23,8 @@ fn is_done(flipped: Flipped) -> bool
     ensures { result ≡ is_done flipped }
 {
     match flipped {
-        Flipped::Done(_) => true,
-        Flipped::Refused(_) => false,
+        Ok(_) => true,
+        Err(_) => false,
     }
 }
 

@@ -17,15 +17,15 @@ fn counts_at(summary: &[u64], number: usize) -> Tallied
     let zeros = summary_lines::number_at(summary, number, 3) as usize;
     let below = summary_lines::number_at(summary, number, 4) as usize;
     if SEGMENT_THRESHOLD < above {
-        return Tallied::Refused(refusal::SUMMARY_TOO_SHORT);
+        return Err(refusal::SUMMARY_TOO_SHORT);
     }
     if SEGMENT_THRESHOLD - above < below {
-        return Tallied::Refused(refusal::SUMMARY_TOO_SHORT);
+        return Err(refusal::SUMMARY_TOO_SHORT);
     }
     if SEGMENT_THRESHOLD - above - below != zeros {
-        return Tallied::Refused(refusal::SUMMARY_TOO_SHORT);
+        return Err(refusal::SUMMARY_TOO_SHORT);
     }
-    Tallied::Counts(Tally {
+    Ok(Tally {
         unspent: above,
         spent: below,
         unknown: zeros,
@@ -39,20 +39,18 @@ fn add_lines(summary: &[u64], spills: usize, so_far: Tally) -> Tallied
     ensures { result ≡ add_lines summary.now 0 spills so_far }
 {
     let mut t = so_far;
-    let mut n = 0;
-    while n < spills {
+    for n in 0..spills {
         let line = counts_at(summary, n);
         match line {
-            Tallied::Counts(more) => {
+            Ok(more) => {
                 t = tally_core::plus(t, more);
             }
-            Tallied::Refused(code) => {
-                return Tallied::Refused(code);
+            Err(code) => {
+                return Err(code);
             }
         }
-        n += 1;
     }
-    Tallied::Counts(t)
+    Ok(t)
 }
 
 // 10, 11, 36, then the head's entries and the lines.
@@ -63,14 +61,14 @@ pub fn tally_lines(counts: HeadCounts, head: &[i64], lines: usize, summary: &[u6
     let len = counts.len;
     let spills = counts.spills;
     if !entry_order::order_ok(head, len) {
-        return Tallied::Refused(refusal::HEAD_OUT_OF_ORDER);
+        return Err(refusal::HEAD_OUT_OF_ORDER);
     }
     if signed::is_negative_i32(spills) {
-        return Tallied::Refused(refusal::NEGATIVE_SPILL_COUNT);
+        return Err(refusal::NEGATIVE_SPILL_COUNT);
     }
     let rows = signed::usize_from_i32(spills);
     if lines < rows {
-        return Tallied::Refused(refusal::SUMMARY_TOO_SHORT);
+        return Err(refusal::SUMMARY_TOO_SHORT);
     }
     add_lines(summary, rows, entry_tallies::tally_entries(head, len))
 }

@@ -13,8 +13,8 @@ use Rattle.entries.specs.declared.Position.{Position}
 use Rattle.entries.specs.declared.Position.TheVariants.{At, Seen, Absent}
 use Rattle.index_types.specs.declared.ListCounts.{ListCounts}
 use Rattle.index_types.specs.declared.RowEdition.{RowEdition}
-use Rattle.index_types.specs.declared.Flipped.{Flipped}
-use Rattle.index_types.specs.declared.Flipped.TheVariants.{Refused}
+use Rattle.std.specs.Prelude.{Err}
+use Rattle.index_types.specs.Answers.{Flipped}
 use Rattle.buffer_core.specs.declared.Look.{Look}
 use Rattle.buffer_core.specs.declared.Look.TheVariants as look
 use Rattle.buffer_core.specs.declared.Walk.{Walk}
@@ -56,8 +56,8 @@ module _ (v : RowEdition) (w : Sources) (n : ℕ) (c : ListCounts) (staged S : L
   -- ---- a row that is read; b says whether the walk ends behind it
 
   module _ (x : RowRead) (b : Bool) where
-    pub row_bad : (code : ℕ) → x ≡ bad code → Tries v w (look_in_row x t d b) n c staged S (Ended (Refused code)) staged S
-    row_bad code e = tries_ended (look_in_row x t d b) (Refused code) staged S (λ seen rest head. rw e)
+    pub row_bad : (code : ℕ) → x ≡ bad code → Tries v w (look_in_row x t d b) n c staged S (Ended (Err code)) staged S
+    row_bad code e = tries_ended (look_in_row x t d b) (Err code) staged S (λ seen rest head. rw e)
 
     -- p is what a local holds of the place of the entry
     module _ (out : List ℤ) (e : x ≡ good out) (whole : take 512 out ≡ out) (p : Position) (q : p ≡ position d t (take 512 out) 0 false) where
@@ -110,18 +110,18 @@ module _ (v : RowEdition) (w : Sources) (c : ListCounts) (staged S : List ℕ) (
   abbrev Comes : Walk → Flipped → (staged' S' : List ℕ) → Type 0
   Comes x r staged' S' = StagesLines v (after_lines (edition_of v) w c.capacity S x) c staged r staged' S'
 
-  none : (x : Walk) (b : Bool) → walk.Ended b ≡ x → (r : Flipped) → r ≡ Refused (cond b 14 15) → Comes x r staged S
+  none : (x : Walk) (b : Bool) → walk.Ended b ≡ x → (r : Flipped) → r ≡ Err (cond b 14 15) → Comes x r staged S
   none x b e r er head = rw (← e, er)
 
   module _ (from : ℕ) (seen : Bool) (low : ℕ) (saw : Bool) (inv : walk_from f from seen ≡ walk_from f low saw) where
-    pub walk_over : low ≤ 0 → (r : Flipped) → r ≡ Refused (cond saw 14 15) → Comes (walk_from f from seen) r staged S
+    pub walk_over : low ≤ 0 → (r : Flipped) → r ≡ Err (cond saw 14 15) → Comes (walk_from f from seen) r staged S
     walk_over h r er = none (walk_from f from seen) saw (walk_end f low saw h ∙ sym inv) r er
 
     module _ (h : 0 < low) (tried : Tried) (staged' S' : List ℕ) (s : Tries v w (f (low - 1)) (low - 1) c staged S tried staged' S') where
       pub walk_ended : (a : Flipped) → tried ≡ Ended a → Comes (walk_from f from seen) a staged' S'
       walk_ended a e = rw (inv ∙ walk_step f low saw h) (s.ended a e saw (λ b. walk_from f (low - 1) b))
 
-      pub walk_stopped : (z b : Bool) → tried ≡ Stop z → b ≡ (saw || z) → (r : Flipped) → r ≡ Refused (cond b 14 15) → Comes (walk_from f from seen) r staged' S'
+      pub walk_stopped : (z b : Bool) → tried ≡ Stop z → b ≡ (saw || z) → (r : Flipped) → r ≡ Err (cond b 14 15) → Comes (walk_from f from seen) r staged' S'
       walk_stopped z b e eb r er =
           let p = s.stops z e in
           rw (p.1, p.2) (none (walk_from f from seen) b (walk_stop f low saw h (f (low - 1)) refl z b p.0 eb ∙ sym inv) r er)

@@ -2,7 +2,7 @@
 use Rattle.std.specs.Prelude.{ℕ, ◌≡◌, Bool, true, false, List}
 use Rattle.index_types.specs.declared.ListCounts.{ListCounts}
 use Rattle.index_types.specs.declared.RowEdition.{RowEdition}
-use Rattle.index_types.specs.declared.Flipped.{Flipped}
+use Rattle.index_types.specs.Answers.{Flipped}
 use Rattle.buffer_core.specs.declared.Look.{Look}
 use Rattle.buffer_core.specs.declared.Look.TheVariants as look
 use Rattle.buffer_core.specs.declared.Walk.{Walk}

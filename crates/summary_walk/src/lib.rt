@@ -2,9 +2,8 @@
 // entry it is staged at once, under the key that it was found by.
 #![tactic(auto)]
 
-ghost use Rattle.std.specs.Prelude.{◌≡◌, cond, ◌+◌, ◌*◌, ◌≤◌, ◌<◌, ltb, length};
+ghost use Rattle.std.specs.Prelude.{◌≡◌, cond, ◌+◌, ◌*◌, ◌≤◌, ◌<◌, ltb, length, Err};
 ghost use Rattle.index_types.specs.Limits.{summary_line};
-ghost use Rattle.index_types.specs.declared.Flipped.TheVariants.{Refused};
 ghost use Rattle.buffer_core.specs.Edition.{edition_of};
 ghost use Rattle.buffer_core.specs.Spills.{sources};
 ghost use Rattle.buffer_core.specs.Flip.{walk_from, row_checked};
@@ -16,7 +15,6 @@ ghost use Rattle.summary_walk.specs.Internal.{past, Tries};
 use entries::Position;
 use index_types::{Flipped, ListCounts, RowEdition, SEGMENT_THRESHOLD};
 use segment_id::Kind;
-use spill_rows::Read;
 
 // What a line comes to: the call ends with an answer; the walk stops, or goes on, and whether the target was seen.
 #[derive(Clone, Copy)]
@@ -74,7 +72,7 @@ fn search_row(
         &mut row,
     );
     match read {
-        Read::Good => {
+        Ok(()) => {
             let position = entry_flips::flip_position(&row, SEGMENT_THRESHOLD, target, spend);
             match position {
                 Position::At(i) => Tried::Ended(summary_take::take_entry(
@@ -94,7 +92,7 @@ fn search_row(
                 Position::Absent => look_past(first, target, false),
             }
         }
-        Read::Faulty(code) => Tried::Ended(Flipped::Refused(code)),
+        Err(code) => Tried::Ended(Err(code)),
     }
 }
 
@@ -139,9 +137,9 @@ fn try_line(
 
 // The answer of a walk that took no entry.
 fn no_entry(seen: bool) -> Flipped
-    ensures { result ≡ Refused (cond seen 14 15) }
+    ensures { result ≡ Err (cond seen 14 15) }
 {
-    Flipped::Refused(flip_refusals::no_entry(seen))
+    Err(flip_refusals::no_entry(seen))
 }
 
 // The lines below a number, the newest first.
@@ -165,10 +163,8 @@ pub fn walk_down(
         (walk_from (line_look (edition_of edition) (sources parent.now staged.old staged_counts.count table.now table_count) summary.old target spend) from seen))
         staged_counts staged.old result staged.new summary.new }
 {
-    let mut low = from;
     let mut saw = seen;
-    while 0 < low {
-        low -= 1;
+    for low in (0..from).rev() {
         let tried = try_line(
             edition,
             parent,

@@ -6,8 +6,8 @@ use mathlib.Core.List.{List}
 use lib.IntN.{ℤ, nat_abs}
 use Rattle.signed.specs.Sign.{is_negative}
 use Rattle.index_types.specs.declared.Tally.{Tally}
-use Rattle.index_types.specs.declared.Tallied.{Tallied}
-use Rattle.index_types.specs.declared.Tallied.TheVariants.{Refused}
+use Rattle.std.specs.Prelude.{Err}
+use Rattle.index_types.specs.Answers.{Tallied}
 use Rattle.entries.specs.Order.{order_ok}
 use Rattle.entries.specs.Tally.{figures}
 use Rattle.buffer_core.specs.Edition.{Edition}
@@ -18,11 +18,11 @@ use Rattle.row_tallies.specs.Internal.{tally_rows}
 use Rattle.row_tallies.proofs.TallyLaws.{rows_then_head}
 
 module _ (E : Edition) (w : Sources) (spills : ℤ) (zs : List ℤ) where
-  pub tally_10 : order_ok zs ≡ false → Refused 10 ≡ tally_core E w spills zs
+  pub tally_10 : order_ok zs ≡ false → Err 10 ≡ tally_core E w spills zs
   unfolding tally_core
   tally_10 e = rw e
 
-  pub tally_11 : order_ok zs ≡ true → is_negative spills ≡ true → Refused 11 ≡ tally_core E w spills zs
+  pub tally_11 : order_ok zs ≡ true → is_negative spills ≡ true → Err 11 ≡ tally_core E w spills zs
   unfolding tally_core
   tally_11 e f = rw (e, f)
 

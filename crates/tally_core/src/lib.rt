@@ -80,10 +80,10 @@ pub fn tally<'a>(
     let len = counts.len;
     let spills = counts.spills;
     if !entry_order::order_ok(head, len) {
-        return Tallied::Refused(refusal::HEAD_OUT_OF_ORDER);
+        return Err(refusal::HEAD_OUT_OF_ORDER);
     }
     if signed::is_negative_i32(spills) {
-        return Tallied::Refused(refusal::NEGATIVE_SPILL_COUNT);
+        return Err(refusal::NEGATIVE_SPILL_COUNT);
     }
     count_spills(
         edition,

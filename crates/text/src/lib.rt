@@ -17,19 +17,17 @@ pub fn hex_digit(n: u8) -> u8
 }
 
 // Writes bytes in hex.
+#[tactic(auto, using(crate::proofs::TextLaws::hex_past, crate::proofs::TextLaws::hex_length))]
 pub fn put_hex(id: &[u8], out: &mut [u8], at: usize) -> usize
     requires { at + 2 * length id.now ≤ length out.old }
     ensures { Put (hex id.now) out.old at result out.new }
 {
     let mut o = at;
-    let mut i = 0;
-    while i < id.len() {
-        let b = id[i];
+    for &b in id {
         let p = o + 1;
         out[o] = hex_digit(b / 16);
         out[p] = hex_digit(b % 16);
         o += 2;
-        i += 1;
     }
     o
 }

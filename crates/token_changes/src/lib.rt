@@ -7,7 +7,6 @@ ghost use Rattle.balance_tokens.specs.Tokens.{id_at, place_of, closed_up, add_to
 
 use balance_tokens::Counted;
 use index_types::TOKEN_LIMIT;
-use signed::Checked;
 
 // The amount at a place of the first count leaves: later ones move up, a zero follows.
 fn close_amounts(sums: &mut [i64], at: usize, count: usize)
@@ -35,19 +34,19 @@ fn add_token(
     if at < count {
         let old = sums[at];
         match signed::checked_add(old, amount) {
-            Checked::Is(sum) => {
+            Some(sum) => {
                 sums[at] = sum;
-                return Counted::Count(count);
+                return Ok(count);
             }
-            Checked::Out => return Counted::Refused(refusal::AMOUNT_OUT_OF_RANGE),
+            None => return Err(refusal::AMOUNT_OUT_OF_RANGE),
         }
     }
     if count < TOKEN_LIMIT {
         token_ids::put_id(table, count, ids, j);
         sums[count] = amount;
-        return Counted::Count(count + 1);
+        return Ok(count + 1);
     }
-    Counted::Refused(refusal::TOO_MANY_TOKENS)
+    Err(refusal::TOO_MANY_TOKENS)
 }
 
 // Subtracts a token at `at`, the place that holds its id, which is dropped at 0 or below; an unknown id is ignored.
@@ -66,19 +65,19 @@ fn subtract_token(
     if at < count {
         let old = sums[at];
         match signed::checked_sub(old, amount) {
-            Checked::Is(rest) => {
+            Some(rest) => {
                 if rest <= 0 {
                     token_ids::close_ids(table, at, count);
                     close_amounts(sums, at, count);
-                    return Counted::Count(count - 1);
+                    return Ok(count - 1);
                 }
                 sums[at] = rest;
-                return Counted::Count(count);
+                return Ok(count);
             }
-            Checked::Out => return Counted::Refused(refusal::AMOUNT_OUT_OF_RANGE),
+            None => return Err(refusal::AMOUNT_OUT_OF_RANGE),
         }
     }
-    Counted::Count(count)
+    Ok(count)
 }
 
 // Finds a token's place, and adds or subtracts it there.
@@ -116,16 +115,13 @@ pub fn change_tokens(
     ensures { left_in result table.new sums.new ≡ change_tokens adding ids.now amounts.now 0 n (record { ids = table.old; amounts = sums.old; count = count }) }
 {
     let mut held = count;
-    let mut j = 0;
-    while j < n {
-        let amount = amounts[j];
-        match change_token(adding, table, sums, held, ids, j, amount) {
-            Counted::Count(m) => {
+    for j in 0..n {
+        match change_token(adding, table, sums, held, ids, j, amounts[j]) {
+            Ok(m) => {
                 held = m;
             }
-            Counted::Refused(code) => return Counted::Refused(code),
+            Err(code) => return Err(code),
         }
-        j += 1;
     }
-    Counted::Count(held)
+    Ok(held)
 }

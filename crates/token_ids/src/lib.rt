@@ -6,38 +6,29 @@ ghost use Rattle.stores.specs.Stores.{write};
 ghost use Rattle.stores.specs.Equal.{same_bytes};
 ghost use Rattle.balance_tokens.specs.Tokens.{id_at, place_of, closed_up};
 
-// Whether the id at place i of a is the one at place j of b. Most differ in the first byte; the rest is compared with no branch.
+// Whether the id at place i of a is the one at place j of b.
+#[tactic(auto, using(stores::proofs::EqualLaws::same_is_eq))]
 fn same_id(a: &[u8], i: usize, b: &[u8], j: usize) -> bool
     requires { (i * 32 + 32 ≤ length a.now) × (j * 32 + 32 ≤ length b.now) }
     ensures { result ≡ same_bytes (id_at a.now i) (id_at b.now j) }
 {
     let p = i * 32;
     let q = j * 32;
-    if a[p] != b[q] {
-        return false;
-    }
-    let mut same = true;
-    let mut k = 0;
-    while k < 32 {
-        same = same & (a[p + k] == b[q + k]);
-        k += 1;
-    }
-    same
+    a[p..p + 32] == b[q..q + 32]
 }
 
 // The first place below count that holds the id at place j of ids, or count.
+#[tactic(auto, using(balance_tokens::proofs::IdLaws::place_step, balance_tokens::proofs::IdLaws::place_end))]
 pub fn find(table: &[u8], count: usize, ids: &[u8], j: usize) -> usize
     requires { (count * 32 ≤ length table.now) × (j * 32 + 32 ≤ length ids.now) }
     ensures { result ≡ place_of (id_at ids.now j) table.now count }
 {
-    let mut i = 0;
-    while i < count {
+    for i in 0..count {
         if same_id(table, i, ids, j) {
             return i;
         }
-        i += 1;
     }
-    i
+    count
 }
 
 // Puts the id at place j of ids at place i of table.

@@ -36,27 +36,19 @@ pub fn compare_signed(x: i64, y: i64) -> Order
 }
 
 // How the id at place i of a compares with the one at place j of b, byte by byte.
+#[tactic(auto, using(crate::proofs::IdOrder::id_turn, crate::proofs::IdOrder::id_end))]
 pub fn compare_ids(a: &[u8], i: usize, b: &[u8], j: usize) -> Order
     requires { (i * 32 + 32 ≤ length a.now) × (j * 32 + 32 ≤ length b.now) }
     ensures { result ≡ of_ids (id_at a.now i) (id_at b.now j) }
 {
     let p = i * 32;
     let q = j * 32;
-    let mut k = 0;
-    while k < 32 {
-        let x = a[p + k];
-        let y = b[q + k];
-        let order = compare_bytes(x, y);
-        match order {
-            Order::Less => {
-                return Order::Less;
-            }
-            Order::Greater => {
-                return Order::Greater;
-            }
+    for k in 0..32 {
+        match compare_bytes(a[p + k], b[q + k]) {
+            Order::Less => return Order::Less,
+            Order::Greater => return Order::Greater,
             Order::Equal => {}
         }
-        k += 1;
     }
     Order::Equal
 }
@@ -102,15 +94,14 @@ fn better_place(
 }
 
 // The place of the least id above the one at place `last`, or of the least of all where none was taken; `count` where there is none.
+#[tactic(auto, using(crate::proofs::NextLaws::next_turn, crate::proofs::NextLaws::next_none))]
 fn next_place(ids: &[u8], count: usize, started: bool, last: usize) -> usize
     requires { (count * 32 ≤ length ids.now) × (last * 32 + 32 ≤ length ids.now) }
     ensures { Next ids.now count started last count result }
 {
     let mut best = count;
-    let mut i = 0;
-    while i < count {
+    for i in 0..count {
         best = better_place(ids, count, started, last, best, i);
-        i += 1;
     }
     best
 }

@@ -1,7 +1,7 @@
 -- A trial of staging sizes with made-up forks (document 02, U12): "a simulation that takes at most 4,096 signed 32-bit steps .., n, also 0, for "a block of n
 -- generated calls", -d for "a fork of d blocks", and runs them with the flush at every change". Once 25 and 38 have passed, the borrowed working buffers are all
 -- zero, so that what a trial answers depends on the numbers alone.
-use Rattle.std.specs.Prelude.{Bool, true, false, cond, ◌&&◌, ◌||◌, List, [], ◌∷◌, ℕ, zero, suc, ◌+◌, ◌*◌, ◌-◌, max, eqb, leb, ltb, ℤ, pos, negsuc, length, replicate}
+use Rattle.std.specs.Prelude.{Bool, true, false, cond, ◌&&◌, ◌||◌, List, [], ◌∷◌, ℕ, zero, suc, ◌+◌, ◌*◌, ◌-◌, max, eqb, leb, ltb, ℤ, pos, negsuc, length, replicate, Ok, Err}
 use Rattle.buffer_core.specs.declared.Direction.TheVariants.{Unspend}
 use Rattle.buffer_core.specs.Edition.{Edition, edition_1}
 use Rattle.buffer_core.specs.Pop.{lists}
@@ -11,8 +11,7 @@ use Rattle.call_steps.specs.State.{State, state, parent_ids, parent_numbers}
 use Rattle.call_steps.specs.Steps.{Stepping, step_of}
 use Rattle.load_core.specs.declared.Source.{Source}
 use Rattle.load_core.specs.Draw.{source, draws}
-use Rattle.index_types.specs.declared.TriedForks.{TriedForks}
-use Rattle.index_types.specs.declared.TriedForks.TheVariants.{Figures, Refused}
+use Rattle.index_types.specs.Answers.{TriedForks}
 
 -- "at most 4,096 signed 32-bit steps"
 abbrev pub step_limit : ℕ
@@ -171,12 +170,12 @@ abbrev pub start : (x table staged deleted : ℕ) → Trial
 start x T S D = record { now = zero_state T S D; gen = source x 0 0; standing = []; blocks = 0; side = neither; staged = 0; deleted = 0; answers = [] }
 
 abbrev pub figures : Going → TriedForks
-figures (on s) = Figures s.staged s.deleted
-figures (ended k) = Refused k
+figures (on s) = Ok (s.staged, s.deleted)
+figures (ended k) = Err k
 
 abbrev pub run_of : (x : ℕ) → List ℤ → (table staged deleted room : ℕ) → Going
 run_of x zs T S D room = steps_to edition_1 room zs (start x T S D)
 
 -- 38, then the run
 unfoldable pub tried : (x : ℕ) → List ℤ → (table staged deleted room : ℕ) → TriedForks
-tried x zs T S D room = cond (eqb x 0) (Refused 38) (figures (run_of x zs T S D room))
+tried x zs T S D room = cond (eqb x 0) (Err 38) (figures (run_of x zs T S D room))

@@ -7,21 +7,16 @@ use lib.Dec.{leb, ltb, eqb}
 use lib.IntN.{ℤ, pos, nat_abs}
 use lib.ListN.{length, take}
 use Rattle.signed.specs.Sign.{is_negative}
-use Rattle.records.specs.declared.Found.{Found}
-use Rattle.records.specs.declared.Found.TheVariants.{At, Nothing}
+use Rattle.std.specs.Prelude.{Option, Some, None, Ok, Err}
 use Rattle.index_types.specs.declared.ListCounts.{ListCounts}
 use Rattle.records.specs.Changes.{full_for}
 use Rattle.segment_id.specs.declared.Kind.{Kind}
 use Rattle.index_types.specs.declared.HeadCounts.{HeadCounts}
 use Rattle.buffer_core.specs.declared.Direction.{Direction}
-use Rattle.index_types.specs.declared.Appended.{Appended}
-use Rattle.index_types.specs.declared.Appended.TheVariants as appended
-use Rattle.index_types.specs.declared.Flipped.{Flipped}
-use Rattle.index_types.specs.declared.Flipped.TheVariants as flipped
-use Rattle.index_types.specs.declared.Popped.{Popped}
-use Rattle.index_types.specs.declared.Popped.TheVariants as popped
-use Rattle.index_types.specs.declared.Flushed.{Flushed}
-use Rattle.index_types.specs.declared.Flushed.TheVariants as flushed
+use Rattle.index_types.specs.Answers.{Appended}
+use Rattle.index_types.specs.Answers.{Flipped}
+use Rattle.index_types.specs.Answers.{Popped}
+use Rattle.index_types.specs.Answers.{Flushed}
 use Rattle.buffer_core.specs.Edition.{Edition, RowRead, bad, good}
 use Rattle.buffer_core.specs.Spills.{sources, spill_read}
 use Rattle.buffer_core.specs.Append.{Appending, append_of, append_core, spill_of, spilled, append_ok}
@@ -42,8 +37,8 @@ either P false x y p q = q
 
 module _ (E : Edition) where
   abbrev AppCap : ListCounts → Appended → Type 0
-  AppCap c (appended.Done h x) = x.capacity ≡ c.capacity
-  AppCap c (appended.Refused k) = Unit {0}
+  AppCap c (Ok (h, x)) = x.capacity ≡ c.capacity
+  AppCap c (Err k) = Unit {0}
 
   spilled_cap : (kind : Kind) (key parent : List ℕ) (n : ℕ) (z : ℤ) (c : ListCounts) (head : List ℤ) (l : List ℕ) → AppCap c (spilled E kind key parent n z c head l).answer
   unfolding spilled
@@ -60,8 +55,8 @@ module _ (E : Edition) where
       (either (λ (o : Appending). AppCap c o.answer) (full_for E.size c (E.key kind parent (pos (nat_abs h.spills))) l) _ _ tt (spilled_cap kind (E.key kind parent (pos (nat_abs h.spills))) parent (nat_abs h.spills) z c head l)))))) tt
 
   abbrev FlipCap : ListCounts → Flipped → Type 0
-  FlipCap c (flipped.Done x) = x.capacity ≡ c.capacity
-  FlipCap c (flipped.Refused k) = Unit {0}
+  FlipCap c (Ok x) = x.capacity ≡ c.capacity
+  FlipCap c (Err k) = Unit {0}
 
   done_cap : (f : Effect) (c : ListCounts) (head : List ℤ) (l : List ℕ) → FlipCap c (done_by E f c head l).answer
   done_cap (refuse k) c head l = tt
@@ -75,12 +70,12 @@ module _ (E : Edition) where
       (done_cap (flip_effect E (sources parent l c.count table t.count) c.capacity d z h.spills (take h.len head)) c head l) tt
 
   abbrev PopCap : Lists → Popped → Type 0
-  PopCap b (popped.Number z h x y) = (x.capacity ≡ b.staged_counts.capacity) × (y.capacity ≡ b.deleted_counts.capacity)
-  PopCap b (popped.Refused k) = Unit {0}
+  PopCap b (Ok (z, h, x, y)) = (x.capacity ≡ b.staged_counts.capacity) × (y.capacity ≡ b.deleted_counts.capacity)
+  PopCap b (Err k) = Unit {0}
 
-  without_cap : (f : Found) (c : ListCounts) → (count_without f c).capacity ≡ c.capacity
-  without_cap (At i) c = refl
-  without_cap Nothing c = refl
+  without_cap : (f : Option ℕ) (c : ListCounts) → (count_without f c).capacity ≡ c.capacity
+  without_cap (Some i) c = refl
+  without_cap None c = refl
 
   merge_cap : (r : RowRead) (key : List ℕ) (n : ℕ) (b : Lists) (head : List ℤ) → PopCap b (merge_of E r key n b head).answer
   unfolding merge_of merged
@@ -99,8 +94,8 @@ module _ (E : Edition) where
       (merge_cap (spill_read E kind (sources parent b.staged b.staged_counts.count b.table b.table_counts.count) (nat_abs h.spills - 1)) (E.key kind parent (pos (nat_abs h.spills - 1))) (nat_abs h.spills - 1) b head)))) tt
 
   abbrev FlushCap : Lists → Flushed → Type 0
-  FlushCap b (flushed.Done t x y) = (x.capacity ≡ b.staged_counts.capacity) × (y.capacity ≡ b.deleted_counts.capacity)
-  FlushCap b (flushed.Refused k) = Unit {0}
+  FlushCap b (Ok (t, x, y)) = (x.capacity ≡ b.staged_counts.capacity) × (y.capacity ≡ b.deleted_counts.capacity)
+  FlushCap b (Err k) = Unit {0}
 
   flush_cap : (b : Lists) → FlushCap b (flush_of E b).answer
   unfolding flush_of flush_core Fl.flushed
@@ -114,23 +109,23 @@ module _ (E : Edition) where
 
   app_kept : (s : State) (k : Kind) (p : ℕ) (A : Appended) (hd : List ℤ) (st : List ℕ) → AppCap s.lists.staged_counts A
       → Kept s (of_append (appended_by (record { answer = A; head = hd; staged = st }) k p (counts_in s.lists) s.numbers s.lengths s.spills) s)
-  app_kept s k p (appended.Done h x) hd st c = (c, refl)
-  app_kept s k p (appended.Refused j) hd st c = (refl, refl)
+  app_kept s k p (Ok (h, x)) hd st c = (c, refl)
+  app_kept s k p (Err j) hd st c = (refl, refl)
 
   flip_kept : (s : State) (p : ℕ) (A : Flipped) (hd : List ℤ) (st : List ℕ) → FlipCap s.lists.staged_counts A
       → Kept s (of_flip (flipped_by (record { answer = A; head = hd; staged = st }) p (counts_in s.lists) s.numbers) s)
-  flip_kept s p (flipped.Done x) hd st c = (c, refl)
-  flip_kept s p (flipped.Refused j) hd st c = (refl, refl)
+  flip_kept s p (Ok x) hd st c = (c, refl)
+  flip_kept s p (Err j) hd st c = (refl, refl)
 
   pop_kept : (s : State) (k : Kind) (p : ℕ) (A : Popped) (o : Pp.Popping) → PopCap s.lists A
       → Kept s (of_pop (popped_by (record { answer = A; head = o.head; staged = o.staged; deleted = o.deleted }) k p (counts_in s.lists) s.numbers s.lengths s.spills) s)
-  pop_kept s k p (popped.Number z h x y) o c = c
-  pop_kept s k p (popped.Refused j) o c = (refl, refl)
+  pop_kept s k p (Ok (z, h, x, y)) o c = c
+  pop_kept s k p (Err j) o c = (refl, refl)
 
   flush_kept : (s : State) (A : Flushed) (o : Fl.Flushing) → FlushCap s.lists A
       → Kept s (of_flush (flushed_by (record { answer = A; table = o.table; staged = o.staged; deleted = o.deleted }) (counts_in s.lists)) s)
-  flush_kept s (flushed.Done t x y) o c = c
-  flush_kept s (flushed.Refused j) o c = (refl, refl)
+  flush_kept s (Ok (t, x, y)) o c = c
+  flush_kept s (Err j) o c = (refl, refl)
 
   pub call_kept : (x : Call) (s : State) → Kept s (step_of E x s)
   unfolding step_of append_by flip_by pop_by flush_by

@@ -18,10 +18,11 @@ use Rattle.trial_laws.proofs.NearLaws.{Near}
 use Rattle.buffer_core.specs.Edition.{edition_1}
 use Rattle.call_steps.specs.State.{Ready, length_at}
 use Rattle.trial_core.specs.Trial.{Going, on, ended, start, run_of, zero_state, figures, Trial, tried}
-use Rattle.index_types.specs.declared.TriedForks.TheVariants.{Figures, Refused}
+use Rattle.std.specs.Prelude.{Ok, Err}
 use Rattle.trial_laws.specs.Enough.{answers_of, Enough, Within, Exact, Least}
 use Rattle.trial_laws.proofs.Parts.{Alike, Follows, part_steps}
 use Rattle.trial_laws.proofs.Bounds.{Bounded, OnBounded, steps_bounded}
+use Rattle.index_types.proofs.AnswerLaws.{pair_same}
 
 -- ---- from the zeroed buffers
 near_start : (size limit a S S' : ℕ) → a ≤ S → a ≤ S'
@@ -101,19 +102,19 @@ zero_ready T S D = record {
 }
 
 -- ---- the theorem
-from_figures : (x T S D room : ℕ) (zs : List ℤ) (a b S' D' : ℕ) → a ≤ S' → b ≤ D' → (G : Going) → run_of x zs T S D room ≡ G → figures G ≡ Figures a b
-    → (figures (run_of x zs T S' D' room) ≡ Figures a b) × (answers_of (run_of x zs T S' D' room) ≡ answers_of G)
+from_figures : (x T S D room : ℕ) (zs : List ℤ) (a b S' D' : ℕ) → a ≤ S' → b ≤ D' → (G : Going) → run_of x zs T S D room ≡ G → figures G ≡ Ok (a, b)
+    → (figures (run_of x zs T S' D' room) ≡ Ok (a, b)) × (answers_of (run_of x zs T S' D' room) ≡ answers_of G)
 from_figures x T S D room zs a b S' D' h g (ended k) q e = absurd (let z : ◌≡◌ {A = ℕ} 0 1 = cc in omega arith)
 from_figures x T S D room zs a b S' D' h g (on u) q e =
-    let p : u.staged ≡ a = cc in
-    let r : u.deleted ≡ b = cc in
+    let p : u.staged ≡ a = (pair_same e).0 in
+    let r : u.deleted ≡ b = (pair_same e).1 in
     let ready = zero_ready T S D in
     let I : Bounded room S D u = subst (OnBounded room S D) q (steps_bounded room S D zs (start x T S D)
     (record { ready = ready; plain = tt; staged_at = refl; deleted_at = refl; staged = omega arith; deleted = omega arith })) in
     let y = enough_from x T S D S' D' room a b (omega (arith, I.staged, p)) h (omega (arith, I.deleted, r)) g ready zs u q (omega arith) (omega arith) in
-    (ap figures y.1 ∙ (λ i. Figures (sym y.2 i) (sym y.3 i)) ∙ e, ap answers_of y.1 ∙ sym y.4)
+    (ap figures y.1 ∙ (λ i. Ok (sym y.2 i, sym y.3 i)) ∙ e, ap answers_of y.1 ∙ sym y.4)
 
-pub by_state : (w : Bool) (G : Going) (a b : ℕ) → cond w (Refused 38) (figures G) ≡ Figures a b → (w ≡ false) × (figures G ≡ Figures a b)
+pub by_state : (w : Bool) (G : Going) (a b : ℕ) → cond w (Err 38) (figures G) ≡ Ok (a, b) → (w ≡ false) × (figures G ≡ Ok (a, b))
 by_state true G a b e = absurd (let z : ◌≡◌ {A = ℕ} 0 1 = cc in omega arith)
 by_state false G a b e = (refl, e)
 
@@ -123,14 +124,14 @@ unfolding tried
 enough x zs T S D room a b e S' D' h g =
     let w = by_state (eqb x 0) (run_of x zs T S D room) a b e in
     let r = from_figures x T S D room zs a b S' D' h g (run_of x zs T S D room) refl w.1 in
-    (ap (λ t. cond t (Refused 38) (figures (run_of x zs T S' D' room))) w.0 ∙ r.0, r.1)
+    (ap (λ t. cond t (Err 38) (figures (run_of x zs T S' D' room))) w.0 ∙ r.0, r.1)
 
 -- ---- the figures are exact
-bounded_by : (x T S D room : ℕ) (zs : List ℤ) (a b : ℕ) (G : Going) → run_of x zs T S D room ≡ G → figures G ≡ Figures a b → (a ≤ S) × (b ≤ D)
+bounded_by : (x T S D room : ℕ) (zs : List ℤ) (a b : ℕ) (G : Going) → run_of x zs T S D room ≡ G → figures G ≡ Ok (a, b) → (a ≤ S) × (b ≤ D)
 bounded_by x T S D room zs a b (ended k) q e = absurd (let z : ◌≡◌ {A = ℕ} 0 1 = cc in omega arith)
 bounded_by x T S D room zs a b (on u) q e =
-    let p : u.staged ≡ a = cc in
-    let r : u.deleted ≡ b = cc in
+    let p : u.staged ≡ a = (pair_same e).0 in
+    let r : u.deleted ≡ b = (pair_same e).1 in
     let I : Bounded room S D u = subst (OnBounded room S D) q (steps_bounded room S D zs (start x T S D)
     (record { ready = zero_ready T S D; plain = tt; staged_at = refl; deleted_at = refl; staged = omega arith; deleted = omega arith })) in
     (omega (arith, I.staged, p), omega (arith, I.deleted, r))
@@ -148,7 +149,7 @@ exact x zs T S D room a b e S' D' a' b' f =
     let j = within x zs T S' D' room a' b' f in
     let p = (enough x zs T S D room a b e (max S S') (max D D') (omega (arith, i.0, le-max_left S S')) (omega (arith, i.1, le-max_left D D'))).0 in
     let q = (enough x zs T S' D' room a' b' f (max S S') (max D D') (omega (arith, j.0, le-max_right S S')) (omega (arith, j.1, le-max_right D D'))).0 in
-    (let y : a ≡ a' = cc in y, let y : b ≡ b' = cc in y)
+    pair_same (sym p ∙ q)
 
 pub least : Least
 least x zs T S D room a b e S' D' a' b' f =

@@ -11,8 +11,7 @@ use lib.IntN.{ℤ, pos, nat_abs}
 use lib.ListN.{length, take}
 use Rattle.stores.specs.Stores.{write}
 use Rattle.signed.specs.Sign.{is_negative}
-use Rattle.records.specs.declared.Found.{Found}
-use Rattle.records.specs.declared.Found.TheVariants.{At, Nothing}
+use Rattle.std.specs.Prelude.{Option, Some, None, Ok, Err}
 use Rattle.index_types.specs.declared.ListCounts.{ListCounts}
 use Rattle.records.specs.Records.{records, keys, record_of}
 use Rattle.records.specs.Find.{find_key, distinct}
@@ -23,12 +22,9 @@ use Rattle.records.proofs.TurnLaws.{found_in}
 use Rattle.segment_id.specs.declared.Kind.{Kind}
 use Rattle.index_types.specs.declared.HeadCounts.{HeadCounts}
 use Rattle.buffer_core.specs.declared.Direction.{Direction}
-use Rattle.index_types.specs.declared.Flipped.{Flipped}
-use Rattle.index_types.specs.declared.Flipped.TheVariants as flipped
-use Rattle.index_types.specs.declared.Popped.{Popped}
-use Rattle.index_types.specs.declared.Popped.TheVariants as popped
-use Rattle.index_types.specs.declared.Flushed.{Flushed}
-use Rattle.index_types.specs.declared.Flushed.TheVariants as flushed
+use Rattle.index_types.specs.Answers.{Flipped}
+use Rattle.index_types.specs.Answers.{Popped}
+use Rattle.index_types.specs.Answers.{Flushed}
 use Rattle.buffer_core.specs.Edition.{Edition, RowRead, bad, good}
 use Rattle.buffer_core.specs.Spills.{sources, spill_read, head_ok}
 use Rattle.buffer_core.specs.Append.{counts_of}
@@ -51,11 +47,11 @@ module _ (size limit a : ℕ) (c d : ListCounts) (l m : List ℕ) (N : Near size
     write_long ((n - 1) * size) (lib.ListN.replicate size 0) (write (i * size) (take size (lib.ListN.drop ((n - 1) * size) x)) x),
   )
 
-  pub remove_near : (key : List ℕ) (f : Found) → f ≡ find_key key (keys size c.count l)
+  pub remove_near : (key : List ℕ) (f : Option ℕ) → f ≡ find_key key (keys size c.count l)
       → Near size limit a (count_without f c) (count_without f d) (bytes_without size f c l) (bytes_without size f d m)
-  remove_near key Nothing q = N
-  remove_near key (At i) q =
-      let h = found_in key size c.count l i (At i) q refl in
+  remove_near key None q = N
+  remove_near key (Some i) q =
+      let h = found_in key size c.count l i (Some i) q refl in
       record {
         count = ap (λ n. n - 1) N.count;
         few = omega (arith, N.few);
@@ -103,10 +99,10 @@ module _ (E : Edition) (a e : ℕ) (b c : Lists) (N : Close E a e b c) (ok : lis
 
   -- ---- flush
   abbrev pub FlushNear : Flushed → Flushed → Flushing → Flushing → Type 0
-  FlushNear (flushed.Done t x y) (flushed.Done t' x' y') o o' = Close E a e (lists x o.staged t o.table y o.deleted) (lists x' o'.staged t' o'.table y' o'.deleted)
-  FlushNear (flushed.Done t x y) (flushed.Refused k) o o' = ⊥
-  FlushNear (flushed.Refused j) (flushed.Done t x y) o o' = ⊥
-  FlushNear (flushed.Refused j) (flushed.Refused k) o o' = (j ≡ k) × Close E a e (lists b.staged_counts o.staged b.table_counts o.table b.deleted_counts o.deleted)
+  FlushNear (Ok (t, x, y)) (Ok (t', x', y')) o o' = Close E a e (lists x o.staged t o.table y o.deleted) (lists x' o'.staged t' o'.table y' o'.deleted)
+  FlushNear (Ok (t, x, y)) (Err k) o o' = ⊥
+  FlushNear (Err j) (Ok (t, x, y)) o o' = ⊥
+  FlushNear (Err j) (Err k) o o' = (j ≡ k) × Close E a e (lists b.staged_counts o.staged b.table_counts o.table b.deleted_counts o.deleted)
       (lists c.staged_counts o'.staged c.table_counts o'.table c.deleted_counts o'.deleted)
 
   records_same : records E.size b.staged_counts.count b.staged ≡ records E.size c.staged_counts.count c.staged
@@ -122,9 +118,9 @@ module _ (E : Edition) (a e : ℕ) (b c : Lists) (N : Close E a e b c) (ok : lis
   new_same : new_keys E b ≡ new_keys E c
   new_same = λ i. new_count (keys E.size (N.table_counts i).count (N.table i)) (same_deleted i) (keys_same i)
 
-  room_by : (u : Bool) → FlushNear (cond u (Fl.flushed E b) (flushing (flushed.Refused 22) b.table b.staged b.deleted)).answer
-      (cond u (Fl.flushed E c) (flushing (flushed.Refused 22) c.table c.staged c.deleted)).answer
-      (cond u (Fl.flushed E b) (flushing (flushed.Refused 22) b.table b.staged b.deleted)) (cond u (Fl.flushed E c) (flushing (flushed.Refused 22) c.table c.staged c.deleted))
+  room_by : (u : Bool) → FlushNear (cond u (Fl.flushed E b) (flushing (Err 22) b.table b.staged b.deleted)).answer
+      (cond u (Fl.flushed E c) (flushing (Err 22) c.table c.staged c.deleted)).answer
+      (cond u (Fl.flushed E b) (flushing (Err 22) b.table b.staged b.deleted)) (cond u (Fl.flushed E c) (flushing (Err 22) c.table c.staged c.deleted))
   unfolding Fl.flushed
   room_by true = record {
     staged = clear_near E.size E.limit a b.staged_counts c.staged_counts b.staged c.staged N.staged;
@@ -143,17 +139,17 @@ module _ (E : Edition) (a e : ℕ) (b c : Lists) (N : Close E a e b c) (ok : lis
 
   -- ---- spend and unspend
   abbrev pub FlipNear : Flipped → Flipped → List ℤ → List ℤ → List ℕ → List ℕ → Type 0
-  FlipNear (flipped.Done x) (flipped.Done y) hd hd' st st' = (hd ≡ hd') × Near E.size E.limit a x y st st'
-  FlipNear (flipped.Done x) (flipped.Refused k) hd hd' st st' = ⊥
-  FlipNear (flipped.Refused j) (flipped.Done y) hd hd' st st' = ⊥
-  FlipNear (flipped.Refused j) (flipped.Refused k) hd hd' st st' = (j ≡ k) × (hd ≡ hd') × Near E.size E.limit a b.staged_counts c.staged_counts st st'
+  FlipNear (Ok x) (Ok y) hd hd' st st' = (hd ≡ hd') × Near E.size E.limit a x y st st'
+  FlipNear (Ok x) (Err k) hd hd' st st' = ⊥
+  FlipNear (Err j) (Ok y) hd hd' st st' = ⊥
+  FlipNear (Err j) (Err k) hd hd' st st' = (j ≡ k) × (hd ≡ hd') × Near E.size E.limit a b.staged_counts c.staged_counts st st'
 
   abbrev pub FlipAlike : Flipping → Flipping → Type 0
   FlipAlike o o' = FlipNear o.answer o'.answer o.head o'.head o.staged o'.staged
 
   abbrev pub FlipFine : Flipped → Type 0
-  FlipFine (flipped.Done x) = x.count ≤ a
-  FlipFine (flipped.Refused k) = k ≢ 16
+  FlipFine (Ok x) = x.count ≤ a
+  FlipFine (Err k) = k ≢ 16
 
   abbrev Fits : Effect → Type 0
   Fits f = Within E a b.staged_counts c.staged_counts b.staged c.staged N.staged [] b.table 0 f
@@ -187,8 +183,8 @@ module _ (E : Edition) (a e : ℕ) (b c : Lists) (N : Close E a e b c) (ok : lis
     abbrev two : Flipping
     two = done_by E eff' c.staged_counts head c.staged
 
-    by_head : (u : Bool) → FlipFine (cond u one (flipping (flipped.Refused 25) head b.staged)).answer
-        → FlipAlike (cond u one (flipping (flipped.Refused 25) head b.staged)) (cond u two (flipping (flipped.Refused 25) head c.staged))
+    by_head : (u : Bool) → FlipFine (cond u one (flipping (Err 25) head b.staged)).answer
+        → FlipAlike (cond u one (flipping (Err 25) head b.staged)) (cond u two (flipping (Err 25) head c.staged))
     by_head true g =
         let f = fits_of eff head g in
         subst (λ (x : Effect). FlipAlike one (done_by E x c.staged_counts head c.staged)) (effects f) (done_near eff head f)
@@ -212,21 +208,21 @@ module _ (E : Edition) (a e : ℕ) (b c : Lists) (N : Close E a e b c) (ok : lis
 
   -- ---- pop
   abbrev pub PopNear : Popped → Popped → Popping → Popping → Type 0
-  PopNear (popped.Number z h x y) (popped.Number z' h' x' y') o o' =
+  PopNear (Ok (z, h, x, y)) (Ok (z', h', x', y')) o o' =
       (z ≡ z') × (h ≡ h') × (o.head ≡ o'.head) × Near E.size E.limit a x x' o.staged o'.staged × Near 32 0 e y y' o.deleted o'.deleted
-  PopNear (popped.Number z h x y) (popped.Refused k) o o' = ⊥
-  PopNear (popped.Refused j) (popped.Number z h x y) o o' = ⊥
-  PopNear (popped.Refused j) (popped.Refused k) o o' =
+  PopNear (Ok (z, h, x, y)) (Err k) o o' = ⊥
+  PopNear (Err j) (Ok (z, h, x, y)) o o' = ⊥
+  PopNear (Err j) (Err k) o o' =
       (j ≡ k) × (o.head ≡ o'.head) × Near E.size E.limit a b.staged_counts c.staged_counts o.staged o'.staged × Near 32 0 e b.deleted_counts c.deleted_counts o.deleted o'.deleted
 
   abbrev pub PopAlike : Popping → Popping → Type 0
   PopAlike o o' = PopNear o.answer o'.answer o o'
 
   abbrev pub PopFine : Popped → Type 0
-  PopFine (popped.Number z h x y) = y.count ≤ e
-  PopFine (popped.Refused k) = k ≢ 21
+  PopFine (Ok (z, h, x, y)) = y.count ≤ e
+  PopFine (Err k) = k ≢ 21
 
-  stays : (k : ℕ) (head : List ℤ) → PopAlike (popping (popped.Refused k) head b.staged b.deleted) (popping (popped.Refused k) head c.staged c.deleted)
+  stays : (k : ℕ) (head : List ℤ) → PopAlike (popping (Err k) head b.staged b.deleted) (popping (Err k) head c.staged c.deleted)
   stays k head = (refl, refl, N.staged, N.deleted)
 
   abbrev D : Near 32 0 e b.deleted_counts c.deleted_counts b.deleted c.deleted
@@ -245,10 +241,10 @@ module _ (E : Edition) (a e : ℕ) (b c : Lists) (N : Close E a e b c) (ok : lis
         refl,
         refl,
         refl,
-        subst (λ (x : Found). Near E.size E.limit a (count_without f b.staged_counts) (count_without x c.staged_counts) (bytes_without E.size f b.staged_counts b.staged) (bytes_without E.size x c.staged_counts c.staged)) p r,
+        subst (λ (x : Option ℕ). Near E.size E.limit a (count_without f b.staged_counts) (count_without x c.staged_counts) (bytes_without E.size f b.staged_counts b.staged) (bytes_without E.size x c.staged_counts c.staged)) p r,
         subst (λ (n : ℕ). Near 32 0 e (with_count (count_after f' b.deleted_counts.count) b.deleted_counts) (with_count (count_after (find_key key (keys 32 c.deleted_counts.count c.deleted)) n) c.deleted_counts)
             (write (slot f' b.deleted_counts.count * 32) key b.deleted) (write (slot (find_key key (keys 32 c.deleted_counts.count c.deleted)) n * 32) key c.deleted)) D.count
-            (subst (λ (x : Found). Near 32 0 e (with_count (count_after f' b.deleted_counts.count) b.deleted_counts) (with_count (count_after x b.deleted_counts.count) c.deleted_counts)
+            (subst (λ (x : Option ℕ). Near 32 0 e (with_count (count_after f' b.deleted_counts.count) b.deleted_counts) (with_count (count_after x b.deleted_counts.count) c.deleted_counts)
             (write (slot f' b.deleted_counts.count * 32) key b.deleted) (write (slot x b.deleted_counts.count * 32) key c.deleted)) q t),
       )
 
@@ -257,18 +253,18 @@ module _ (E : Edition) (a e : ℕ) (b c : Lists) (N : Close E a e b c) (ok : lis
   fine_merged key spills zs head h = h
 
   full_by : (key : List ℕ) (spills : ℕ) (zs head : List ℤ) (u : Bool) → full_for 32 b.deleted_counts key b.deleted ≡ u
-      → PopFine (cond u (popping (popped.Refused 21) head b.staged b.deleted) (merged E key spills zs b head)).answer
-      → PopAlike (cond u (popping (popped.Refused 21) head b.staged b.deleted) (merged E key spills zs b head))
-      (cond (full_for 32 c.deleted_counts key c.deleted) (popping (popped.Refused 21) head c.staged c.deleted) (merged E key spills zs c head))
+      → PopFine (cond u (popping (Err 21) head b.staged b.deleted) (merged E key spills zs b head)).answer
+      → PopAlike (cond u (popping (Err 21) head b.staged b.deleted) (merged E key spills zs b head))
+      (cond (full_for 32 c.deleted_counts key c.deleted) (popping (Err 21) head c.staged c.deleted) (merged E key spills zs c head))
   full_by key spills zs head true q h = absurd (h refl)
   full_by key spills zs head false q h =
       let g = fine_merged key spills zs head h in
       rw (full_same 32 0 e b.deleted_counts c.deleted_counts b.deleted c.deleted D key q g) (merged_near key spills zs head g)
 
   empty_by : (key : List ℕ) (spills : ℕ) (zs head : List ℤ) (u : Bool)
-      → PopFine (cond u (popping (popped.Refused 20) head b.staged b.deleted) (cond (full_for 32 b.deleted_counts key b.deleted) (popping (popped.Refused 21) head b.staged b.deleted) (merged E key spills zs b head))).answer
-      → PopAlike (cond u (popping (popped.Refused 20) head b.staged b.deleted) (cond (full_for 32 b.deleted_counts key b.deleted) (popping (popped.Refused 21) head b.staged b.deleted) (merged E key spills zs b head)))
-      (cond u (popping (popped.Refused 20) head c.staged c.deleted) (cond (full_for 32 c.deleted_counts key c.deleted) (popping (popped.Refused 21) head c.staged c.deleted) (merged E key spills zs c head)))
+      → PopFine (cond u (popping (Err 20) head b.staged b.deleted) (cond (full_for 32 b.deleted_counts key b.deleted) (popping (Err 21) head b.staged b.deleted) (merged E key spills zs b head))).answer
+      → PopAlike (cond u (popping (Err 20) head b.staged b.deleted) (cond (full_for 32 b.deleted_counts key b.deleted) (popping (Err 21) head b.staged b.deleted) (merged E key spills zs b head)))
+      (cond u (popping (Err 20) head c.staged c.deleted) (cond (full_for 32 c.deleted_counts key c.deleted) (popping (Err 21) head c.staged c.deleted) (merged E key spills zs c head)))
   empty_by key spills zs head true h = stays 20 head
   empty_by key spills zs head false h = full_by key spills zs head (full_for 32 b.deleted_counts key b.deleted) refl h
 
@@ -287,19 +283,19 @@ module _ (E : Edition) (a e : ℕ) (b c : Lists) (N : Close E a e b c) (ok : lis
       (merge_near r (E.key kind parent (pos spills)) spills head h)
 
   tests_by : (kind : Kind) (parent : List ℕ) (h : HeadCounts) (head : List ℤ) (p q r : Bool)
-      → PopFine (cond p (popping (popped.Refused 11) head b.staged b.deleted) (cond q (popping (popped.Number (last_of h.len head) (counts_of (h.len - 1) h.spills) b.staged_counts b.deleted_counts) (without_last h.len head) b.staged b.deleted)
-      (cond r (popping (popped.Refused 19) head b.staged b.deleted) (unspill_of E kind parent (nat_abs h.spills - 1) b head)))).answer
-      → PopAlike (cond p (popping (popped.Refused 11) head b.staged b.deleted) (cond q (popping (popped.Number (last_of h.len head) (counts_of (h.len - 1) h.spills) b.staged_counts b.deleted_counts) (without_last h.len head) b.staged b.deleted)
-      (cond r (popping (popped.Refused 19) head b.staged b.deleted) (unspill_of E kind parent (nat_abs h.spills - 1) b head))))
-      (cond p (popping (popped.Refused 11) head c.staged c.deleted) (cond q (popping (popped.Number (last_of h.len head) (counts_of (h.len - 1) h.spills) c.staged_counts c.deleted_counts) (without_last h.len head) c.staged c.deleted)
-      (cond r (popping (popped.Refused 19) head c.staged c.deleted) (unspill_of E kind parent (nat_abs h.spills - 1) c head))))
+      → PopFine (cond p (popping (Err 11) head b.staged b.deleted) (cond q (popping (Ok (last_of h.len head, counts_of (h.len - 1) h.spills, b.staged_counts, b.deleted_counts)) (without_last h.len head) b.staged b.deleted)
+      (cond r (popping (Err 19) head b.staged b.deleted) (unspill_of E kind parent (nat_abs h.spills - 1) b head)))).answer
+      → PopAlike (cond p (popping (Err 11) head b.staged b.deleted) (cond q (popping (Ok (last_of h.len head, counts_of (h.len - 1) h.spills, b.staged_counts, b.deleted_counts)) (without_last h.len head) b.staged b.deleted)
+      (cond r (popping (Err 19) head b.staged b.deleted) (unspill_of E kind parent (nat_abs h.spills - 1) b head))))
+      (cond p (popping (Err 11) head c.staged c.deleted) (cond q (popping (Ok (last_of h.len head, counts_of (h.len - 1) h.spills, c.staged_counts, c.deleted_counts)) (without_last h.len head) c.staged c.deleted)
+      (cond r (popping (Err 19) head c.staged c.deleted) (unspill_of E kind parent (nat_abs h.spills - 1) c head))))
   tests_by kind parent h head true q r g = stays 11 head
   tests_by kind parent h head false true r g = (refl, refl, refl, N.staged, N.deleted)
   tests_by kind parent h head false false true g = stays 19 head
   tests_by kind parent h head false false false g = unspill_near kind parent (nat_abs h.spills - 1) head g
 
-  pop_by : (kind : Kind) (parent : List ℕ) (h : HeadCounts) (head : List ℤ) (u : Bool) → PopFine (cond u (pop_core E kind parent h b head) (popping (popped.Refused 25) head b.staged b.deleted)).answer
-      → PopAlike (cond u (pop_core E kind parent h b head) (popping (popped.Refused 25) head b.staged b.deleted)) (cond u (pop_core E kind parent h c head) (popping (popped.Refused 25) head c.staged c.deleted))
+  pop_by : (kind : Kind) (parent : List ℕ) (h : HeadCounts) (head : List ℤ) (u : Bool) → PopFine (cond u (pop_core E kind parent h b head) (popping (Err 25) head b.staged b.deleted)).answer
+      → PopAlike (cond u (pop_core E kind parent h b head) (popping (Err 25) head b.staged b.deleted)) (cond u (pop_core E kind parent h c head) (popping (Err 25) head c.staged c.deleted))
   unfolding pop_core
   pop_by kind parent h head true g = tests_by kind parent h head (is_negative h.spills) (ltb 0 h.len) (eqb (nat_abs h.spills) 0) g
   pop_by kind parent h head false g = stays 25 head

@@ -10,8 +10,7 @@ use lib.Dec.{leb, ltb}
 use lib.IntN.{ℤ, pos, nat_abs}
 use lib.ListN.{length}
 use borrow.Author.Tests.{lt-ltb}
-use Rattle.records.specs.declared.Found.{Found}
-use Rattle.records.specs.declared.Found.TheVariants as found
+use Rattle.std.specs.Prelude.{Option, Some, None, Ok, Err}
 use Rattle.entries.specs.declared.Position.{Position}
 use Rattle.entries.specs.declared.Position.TheVariants.{At, Seen, Absent}
 use Rattle.entries.specs.Flip.{position}
@@ -31,8 +30,7 @@ use Rattle.segment_id.specs.declared.Kind.TheVariants.{Box}
 use Rattle.buffer_core.specs.declared.Direction.{Direction}
 use Rattle.buffer_core.specs.declared.Walk.{Walk}
 use Rattle.buffer_core.specs.declared.Walk.TheVariants.{Hit, Ended, Failed}
-use Rattle.buffer_core.specs.declared.Low.{Low}
-use Rattle.buffer_core.specs.declared.Low.TheVariants.{Upto, Broken}
+use Rattle.buffer_core.specs.Answers.{Low}
 use Rattle.buffer_core.specs.Edition.{Edition, RowRead}
 use Rattle.buffer_core.specs.Spills.{Sources, sources, key_at, place_at, read_placed, spill_read}
 use Rattle.buffer_core.specs.Flip.{Effect, refuse, flip_head, stage, row_checked, check_row, lead_of, look_of, lead_at, look_at, row_flipped, stage_from, stage_at, after_walk, after_search, search_in, walk_from, in_rows, in_order, flip_effect, head_first, spends}
@@ -87,10 +85,10 @@ module _ (E : Edition) (a : ℕ) (c d : ListCounts) (l m : List ℕ) (N : Near E
   unfolding place_at
   staged_below kind s i e = by (find_key (key_at E kind w s) (keys E.size c.count l)) refl (find_key (key_at E kind w s) (keys E.size n table)) e
     where
-      by : (f : Found) → f ≡ find_key (key_at E kind w s) (keys E.size c.count l) → (g : Found) → place_of f g ≡ Staged i → i < c.count
-      by (found.At j) q g p = let z : j ≡ i = cc in subst (λ (x : ℕ). x < c.count) z (found_in (key_at E kind w s) E.size c.count l j (found.At j) q refl)
-      by found.Nothing q (found.At j) p = absurd (let z : ◌≡◌ {A = ℕ} 0 1 = cc in omega arith)
-      by found.Nothing q found.Nothing p = absurd (let z : ◌≡◌ {A = ℕ} 0 1 = cc in omega arith)
+      by : (f : Option ℕ) → f ≡ find_key (key_at E kind w s) (keys E.size c.count l) → (g : Option ℕ) → place_of f g ≡ Staged i → i < c.count
+      by (Some j) q g p = let z : j ≡ i = cc in subst (λ (x : ℕ). x < c.count) z (found_in (key_at E kind w s) E.size c.count l j (Some j) q refl)
+      by None q (Some j) p = absurd (let z : ◌≡◌ {A = ℕ} 0 1 = cc in omega arith)
+      by None q None p = absurd (let z : ◌≡◌ {A = ℕ} 0 1 = cc in omega arith)
 
   read_by : (kind : Kind) (s : ℕ) (P : Place) → place_at E kind w s ≡ P → read_placed E kind w s P ≡ read_placed E kind v s P
   read_by kind s (Staged i) e = ap (E.decode kind parent (pos s)) (same_row E.size E.limit a c d l m N i (staged_below kind s i e))
@@ -137,10 +135,10 @@ module _ (E : Edition) (a : ℕ) (c d : ListCounts) (l m : List ℕ) (N : Near E
   walk_near (Failed code) h = refl
 
   search_near : (t : ℕ) (sp seen : Bool) (L : Low) → Within (after_search E w c.capacity t sp seen L) → after_search E w c.capacity t sp seen L ≡ after_search E v d.capacity t sp seen L
-  search_near t sp seen (Upto low) h =
+  search_near t sp seen (Ok low) h =
       walk_near (walk_from (look_at E w t sp) low seen) h
       ∙ ap (λ (f : ℕ → RowRead). after_walk E v d.capacity (walk_from (λ n. look_of (f n) t sp) low seen)) same_checked
-  search_near t sp seen (Broken code) h = refl
+  search_near t sp seen (Err code) h = refl
 
   rows_near : (t : ℕ) (sp : Bool) (k : ℕ) (seen : Bool) → Within (in_rows E w c.capacity t sp k seen) → in_rows E w c.capacity t sp k seen ≡ in_rows E v d.capacity t sp k seen
   unfolding in_rows

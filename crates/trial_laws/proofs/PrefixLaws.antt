@@ -8,7 +8,7 @@ use native.Mathlib.Nat.{suc-mul}
 use lib.ListN.{length, take, drop, get_or, replicate, length-append, length-replicate}
 use lib.Seq.{take-take, take-append-le, take-append-add, length-take-le}
 use Rattle.stores.specs.Stores.{write}
-use Rattle.records.specs.declared.Found.{Found}
+use Rattle.std.specs.Prelude.{Option}
 use Rattle.records.specs.Records.{records, keys}
 use Rattle.records.specs.Find.{find_key}
 use Rattle.records.specs.Changes.{slot, put_record, remove_record, clear_records}
@@ -121,7 +121,7 @@ record_agree size n k i l m G h g =
     sym (record_at size n i l g) ∙ ap (λ (rs : List (List ℕ)). get_or rs i []) (records_agree size n k l m G h) ∙ record_at size n i m g
 
 -- a put, a removal, a cleared list
-pub put_agree : (size n k : ℕ) (key rec l m : List ℕ) → Agree k l m → (f : Found) → slot f n * size ≤ k → find_key key (keys size n l) ≡ f → find_key key (keys size n m) ≡ f
+pub put_agree : (size n k : ℕ) (key rec l m : List ℕ) → Agree k l m → (f : Option ℕ) → slot f n * size ≤ k → find_key key (keys size n l) ≡ f → find_key key (keys size n m) ≡ f
     → Agree k (put_record size n key rec l) (put_record size n key rec m)
 unfolding put_record
 put_agree size n k key rec l m G f h a b = rw (a, b) (write_agree k (slot f n * size) rec l m G h)

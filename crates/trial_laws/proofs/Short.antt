@@ -17,7 +17,7 @@ use Rattle.calls.specs.declared.Call.TheVariants.{Append, Flip, Pop, Flush, Chan
 use Rattle.calls.specs.Calls.{Among}
 use Rattle.load_core.specs.declared.Source.{Source}
 use Rattle.load_core.specs.Draw.{draws}
-use Rattle.index_types.specs.declared.TriedForks.TheVariants.{Figures, Refused}
+use Rattle.std.specs.Prelude.{Ok, Err}
 use Rattle.trial_core.specs.Trial.{Side, called, undid, Stood, Going, on, ended, then, with_side, with_gen, with_standing, with_blocks, made, code_of, ends_run, flushing, changes, change_to, stands, calling, make, block_of, undoing, back_to, fork_of, step_to, steps_to, start, figures, run_of, Trial, tried}
 use Rattle.trial_laws.specs.Enough.{Short}
 use Rattle.trial_laws.proofs.StepNear.{OfForks}
@@ -211,12 +211,12 @@ module _ (room S D : ℕ) where
   ends_steps (z ∷ zs) u v R I = ends_then (step_to E room z u) (step_to E room z v) (steps_to E room zs) (step_bounded room S D z u I) ((part_step room S D z).follows u v R) (ends_step z u v R I) (ends_steps zs)
 
   -- one that gives no figures, beside one that does
-  full_or_figures : (G G' : Going) (a b : ℕ) → Ends G G' → figures G' ≡ Figures a b → ((c d : ℕ) → figures G ≡ Figures c d → ⊥) → (figures G ≡ Refused 16) ⊎ (figures G ≡ Refused 21)
+  full_or_figures : (G G' : Going) (a b : ℕ) → Ends G G' → figures G' ≡ Ok (a, b) → ((c d : ℕ) → figures G ≡ Ok (c, d) → ⊥) → (figures G ≡ Err 16) ⊎ (figures G ≡ Err 21)
   full_or_figures (on u) G' a b X e n = absurd (n u.staged u.deleted refl)
-  full_or_figures (ended k) G' a b (inl (inl p)) e n = inl (ap Refused p)
-  full_or_figures (ended k) G' a b (inl (inr p)) e n = inr (ap Refused p)
+  full_or_figures (ended k) G' a b (inl (inl p)) e n = inl (ap Err p)
+  full_or_figures (ended k) G' a b (inl (inr p)) e n = inr (ap Err p)
   full_or_figures (ended k) G' a b (inr p) e n =
-      let f : Refused k ≡ Figures a b = sym (ap figures p) ∙ e in
+      let f : Err k ≡ Ok (a, b) = sym (ap figures p) ∙ e in
       absurd (let z : ◌≡◌ {A = ℕ} 0 1 = cc in omega arith)
 
 too_small : (a b S D : ℕ) → (S < a) ⊎ (D < b) → (a ≤ S) × (b ≤ D) → ⊥
@@ -235,6 +235,6 @@ short x zs T S D room a b e S' D' less =
     let X = ends_steps room S' D' zs (start x T S' D') (start x T M N)
     (start_rel x T S' D' M N room S' D' (omega arith) (le-max_right S S') (omega arith) (le-max_right D D') (zero_ready T S' D'))
     (record { ready = zero_ready T S' D'; plain = tt; staged_at = refl; deleted_at = refl; staged = omega arith; deleted = omega arith }) in
-    subst (λ (t : Bool). (cond t (Refused 38) (figures (run_of x zs T S' D' room)) ≡ Refused 16) ⊎ (cond t (Refused 38) (figures (run_of x zs T S' D' room)) ≡ Refused 21)) (sym w.0)
+    subst (λ (t : Bool). (cond t (Err 38) (figures (run_of x zs T S' D' room)) ≡ Err 16) ⊎ (cond t (Err 38) (figures (run_of x zs T S' D' room)) ≡ Err 21)) (sym w.0)
     (full_or_figures room S' D' (run_of x zs T S' D' room) (run_of x zs T M N room) a b X q
-    (λ c d f. too_small a b S' D' less (least x zs T S D room a b e S' D' c d (ap (λ t. cond t (Refused 38) (figures (run_of x zs T S' D' room))) w.0 ∙ f))))
+    (λ c d f. too_small a b S' D' less (least x zs T S D room a b e S' D' c d (ap (λ t. cond t (Err 38) (figures (run_of x zs T S' D' room))) w.0 ∙ f))))

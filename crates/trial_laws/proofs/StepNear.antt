@@ -10,14 +10,11 @@ use Rattle.segment_id.specs.declared.Kind.{Kind}
 use Rattle.segment_id.specs.declared.Kind.TheVariants.{Box}
 use Rattle.index_types.specs.declared.HeadCounts.{HeadCounts}
 use Rattle.buffer_core.specs.declared.Direction.{Direction}
-use Rattle.index_types.specs.declared.Appended.{Appended}
-use Rattle.index_types.specs.declared.Appended.TheVariants as appended
-use Rattle.index_types.specs.declared.Flipped.{Flipped}
-use Rattle.index_types.specs.declared.Flipped.TheVariants as flipped
-use Rattle.index_types.specs.declared.Popped.{Popped}
-use Rattle.index_types.specs.declared.Popped.TheVariants as popped
-use Rattle.index_types.specs.declared.Flushed.{Flushed}
-use Rattle.index_types.specs.declared.Flushed.TheVariants as flushed
+use Rattle.std.specs.Prelude.{Ok, Err}
+use Rattle.index_types.specs.Answers.{Appended}
+use Rattle.index_types.specs.Answers.{Flipped}
+use Rattle.index_types.specs.Answers.{Popped}
+use Rattle.index_types.specs.Answers.{Flushed}
 use Rattle.buffer_core.specs.Edition.{Edition}
 use Rattle.buffer_core.specs.Append.{append_of}
 use Rattle.buffer_core.specs.Flip.{flip_of}
@@ -73,18 +70,18 @@ module _ (E : Edition) (a e : ℕ) where
       abbrev two : Appended → List ℤ → List ℕ → Stepping
       two A hd st = of_append (appended_by (record { answer = A; head = hd; staged = st }) k p (counts_in c) s.numbers s.lengths s.spills) (moved s c)
 
-      abbrev Ok : Type 0
-      Ok = Rattle.records.specs.Checks.records_ok E.size E.limit b.staged_counts b.staged ≡ true
+      abbrev Passes : Type 0
+      Passes = Rattle.records.specs.Checks.records_ok E.size E.limit b.staged_counts b.staged ≡ true
 
-      st_ok : Ok
+      st_ok : Passes
       st_ok = records_ok_test _ _ _ _ (lists_fit E b ok).in_staged
 
       app_fine : (A : Appended) (hd : List ℤ) (st : List ℕ) → Fine (one A hd st) → Cn.AppFine E a b.staged_counts c.staged_counts b.staged c.staged N.staged st_ok A
-      app_fine (appended.Done h x) hd st F = F.staged
-      app_fine (appended.Refused j) hd st F = F.not_16
+      app_fine (Ok (h, x)) hd st F = F.staged
+      app_fine (Err j) hd st F = F.not_16
 
       app_tracks : (A A' : Appended) (hd hd' : List ℤ) (st st' : List ℕ) → Cn.AppNear E a b.staged_counts c.staged_counts b.staged c.staged N.staged st_ok A A' hd hd' st st' → Tracks (one A hd st) (two A' hd' st')
-      app_tracks (appended.Done h x) (appended.Done g y) hd hd' st st' n = record {
+      app_tracks (Ok (h, x)) (Ok (g, y)) hd hd' st st' n = record {
         said = refl;
         states = record {
           ids = refl;
@@ -94,9 +91,9 @@ module _ (E : Edition) (a e : ℕ) where
           lists = close x y st st' n.2;
         };
       }
-      app_tracks (appended.Done h x) (appended.Refused j) hd hd' st st' n = absurd n
-      app_tracks (appended.Refused j) (appended.Done g y) hd hd' st st' n = absurd n
-      app_tracks (appended.Refused j) (appended.Refused i) hd hd' st st' n = record {
+      app_tracks (Ok (h, x)) (Err j) hd hd' st st' n = absurd n
+      app_tracks (Err j) (Ok (g, y)) hd hd' st st' n = absurd n
+      app_tracks (Err j) (Err i) hd hd' st st' n = record {
         said = ap refused n.0;
         states = record { ids = refl; numbers = ap (λ (z : List ℤ). with_head k p z s.numbers) n.1; lengths = refl; spills = refl; lists = close b.staged_counts c.staged_counts st st' n.2 };
       }
@@ -118,11 +115,11 @@ module _ (E : Edition) (a e : ℕ) where
       pop_two P o = of_pop (popped_by (record { answer = P; head = o.head; staged = o.staged; deleted = o.deleted }) k p (counts_in c) s.numbers s.lengths s.spills) (moved s c)
 
       pop_fine : (P : Popped) (o : Popping) → Fine (pop_one P o) → Ln.PopFine E a e b c N ok P
-      pop_fine (popped.Number z h x y) o F = F.deleted
-      pop_fine (popped.Refused j) o F = F.not_21
+      pop_fine (Ok (z, h, x, y)) o F = F.deleted
+      pop_fine (Err j) o F = F.not_21
 
       pop_tracks : (P P' : Popped) (o o' : Popping) → Ln.PopNear E a e b c N ok P P' o o' → Tracks (pop_one P o) (pop_two P' o')
-      pop_tracks (popped.Number z h x y) (popped.Number z' h' x' y') o o' n = record {
+      pop_tracks (Ok (z, h, x, y)) (Ok (z', h', x', y')) o o' n = record {
         said = ap Rattle.call_steps.specs.Steps.number_popped n.0;
         states = record {
           ids = refl;
@@ -132,9 +129,9 @@ module _ (E : Edition) (a e : ℕ) where
           lists = record { staged = n.3; deleted = n.4; table_counts = N.table_counts; table = N.table };
         };
       }
-      pop_tracks (popped.Number z h x y) (popped.Refused j) o o' n = absurd n
-      pop_tracks (popped.Refused j) (popped.Number z h x y) o o' n = absurd n
-      pop_tracks (popped.Refused j) (popped.Refused i) o o' n = record {
+      pop_tracks (Ok (z, h, x, y)) (Err j) o o' n = absurd n
+      pop_tracks (Err j) (Ok (z, h, x, y)) o o' n = absurd n
+      pop_tracks (Err j) (Err i) o o' n = record {
         said = ap refused n.0;
         states = record {
           ids = refl;
@@ -162,17 +159,17 @@ module _ (E : Edition) (a e : ℕ) where
       flip_two A hd st = of_flip (flipped_by (record { answer = A; head = hd; staged = st }) p (counts_in c) s.numbers) (moved s c)
 
       flip_fine : (A : Flipped) (hd : List ℤ) (st : List ℕ) → Fine (flip_one A hd st) → Ln.FlipFine E a e b c N ok A
-      flip_fine (flipped.Done x) hd st F = F.staged
-      flip_fine (flipped.Refused j) hd st F = F.not_16
+      flip_fine (Ok x) hd st F = F.staged
+      flip_fine (Err j) hd st F = F.not_16
 
       flip_tracks : (A A' : Flipped) (hd hd' : List ℤ) (st st' : List ℕ) → Ln.FlipNear E a e b c N ok A A' hd hd' st st' → Tracks (flip_one A hd st) (flip_two A' hd' st')
-      flip_tracks (flipped.Done x) (flipped.Done y) hd hd' st st' n = record {
+      flip_tracks (Ok x) (Ok y) hd hd' st st' n = record {
         said = refl;
         states = record { ids = refl; numbers = ap (λ (z : List ℤ). with_head Box p z s.numbers) n.0; lengths = refl; spills = refl; lists = close x y st st' n.1 };
       }
-      flip_tracks (flipped.Done x) (flipped.Refused j) hd hd' st st' n = absurd n
-      flip_tracks (flipped.Refused j) (flipped.Done y) hd hd' st st' n = absurd n
-      flip_tracks (flipped.Refused j) (flipped.Refused i) hd hd' st st' n = record {
+      flip_tracks (Ok x) (Err j) hd hd' st st' n = absurd n
+      flip_tracks (Err j) (Ok y) hd hd' st st' n = absurd n
+      flip_tracks (Err j) (Err i) hd hd' st st' n = record {
         said = ap refused n.0;
         states = record { ids = refl; numbers = ap (λ (z : List ℤ). with_head Box p z s.numbers) n.1; lengths = refl; spills = refl; lists = close b.staged_counts c.staged_counts st st' n.2 };
       }
@@ -194,10 +191,10 @@ module _ (E : Edition) (a e : ℕ) where
     flush_two A o = of_flush (flushed_by (record { answer = A; table = o.table; staged = o.staged; deleted = o.deleted }) (counts_in c)) (moved s c)
 
     flush_tracks : (A A' : Flushed) (o o' : Flushing) → Ln.FlushNear E a e b c N ok A A' o o' → Tracks (flush_one A o) (flush_two A' o')
-    flush_tracks (flushed.Done t x y) (flushed.Done t' x' y') o o' n = record { said = refl; states = record { ids = refl; numbers = refl; lengths = refl; spills = refl; lists = n } }
-    flush_tracks (flushed.Done t x y) (flushed.Refused j) o o' n = absurd n
-    flush_tracks (flushed.Refused j) (flushed.Done t x y) o o' n = absurd n
-    flush_tracks (flushed.Refused j) (flushed.Refused i) o o' n = record { said = ap refused n.0; states = record { ids = refl; numbers = refl; lengths = refl; spills = refl; lists = n.1 } }
+    flush_tracks (Ok (t, x, y)) (Ok (t', x', y')) o o' n = record { said = refl; states = record { ids = refl; numbers = refl; lengths = refl; spills = refl; lists = n } }
+    flush_tracks (Ok (t, x, y)) (Err j) o o' n = absurd n
+    flush_tracks (Err j) (Ok (t, x, y)) o o' n = absurd n
+    flush_tracks (Err j) (Err i) o o' n = record { said = ap refused n.0; states = record { ids = refl; numbers = refl; lengths = refl; spills = refl; lists = n.1 } }
 
     pub flush_step : Tracks (step_of E Flush s) (step_of E Flush (moved s c))
     unfolding step_of flush_by

@@ -49,8 +49,7 @@ fn block(
 {
     let mut source = g;
     let mut state = t;
-    let mut left = n;
-    while 0 < left {
+    for _ in 0..n {
         let d = load_core::next_call(source);
         let call = d.call;
         let next = d.next;
@@ -59,7 +58,6 @@ fn block(
             standing, state,
         );
         source = next;
-        left -= 1;
         if state.end != 0 {
             return Drawing { source, state };
         }
@@ -202,13 +200,11 @@ pub fn run_trial(
         result.source result.blocks (held result.state ids.new numbers.new lengths.new spills.new staged.new table.new deleted.new) standing.new }
 {
     let mut run = start;
-    let mut at = 0;
-    while at < steps.len() {
-        let step = steps[at];
+    for step in steps {
         run = turn(
-            step, room, ids, numbers, lengths, spills, staged, table, deleted, hints, standing, run,
+            *step, room, ids, numbers, lengths, spills, staged, table, deleted, hints, standing,
+            run,
         );
-        at += 1;
         let state = run.state;
         if state.end != 0 {
             return run;

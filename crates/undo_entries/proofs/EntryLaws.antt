@@ -13,7 +13,7 @@ use Rattle.big_endian.specs.BigEndian.{eight_bytes, value_at}
 use Rattle.big_endian.proofs.ByteLaws.{length_eight, value_at_back}
 use Rattle.undo_entries.specs.Entry.{tagged, encoding, encoded, encoded_of, no_header, accepted, refused_with, numbers_of, decoded_of}
 use Rattle.undo_entries.specs.declared.UndoEntry.{UndoEntry}
-use Rattle.undo_entries.specs.declared.Encoded.TheVariants.{Written, Refused}
+use Rattle.std.specs.Prelude.{Ok, Err}
 use Rattle.undo_entries.specs.declared.Decoded.{Decoded}
 
 pub length_numbers : (m n : ℕ) → length (eight_bytes m ++ eight_bytes n) ≡ 16
@@ -38,11 +38,11 @@ pub length_first : (e : UndoEntry) → e.known ≡ false → length (encoding e)
 length_first e h = let n = length_numbers e.txs e.boxes in ap length (encoding_first e h) ∙ omega arith
 
 module _ (e : UndoEntry) (l : List ℕ) where
-  pub encode_short : length l < length (encoding e) → encoded (Refused 32) l ≡ encoded_of e l
+  pub encode_short : length l < length (encoding e) → encoded (Err 32) l ≡ encoded_of e l
   unfolding encoded_of
   encode_short h = rw (lt-leb _ _ h)
 
-  pub encode_done : (bs : List ℕ) → bs ≡ encoding e → length (encoding e) ≤ length l → (r : ℕ) (l' : List ℕ) → Put bs l 0 r l' → encoded (Written r) l' ≡ encoded_of e l
+  pub encode_done : (bs : List ℕ) → bs ≡ encoding e → length (encoding e) ≤ length l → (r : ℕ) (l' : List ℕ) → Put bs l 0 r l' → encoded (Ok r) l' ≡ encoded_of e l
   unfolding encoded_of
   encode_done bs q h r l' p =
       let w : l' ≡ write 0 (encoding e) l = p.1 ∙ sets_write bs l 0 (rw q (omega arith)) ∙ ap (λ (b : List ℕ). write 0 b l) q in

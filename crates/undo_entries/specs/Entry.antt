@@ -1,11 +1,9 @@
 -- The undo entry of document 01 ("Beside the spend"): "tag 00, or 01 and 32 bytes; then two 8-byte numbers, high byte first: 17 or 49 bytes."
-use Rattle.std.specs.Prelude.{ℕ, ◌+◌, Bool, true, false, cond, List, [], ◌∷◌, ◌++◌, eqb, leb, ltb, length, get_or, take, drop, replicate}
+use Rattle.std.specs.Prelude.{ℕ, ◌+◌, Bool, true, false, cond, List, [], ◌∷◌, ◌++◌, eqb, leb, ltb, length, get_or, take, drop, replicate, Ok, Err}
 use Rattle.stores.specs.Stores.{write}
 use Rattle.big_endian.specs.BigEndian.{eight_bytes, value_at}
-use Rattle.refusal.specs.declared.Answer.TheVariants as answer
 use Rattle.undo_entries.specs.declared.UndoEntry.{UndoEntry}
-use Rattle.undo_entries.specs.declared.Encoded.{Encoded}
-use Rattle.undo_entries.specs.declared.Encoded.TheVariants.{Written, Refused}
+use Rattle.undo_entries.specs.Answers.{Encoded}
 use Rattle.undo_entries.specs.declared.Decoded.{Decoded}
 
 -- the tag, and the header's id where there is one
@@ -28,8 +26,8 @@ encoded answer out = record { answer = answer; out = out }
 unfoldable pub encoded_of : UndoEntry → List ℕ → Encoding
 encoded_of entry l =
     cond (leb (length (encoding entry)) (length l))
-    (encoded (Written (length (encoding entry))) (write 0 (encoding entry) l))
-    (encoded (Refused 32) l)
+    (encoded (Ok (length (encoding entry))) (write 0 (encoding entry) l))
+    (encoded (Err 32) l)
 
 -- ---- reading
 abbrev pub no_header : List ℕ
@@ -39,11 +37,11 @@ abbrev pub no_entry : UndoEntry
 no_entry = record { known = false; header = no_header; txs = 0; boxes = 0 }
 
 abbrev pub accepted : UndoEntry → Decoded
-accepted entry = record { answer = answer.Accepted; entry = entry }
+accepted entry = record { answer = Ok tt; entry = entry }
 
 -- a refusal gives the empty entry
 abbrev pub refused_with : ℕ → Decoded
-refused_with code = record { answer = answer.Refused code; entry = no_entry }
+refused_with code = record { answer = Err code; entry = no_entry }
 
 -- "29 numbers cut; 30 bytes left over"
 unfoldable pub numbers_of : Bool → (header bytes : List ℕ) → ℕ → Decoded

@@ -1,2 +1,3 @@
 -- The definitions that the contracts of `undo_entries` cite.
 pub mod Entry
+pub mod Answers

@@ -17,11 +17,7 @@ pub struct UndoEntry {
     pub boxes: u64,
 }
 
-#[derive(Clone, Copy)]
-pub enum Encoded {
-    Written(usize),
-    Refused(u8),
-}
+pub type Encoded = Result<usize, u8>;
 
 // An answer, and the entry; a refusal gives the empty one.
 #[derive(Clone, Copy)]
@@ -66,15 +62,15 @@ pub fn encode(entry: UndoEntry, out: &mut [u8]) -> Encoded
     let boxes = entry.boxes;
     if entry.known {
         if out.len() < 49 {
-            return Encoded::Refused(refusal::OUTPUT_TOO_SHORT);
+            return Err(refusal::OUTPUT_TOO_SHORT);
         }
         let header = entry.header;
-        return Encoded::Written(put_known(&header, txs, boxes, out));
+        return Ok(put_known(&header, txs, boxes, out));
     }
     if out.len() < 17 {
-        return Encoded::Refused(refusal::OUTPUT_TOO_SHORT);
+        return Err(refusal::OUTPUT_TOO_SHORT);
     }
-    Encoded::Written(put_first(txs, boxes, out))
+    Ok(put_first(txs, boxes, out))
 }
 
 // A refusal with the empty entry.
@@ -82,7 +78,7 @@ fn refused(code: u8) -> Decoded
     ensures { result ≡ refused_with code }
 {
     Decoded {
-        answer: Answer::Refused(code),
+        answer: Err(code),
         entry: UndoEntry {
             known: false,
             header: [0u8; 32],
@@ -117,7 +113,7 @@ fn numbers_at(known: bool, header: [u8; 32], bytes: &[u8], at: usize) -> Decoded
     let txs = big_endian::get_u64(bytes, at);
     let boxes = big_endian::get_u64(bytes, at + 8);
     Decoded {
-        answer: Answer::Accepted,
+        answer: Ok(()),
         entry: UndoEntry {
             known,
             header,

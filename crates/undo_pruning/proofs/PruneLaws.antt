@@ -1,18 +1,17 @@
--- Laws of pruning: the turn of the compaction, the zeros behind it, and the answers.
-use Prim.Native.Nat.{ℕ, zero, suc, ◌+◌, ◌-◌, ◌≤◌, ◌<◌}
-use mathlib.Core.Path.{◌≡◌, refl, sym, ap, subst, ◌∙◌}
-use mathlib.Core.Bool.{Bool, true, false, cond, ◌&&◌}
+-- Laws of pruning: the turn of the compaction, and the answers.
+use Prim.Native.Nat.{ℕ, suc, ◌+◌, ◌-◌, ◌≤◌, ◌<◌}
+use mathlib.Core.Path.{◌≡◌, refl, sym, ap, ◌∙◌}
+use mathlib.Core.Bool.{Bool, true, false, cond}
 use mathlib.Core.List.{List, [], ◌∷◌, ◌++◌, append_assoc, append-nil}
 use native.Mathlib.Omega.{arith}
 use native.Mathlib.Numerals.{add-one}
 use lib.Dec.{leb, ltb}
-use lib.ListN.{length, get_or, take, drop, set, replicate, length-append, length-take, length-drop, length-set, length-replicate, get_or-replicate}
-use lib.Seq.{take-suc, take-suc-set, take_at, drop_at, drop-drop, drop-set-lt, take-set-le, length-take-le, get_or-drop}
+use lib.ListN.{length, get_or, take, drop, set, replicate, length-append, length-set, length-replicate}
+use lib.Seq.{take-suc, take-suc-set, drop-drop, drop-set-lt, take-set-le, get_or-drop}
 use borrow.Author.Tests.{le-leb, lt-leb, ltb-false}
 use Rattle.stores.specs.Stores.{write}
-use Rattle.stores.proofs.StoreLaws.{so_far, write_start, write_turn, write_end}
 use Rattle.undo_pruning.specs.Prune.{keeps, kept, pruning, pruned_of, Compacts}
-use Rattle.undo_pruning.specs.declared.Pruned.TheVariants.{Kept, Refused}
+use Rattle.std.specs.Prelude.{Ok, Err}
 
 -- ---- the heights that pass
 pub kept_append : (f : ℕ → Bool) (a b : List ℕ) → kept f (a ++ b) ≡ kept f a ++ kept f b
@@ -101,41 +100,21 @@ module _ (lowest i n : ℕ) (l l' : List ℕ) (h : i < length l) (p : Passed low
         behind = drop-set-lt (i + 1) l' n v (omega (arith, p.few)) ∙ drop_one l' l p.behind;
       }
 
-pub passed_all : (lowest count : ℕ) (l : List ℕ) (n : ℕ) (l' : List ℕ) (i : ℕ) → i ≡ count → Passed lowest i l n l' → Compacts lowest count l n l'
-passed_all lowest count l n l' i e p = subst (λ (k : ℕ). Compacts lowest k l n l') e (record { number = p.number; front = p.front; few = p.few; behind = p.behind })
-
--- ---- the zeros behind
-pub zeros_start : (l : List ℕ) (from to : ℕ) → l ≡ so_far l from (replicate (to - from) 0) (from - from)
-zeros_start l from to = let z : from - from ≡ 0 = omega arith in rw z (write_start l from (replicate (to - from) 0))
-
-pub zeros_turn : (l l' : List ℕ) (from to i : ℕ) → from ≤ i → i < to → to ≤ length l → l' ≡ so_far l from (replicate (to - from) 0) (i - from)
-    → set l' i 0 ≡ so_far l from (replicate (to - from) 0) (i + 1 - from)
-zeros_turn l l' from to i a b c e =
-    let zs : List ℕ = replicate (to - from) 0 in
-    let long : length zs ≡ to - from = length-replicate (to - from) 0 in
-    let p : from + (i - from) ≡ i = omega arith in
-    let q : i - from + 1 ≡ i + 1 - from = omega arith in
-    let t = write_turn l l' zs from (i - from) 0 0 e (omega arith) (omega arith) (sym (get_or-replicate (to - from) (i - from) 0 0 (omega arith))) in
-    rw (p, q) at t
-
-pub zeros_end : (l l' : List ℕ) (from to i : ℕ) → i ≡ to → l' ≡ so_far l from (replicate (to - from) 0) (i - from) → l' ≡ write from (replicate (to - from) 0) l
-zeros_end l l' from to i e h =
-    let zs : List ℕ = replicate (to - from) 0 in
-    let long : length zs ≡ to - from = length-replicate (to - from) 0 in
-    write_end l l' zs from (i - from) h (omega arith)
+pub passed_all : (lowest count : ℕ) (l : List ℕ) (n : ℕ) (l' : List ℕ) → Passed lowest count l n l' → Compacts lowest count l n l'
+passed_all lowest count l n l' p = record { number = p.number; front = p.front; few = p.few; behind = p.behind }
 
 -- ---- the answers
 module _ (count capacity current window : ℕ) (l : List ℕ) where
-  pub prune_count : capacity < count → pruning (Refused 25) l ≡ pruned_of count capacity current window l
+  pub prune_count : capacity < count → pruning (Err 25) l ≡ pruned_of count capacity current window l
   unfolding pruned_of
   prune_count h = rw (lt-leb count capacity h)
 
-  pub prune_short : count ≤ capacity → length l < capacity → pruning (Refused 25) l ≡ pruned_of count capacity current window l
+  pub prune_short : count ≤ capacity → length l < capacity → pruning (Err 25) l ≡ pruned_of count capacity current window l
   unfolding pruned_of
   prune_short h k = rw (le-leb count capacity h, lt-leb capacity (length l) k)
 
   pub prune_done : count ≤ capacity → capacity ≤ length l → (lowest n : ℕ) (l₁ l₂ : List ℕ) → lowest ≡ current - window
-      → Compacts lowest count l n l₁ → l₂ ≡ write n (replicate (capacity - n) 0) l₁ → pruning (Kept n) l₂ ≡ pruned_of count capacity current window l
+      → Compacts lowest count l n l₁ → l₂ ≡ write n (replicate (capacity - n) 0) l₁ → pruning (Ok n) l₂ ≡ pruned_of count capacity current window l
   unfolding pruned_of write
   prune_done h k lowest n l₁ l₂ e c w =
       let same : kept (leb lowest) (take count l) ≡ kept (keeps current window) (take count l)
@@ -145,7 +124,7 @@ module _ (count capacity current window : ℕ) (l : List ℕ) where
       let few_zeros : length zeros ≡ capacity - n = length-replicate (capacity - n) 0 in
       let all : n + length zeros ≡ capacity = omega (arith, c.few) in
       let tail : drop (n + length zeros) l₁ ≡ drop capacity l = ap (λ (m : ℕ). drop m l₁) all ∙ behind c in
-      rw (le-leb count capacity h, le-leb capacity (length l) k, ← size, ← same, ← c.front) (ap (pruning (Kept n)) (w ∙ rw tail (append_assoc (take n l₁) zeros (drop capacity l))))
+      rw (le-leb count capacity h, le-leb capacity (length l) k, ← size, ← same, ← c.front) (ap (pruning (Ok n)) (w ∙ rw tail (append_assoc (take n l₁) zeros (drop capacity l))))
     where
       behind : Compacts lowest count l n l₁ → drop capacity l₁ ≡ drop capacity l
       behind c =

@@ -1,10 +1,9 @@
 -- Pruning of document 01 ("Beside the spend"): "Pruning keeps heights >= current - window if current > window, else all". No window named means 720
 -- (document 02, U6: "pruning with no window named should use 720 instead of 200").
-use Rattle.std.specs.Prelude.{ℕ, ◌-◌, ◌≤◌, ◌≡◌, Bool, true, cond, ◌&&◌, List, [], ◌∷◌, ◌++◌, leb, ltb, length, take, drop, replicate}
+use Rattle.std.specs.Prelude.{ℕ, ◌-◌, ◌≤◌, ◌≡◌, Bool, true, cond, ◌&&◌, List, [], ◌∷◌, ◌++◌, leb, ltb, length, take, drop, replicate, Ok, Err}
 use Rattle.undo_pruning.specs.declared.Window.{Window}
 use Rattle.undo_pruning.specs.declared.Window.TheVariants.{Named, Unnamed}
-use Rattle.undo_pruning.specs.declared.Pruned.{Pruned}
-use Rattle.undo_pruning.specs.declared.Pruned.TheVariants.{Kept, Refused}
+use Rattle.undo_pruning.specs.Answers.{Pruned}
 
 abbrev pub rollback_window : ℕ
 rollback_window = 720
@@ -38,8 +37,8 @@ padded capacity hs l = hs ++ (replicate (capacity - length hs) 0 ++ drop capacit
 unfoldable pub pruned_of : (count capacity current window : ℕ) → List ℕ → Pruning
 pruned_of count capacity current window l =
     cond (leb count capacity && leb capacity (length l))
-    (pruning (Kept (length (kept (keeps current window) (take count l)))) (padded capacity (kept (keeps current window) (take count l)) l))
-    (pruning (Refused 25) l)
+    (pruning (Ok (length (kept (keeps current window) (take count l)))) (padded capacity (kept (keeps current window) (take count l)) l))
+    (pruning (Err 25) l)
 
 -- what moving the kept heights to the front leaves: n of the first `count` are at least `lowest`
 pub record Compacts (lowest count : ℕ) (l : List ℕ) (n : ℕ) (l' : List ℕ) : Type 0 where

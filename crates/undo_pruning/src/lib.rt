@@ -14,11 +14,7 @@ pub enum Window {
     Unnamed,
 }
 
-#[derive(Clone, Copy)]
-pub enum Pruned {
-    Kept(usize),
-    Refused(u8),
-}
+pub type Pruned = Result<usize, u8>;
 
 // The window, in heights.
 fn window_length(window: Window) -> u64
@@ -46,28 +42,23 @@ fn compact(heights: &mut [u64], count: usize, lowest: u64) -> usize
     ensures { Compacts lowest count heights.old result heights.new }
 {
     let mut n = 0;
-    let mut i = 0;
-    while i < count {
+    for i in 0..count {
         let h = heights[i];
         heights[n] = h;
         if lowest <= h {
             n += 1;
         }
-        i += 1;
     }
     n
 }
 
 // Sets the heights from one place up to another to zero.
+#[tactic(auto, unfolding(stores::specs::Stores::write))]
 fn clear(heights: &mut [u64], from: usize, to: usize)
     requires { (from ≤ to) × (to ≤ length heights.old) }
     ensures { heights.new ≡ write from (replicate (to - from) 0) heights.old }
 {
-    let mut i = from;
-    while i < to {
-        heights[i] = 0;
-        i += 1;
-    }
+    heights[from..to].fill(0);
 }
 
 // Keeps the heights within the window below the current one; the places behind them are zero up to the capacity.
@@ -81,13 +72,13 @@ pub fn prune_below_window(
     ensures { pruning result heights.new ≡ pruned_of count capacity current (window_of window) heights.old }
 {
     if capacity < count {
-        return Pruned::Refused(refusal::BUFFERS);
+        return Err(refusal::BUFFERS);
     }
     if heights.len() < capacity {
-        return Pruned::Refused(refusal::BUFFERS);
+        return Err(refusal::BUFFERS);
     }
     let lowest = lowest_kept(current, window_length(window));
     let n = compact(heights, count, lowest);
     clear(heights, n, capacity);
-    Pruned::Kept(n)
+    Ok(n)
 }

@@ -28,7 +28,7 @@ pub fn appended<W: Write>(
     staged: &[u8],
 ) -> io::Result<()> {
     match answer {
-        Appended::Done(counts, rows) => {
+        Ok((counts, rows)) => {
             vector_line::accepted(to, name)?;
             head_counts(to, counts)?;
             vector_line::number(to, rows.count as u64)?;
@@ -36,7 +36,7 @@ pub fn appended<W: Write>(
             digest(to, staged)?;
             vector_line::end(to)
         }
-        Appended::Refused(code) => vector_line::code_line(to, name, code),
+        Err(code) => vector_line::code_line(to, name, code),
     }
 }
 
@@ -73,12 +73,12 @@ pub fn popped_box<W: Write>(
     deleted: &[u8],
 ) -> io::Result<()> {
     match answer {
-        PoppedBox::Number(number, counts, rows, keys) => {
+        Ok((number, counts, rows, keys)) => {
             popped(
                 to, name, number.0, counts, rows, keys, head, staged, deleted,
             )
         }
-        PoppedBox::Refused(code) => vector_line::code_line(to, name, code),
+        Err(code) => vector_line::code_line(to, name, code),
     }
 }
 
@@ -92,12 +92,12 @@ pub fn popped_tx<W: Write>(
     deleted: &[u8],
 ) -> io::Result<()> {
     match answer {
-        PoppedTx::Number(number, counts, rows, keys) => {
+        Ok((number, counts, rows, keys)) => {
             popped(
                 to, name, number.0, counts, rows, keys, head, staged, deleted,
             )
         }
-        PoppedTx::Refused(code) => vector_line::code_line(to, name, code),
+        Err(code) => vector_line::code_line(to, name, code),
     }
 }
 
@@ -111,14 +111,14 @@ pub fn flipped<W: Write>(
     staged: &[u8],
 ) -> io::Result<()> {
     match answer {
-        Flipped::Done(rows) => {
+        Ok(rows) => {
             vector_line::accepted(to, name)?;
             vector_line::number(to, rows.count as u64)?;
             vector_fields::numbers(to, head, len)?;
             digest(to, staged)?;
             vector_line::end(to)
         }
-        Flipped::Refused(code) => vector_line::code_line(to, name, code),
+        Err(code) => vector_line::code_line(to, name, code),
     }
 }
 
@@ -132,7 +132,7 @@ pub fn flushed<W: Write>(
     deleted: &[u8],
 ) -> io::Result<()> {
     match answer {
-        Flushed::Done(shelf, rows, keys) => {
+        Ok((shelf, rows, keys)) => {
             vector_line::accepted(to, name)?;
             vector_line::number(to, shelf.count as u64)?;
             vector_line::number(to, rows.count as u64)?;
@@ -142,34 +142,34 @@ pub fn flushed<W: Write>(
             digest(to, deleted)?;
             vector_line::end(to)
         }
-        Flushed::Refused(code) => vector_line::code_line(to, name, code),
+        Err(code) => vector_line::code_line(to, name, code),
     }
 }
 
 // How many entries are unspent, spent and unknown.
 pub fn tallied<W: Write>(to: &mut W, name: &[u8], answer: Tallied) -> io::Result<()> {
     match answer {
-        Tallied::Counts(tally) => {
+        Ok(tally) => {
             vector_line::accepted(to, name)?;
             vector_line::number(to, tally.unspent as u64)?;
             vector_line::number(to, tally.spent as u64)?;
             vector_line::number(to, tally.unknown as u64)?;
             vector_line::end(to)
         }
-        Tallied::Refused(code) => vector_line::code_line(to, name, code),
+        Err(code) => vector_line::code_line(to, name, code),
     }
 }
 
 // How many numbers stand in a page, and all that was borrowed for it.
 pub fn paged<W: Write>(to: &mut W, name: &[u8], answer: Paged, page: &[i64]) -> io::Result<()> {
     match answer {
-        Paged::Numbers(count) => {
+        Ok(count) => {
             vector_line::accepted(to, name)?;
             vector_line::number(to, count as u64)?;
             vector_fields::numbers(to, page, page.len())?;
             vector_line::end(to)
         }
-        Paged::Refused(code) => vector_line::code_line(to, name, code),
+        Err(code) => vector_line::code_line(to, name, code),
     }
 }
 
@@ -205,8 +205,8 @@ pub fn located<W: Write>(to: &mut W, name: &[u8], place: Located) -> io::Result<
 // The answer of a summary made afresh.
 pub fn summarized<W: Write>(to: &mut W, name: &[u8], answer: Summarized) -> io::Result<()> {
     match answer {
-        Summarized::Done => vector_line::code_line(to, name, 0),
-        Summarized::Refused(code) => vector_line::code_line(to, name, code),
+        Ok(()) => vector_line::code_line(to, name, 0),
+        Err(code) => vector_line::code_line(to, name, code),
     }
 }
 

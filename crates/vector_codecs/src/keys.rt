@@ -1,7 +1,6 @@
 // Digests and row keys, a line each, in hexadecimal.
 ghost use Rattle.std.specs.Prelude.{◌≡◌, ◌≤◌, length};
 
-use index_types::Int;
 use segment_id::Kind;
 use std::io;
 use std::io::Write;
@@ -48,7 +47,7 @@ pub fn row_key<W: Write>(to: &mut W, name: &[u8], kind: Kind, s: &[u8]) -> io::R
         return vector_line::code_line(to, name, refusal::BYTES_END);
     }
     match vlq::get_i32(s, 32) {
-        Int::Number(n, _) => key(to, name, kind, s, n),
-        Int::Refused(code) => vector_line::code_line(to, name, code),
+        Ok((n, _)) => key(to, name, kind, s, n),
+        Err(code) => vector_line::code_line(to, name, code),
     }
 }

@@ -45,8 +45,8 @@ fn prune<W: Write>(
     window: Window,
 ) -> io::Result<()> {
     match undo::prune::prune_below_window(heights, count, capacity, current as u64, window) {
-        Pruned::Kept(n) => show(to, name, heights, n),
-        Pruned::Refused(code) => vector_line::code_line(to, name, code),
+        Ok(n) => show(to, name, heights, n),
+        Err(code) => vector_line::code_line(to, name, code),
     }
 }
 

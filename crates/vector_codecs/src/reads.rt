@@ -2,8 +2,7 @@
 ghost use Rattle.std.specs.Prelude.{◌≡◌, ◌≤◌, length};
 
 use address::{AddressRead, IndexedAddress};
-use index_types::{Int, Loaded, Long, SEGMENT_THRESHOLD};
-use refusal::Answer;
+use index_types::{Loaded, Long, SEGMENT_THRESHOLD};
 use std::io;
 use std::io::Write;
 use vlq_reader::Span;
@@ -12,13 +11,13 @@ use vlq_reader::Span;
 
 fn long_line<W: Write>(to: &mut W, name: &[u8], found: Long) -> io::Result<()> {
     match found {
-        Long::Number(n, next) => {
+        Ok((n, next)) => {
             vector_line::accepted(to, name)?;
             vector_line::signed_number(to, n)?;
             vector_line::number(to, next as u64)?;
             vector_line::end(to)
         }
-        Long::Refused(code) => vector_line::code_line(to, name, code),
+        Err(code) => vector_line::code_line(to, name, code),
     }
 }
 
@@ -38,13 +37,13 @@ pub fn int<W: Write>(to: &mut W, name: &[u8], s: &[u8]) -> io::Result<()> {
     let part = vector_fields::bytes_at(s, at.next, &mut src);
     let len = part.len;
     match vlq::get_i32(&src[0..len], at.n) {
-        Int::Number(n, next) => {
+        Ok((n, next)) => {
             vector_line::accepted(to, name)?;
             vector_line::signed_number(to, signed::i64_from_i32(n))?;
             vector_line::number(to, next as u64)?;
             vector_line::end(to)
         }
-        Int::Refused(code) => vector_line::code_line(to, name, code),
+        Err(code) => vector_line::code_line(to, name, code),
     }
 }
 
@@ -61,13 +60,13 @@ pub fn span<W: Write>(to: &mut W, name: &[u8], s: &[u8]) -> io::Result<()> {
     let part = vector_fields::bytes_at(s, at.next, &mut src);
     let len = part.len;
     match vlq_reader::get_bytes(&src[0..len], at.n, n.n) {
-        Span::Within(start, end) => {
+        Ok((start, end)) => {
             vector_line::accepted(to, name)?;
             vector_line::number(to, start as u64)?;
             vector_line::number(to, end as u64)?;
             vector_line::end(to)
         }
-        Span::Refused(code) => vector_line::code_line(to, name, code),
+        Err(code) => vector_line::code_line(to, name, code),
     }
 }
 
@@ -191,8 +190,8 @@ fn address_read<W: Write>(
     let answer = read.answer;
     let address = read.address;
     match answer {
-        Answer::Accepted => indexed_address(to, name, address, txs, boxes),
-        Answer::Refused(code) => vector_line::code_line(to, name, code),
+        Ok(()) => indexed_address(to, name, address, txs, boxes),
+        Err(code) => vector_line::code_line(to, name, code),
     }
 }
 

@@ -1,7 +1,7 @@
 // Undo entries that are read and written, a line each, and the drift rule.
 ghost use Rattle.std.specs.Prelude.{◌≡◌, ◌+◌, ◌≤◌, length};
 
-use refusal::{Answer, Tolerated};
+use refusal::Tolerated;
 use std::io;
 use std::io::Write;
 use undo::entry::{Encoded, UndoEntry};
@@ -22,19 +22,19 @@ pub fn read<W: Write>(to: &mut W, name: &[u8], s: &[u8]) -> io::Result<()> {
     let answer = decoded.answer;
     let entry = decoded.entry;
     match answer {
-        Answer::Accepted => undo_entry(to, name, entry),
-        Answer::Refused(code) => vector_line::code_line(to, name, code),
+        Ok(()) => undo_entry(to, name, entry),
+        Err(code) => vector_line::code_line(to, name, code),
     }
 }
 
 fn encode<W: Write>(to: &mut W, name: &[u8], entry: UndoEntry, out: &mut [u8]) -> io::Result<()> {
     match undo::entry::encode(entry, out) {
-        Encoded::Written(end) => {
+        Ok(end) => {
             vector_line::accepted(to, name)?;
             vector_fields::bytes(to, out, 1, end)?;
             vector_line::end(to)
         }
-        Encoded::Refused(code) => vector_line::code_line(to, name, code),
+        Err(code) => vector_line::code_line(to, name, code),
     }
 }
 
@@ -72,10 +72,10 @@ pub fn write<W: Write>(to: &mut W, name: &[u8], s: &[u8]) -> io::Result<()> {
 
 // The answer of a flip, a code, and what becomes of it: a flip, a skip, or the code.
 pub fn drift<W: Write>(to: &mut W, name: &[u8], s: &[u8]) -> io::Result<()> {
-    let mut answer = Answer::Accepted;
+    let mut answer = Ok(());
     if s.len() != 0 {
         if s[0] != 0 {
-            answer = Answer::Refused(s[0]);
+            answer = Err(s[0]);
         }
     }
     match refusal::tolerate_secondary_drift(answer) {

@@ -9,12 +9,12 @@ use std::io::Write;
 
 fn show<W: Write>(to: &mut W, name: &[u8], wrote: Wrote, out: &[u8]) -> io::Result<()> {
     match wrote {
-        Wrote::Next(next) => {
+        Ok(next) => {
             vector_line::accepted(to, name)?;
             vector_fields::bytes(to, out, 1, next)?;
             vector_line::end(to)
         }
-        Wrote::Refused(code) => vector_line::code_line(to, name, code),
+        Err(code) => vector_line::code_line(to, name, code),
     }
 }
 

@@ -6,7 +6,6 @@
 
 ghost use Rattle.std.specs.Prelude.{◌<◌, ◌≤◌, length};
 
-use index_types::{Int, Long};
 use std::io;
 use std::io::Write;
 
@@ -71,16 +70,16 @@ pub struct Part {
 // A 64-bit number.
 pub fn number_at(s: &[u8], at: usize) -> Number {
     match vlq::get_i64(s, at) {
-        Long::Number(n, next) => Number { n, next },
-        Long::Refused(_) => Number { n: 0, next: at },
+        Ok((n, next)) => Number { n, next },
+        Err(_) => Number { n: 0, next: at },
     }
 }
 
 // A 32-bit number.
 pub fn count_at(s: &[u8], at: usize) -> Count {
     match vlq::get_i32(s, at) {
-        Int::Number(n, next) => Count { n, next },
-        Int::Refused(_) => Count { n: 0, next: at },
+        Ok((n, next)) => Count { n, next },
+        Err(_) => Count { n: 0, next: at },
     }
 }
 

@@ -20,12 +20,12 @@ fn changed_line<W: Write>(
     list: &[i64],
 ) -> io::Result<()> {
     match changed {
-        FlatChanged::Done(count) => {
+        Ok(count) => {
             vector_line::accepted(to, name)?;
             vector_line::number(to, count as u64)?;
             shown(to, list, count)
         }
-        FlatChanged::Refused(code) => vector_line::code_line(to, name, code),
+        Err(code) => vector_line::code_line(to, name, code),
     }
 }
 
@@ -36,13 +36,13 @@ fn popped_line<W: Write>(
     list: &[i64],
 ) -> io::Result<()> {
     match popped {
-        FlatPopped::Number(last, count) => {
+        Ok((last, count)) => {
             vector_line::accepted(to, name)?;
             vector_line::signed_number(to, last.0)?;
             vector_line::number(to, count as u64)?;
             shown(to, list, count)
         }
-        FlatPopped::Refused(code) => vector_line::code_line(to, name, code),
+        Err(code) => vector_line::code_line(to, name, code),
     }
 }
 

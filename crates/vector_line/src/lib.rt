@@ -63,8 +63,8 @@ pub fn value_line<W: Write>(to: &mut W, name: &[u8], n: u64) -> io::Result<()> {
 // The number of an answer: the refusal code, or 0.
 pub fn code_of(answer: Answer) -> u8 {
     match answer {
-        Answer::Accepted => 0,
-        Answer::Refused(code) => code,
+        Ok(()) => 0,
+        Err(code) => code,
     }
 }
 

@@ -7,7 +7,7 @@ use std::io::Write;
 
 fn show<W: Write>(to: &mut W, name: &[u8], made: Generated, out: &[u8]) -> io::Result<()> {
     match made {
-        Generated::Written(n, after) => {
+        Ok((n, after)) => {
             vector_line::accepted(to, name)?;
             vector_line::number(to, n as u64)?;
             vector_line::number(to, after.state)?;
@@ -16,7 +16,7 @@ fn show<W: Write>(to: &mut W, name: &[u8], made: Generated, out: &[u8]) -> io::R
             vector_fields::bytes(to, out, 1, out.len())?;
             vector_line::end(to)
         }
-        Generated::Refused(code) => vector_line::code_line(to, name, code),
+        Err(code) => vector_line::code_line(to, name, code),
     }
 }
 

@@ -14,9 +14,9 @@ pub fn put_i64(n: i64, out: &mut [u8], at: usize) -> Wrote
     ensures { written result out.new ≡ put_bytes (enc (zig n)) out.old at }
 {
     if !vlq_core::has_room(out.len(), at, vlq_writing::number_len(n)) {
-        return Wrote::Refused(refusal::OUTPUT_TOO_SHORT);
+        return Err(refusal::OUTPUT_TOO_SHORT);
     }
-    Wrote::Next(vlq_writing::emit_i64(n, out, at))
+    Ok(vlq_writing::emit_i64(n, out, at))
 }
 
 // Writes a signed 32-bit number from a position on; where it does not fit, nothing changes.
@@ -24,9 +24,9 @@ pub fn put_i32(n: i32, out: &mut [u8], at: usize) -> Wrote
     ensures { written result out.new ≡ put_bytes (enc (zig n)) out.old at }
 {
     if !vlq_core::has_room(out.len(), at, vlq_writing::number_len_i32(n)) {
-        return Wrote::Refused(refusal::OUTPUT_TOO_SHORT);
+        return Err(refusal::OUTPUT_TOO_SHORT);
     }
-    Wrote::Next(vlq_writing::emit_i32(n, out, at))
+    Ok(vlq_writing::emit_i32(n, out, at))
 }
 
 // The signed 64-bit number at a position, and the position after it.

@@ -13,7 +13,7 @@ use lib.Pow.{pow_mono}
 use borrow.Author.Tests.{lt-ltb, le-ltb}
 use mir.Syntax.{Width}
 use mir.Val.{SFits, bits}
-use Rattle.vlq_core.specs.declared.Got.TheVariants.{Value}
+use Rattle.std.specs.Prelude.{Ok}
 use Rattle.vlq_core.specs.Zigzag.{zig}
 use Rattle.vlq_core.specs.Groups.{groups, enc}
 use Rattle.vlq_core.specs.Reading.{dec, narrow, read_any, read_at, signed_of}
@@ -22,19 +22,19 @@ use Rattle.vlq_core.proofs.ZigzagLaws.{zag_zig, zig_fits}
 use Rattle.vlq_core.proofs.ReadLaws.{bound_suc, short_form, read_short}
 use Rattle.vlq_core.proofs.GroupLaws.{enc_length}
 
-back : (f c : ℕ) (q : List ℕ) (at : ℕ) → c < 2 ^ (7 * f + 1) → dec f (groups f c ++ q) at ≡ Value c (at + length (groups f c))
+back : (f c : ℕ) (q : List ℕ) (at : ℕ) → c < 2 ^ (7 * f + 1) → dec f (groups f c ++ q) at ≡ Ok (c, at + length (groups f c))
 unfolding dec groups
 back zero c q at h = rw (lt-ltb c 2 h)
 back (suc f) c q at h = ⊎_elim small (big (back f (c / 128) q (at + 1))) (split c 128)
   where
-    small : c < 128 → dec (suc f) (groups (suc f) c ++ q) at ≡ Value c (at + length (groups (suc f) c))
+    small : c < 128 → dec (suc f) (groups (suc f) c ++ q) at ≡ Ok (c, at + length (groups (suc f) c))
     small k = rw (lt-ltb c 128 k, lt-ltb c 128 k)
 
-    big : (c / 128 < 2 ^ (7 * f + 1) → dec f (groups f (c / 128) ++ q) (at + 1) ≡ Value (c / 128) (at + 1 + length (groups f (c / 128))))
-        → 128 ≤ c → dec (suc f) (groups (suc f) c ++ q) at ≡ Value c (at + length (groups (suc f) c))
+    big : (c / 128 < 2 ^ (7 * f + 1) → dec f (groups f (c / 128) ++ q) (at + 1) ≡ Ok (c / 128, at + 1 + length (groups f (c / 128))))
+        → 128 ≤ c → dec (suc f) (groups (suc f) c ++ q) at ≡ Ok (c, at + length (groups (suc f) c))
     big ih k =
         let h' : c / 128 < 2 ^ (7 * f + 1) = omega (arith, bound_suc f) in
-        rw (le-ltb c 128 k, le-ltb (128 + c % 128) 128 (omega arith), ih h') (ap₂ Value (omega arith) (omega arith))
+        rw (le-ltb c 128 k, le-ltb (128 + c % 128) 128 (omega arith), ih h') (ap₂ (λ x y. Ok (x, y)) (omega arith) (omega arith))
 
 pub groups_some : (f c : ℕ) → 0 < length (groups f c)
 unfolding groups
@@ -81,13 +81,13 @@ at_last c p q at e h =
     ∙ ap (λ (l : List ℕ). get_or l (length (enc c) - 1) 0) (drop_at p (enc c ++ q) at e) ∙ get_or-append (enc c) q 0 (length (enc c) - 1) (omega arith)
 
 -- the groups of c behind the first `at` bytes of any list: c is read at each width that holds it, and the position after the groups
-any_back : (k c : ℕ) (p q : List ℕ) (at : ℕ) → length p ≡ at → k ≤ 64 → c < 2 ^ k → read_any k (p ++ (enc c ++ q)) at ≡ Value c (at + length (enc c))
+any_back : (k c : ℕ) (p q : List ℕ) (at : ℕ) → length p ≡ at → k ≤ 64 → c < 2 ^ k → read_any k (p ++ (enc c ++ q)) at ≡ Ok (c, at + length (enc c))
 unfolding read_any enc
 any_back k c p q at e w h =
     let h' : c < 2 ^ 64 = omega (arith, pow_mono w) in
     ap (λ (l : List ℕ). narrow k (dec 9 l at)) (drop_at p (enc c ++ q) at e) ∙ ap (narrow k) (back 9 c q at h') ∙ rw (lt-ltb c (2 ^ k) h)
 
-pub read_back : (k c : ℕ) (p q : List ℕ) (at : ℕ) → length p ≡ at → k ≤ 64 → c < 2 ^ k → read_at k (p ++ (enc c ++ q)) at ≡ Value c (at + length (enc c))
+pub read_back : (k c : ℕ) (p q : List ℕ) (at : ℕ) → length p ≡ at → k ≤ 64 → c < 2 ^ k → read_at k (p ++ (enc c ++ q)) at ≡ Ok (c, at + length (enc c))
 read_back k c p q at e w h =
     let s : List ℕ = p ++ (enc c ++ q) in
     let n : ℕ = length (enc c) in

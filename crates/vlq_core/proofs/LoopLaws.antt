@@ -11,8 +11,8 @@ use lib.Pow.{pow-add, pow_mono}
 use borrow.Author.Tests.{lt-ltb, le-ltb}
 use mir.Syntax.{w64}
 use mir.Val.{Fits}
-use Rattle.vlq_core.specs.declared.Got.{Got}
-use Rattle.vlq_core.specs.declared.Got.TheVariants.{Value, Refused}
+use Rattle.std.specs.Prelude.{Ok, Err}
+use Rattle.vlq_core.specs.Answers.{Got}
 use Rattle.vlq_core.specs.Reading.{below, dec}
 
 -- ---- the numbers fit
@@ -59,19 +59,19 @@ module _ (more sum scale : ℕ) (s : Scaled more sum scale) where
 -- ---- the answer: what the rest gives, on top of what was passed
 
 abbrev pub onto : ℕ → ℕ → Got → Got
-onto sum scale (Value v n) = Value (sum + scale * v) n
-onto sum scale (Refused r) = Refused r
+onto sum scale (Ok (v, n)) = Ok (sum + scale * v, n)
+onto sum scale (Err r) = Err r
 
 pub onto_start : (g : Got) → g ≡ onto 0 1 g
-onto_start (Value v n) = ap (λ (x : ℕ). Value x n) (omega arith)
-onto_start (Refused r) = refl
+onto_start (Ok (v, n)) = ap (λ (x : ℕ). Ok (x, n)) (omega arith)
+onto_start (Err r) = refl
 
 onto_below : (sum scale b : ℕ) (g : Got) → onto sum scale (below b g) ≡ onto (sum + scale * (b % 128)) (scale * 128) g
-onto_below sum scale b (Value v n) = ap (λ (x : ℕ). Value x n) (omega (arith, mul-add scale (b % 128) (128 * v), mul_assoc scale 128 v))
-onto_below sum scale b (Refused r) = refl
+onto_below sum scale b (Ok (v, n)) = ap (λ (x : ℕ). Ok (x, n)) (omega (arith, mul-add scale (b % 128) (128 * v), mul_assoc scale 128 v))
+onto_below sum scale b (Err r) = refl
 
 module _ (s : List ℕ) (i sum scale : ℕ) where
-  pub loop_cut : (f : ℕ) → length s ≤ i → onto sum scale (dec f (drop i s) i) ≡ Refused 1
+  pub loop_cut : (f : ℕ) → length s ≤ i → onto sum scale (dec f (drop i s) i) ≡ Err 1
   unfolding dec
   loop_cut f h = rw (drop_of_length-le s h)
 
@@ -79,7 +79,7 @@ module _ (s : List ℕ) (i sum scale : ℕ) where
     cut : drop i s ≡ b ∷ drop (i + 1) s
     cut = rw (add-one i, e, drop-cons s i 0 h)
 
-    pub loop_last : (f : ℕ) → 0 < f → b < 128 → onto sum scale (dec f (drop i s) i) ≡ Value (sum + scale * b) (i + 1)
+    pub loop_last : (f : ℕ) → 0 < f → b < 128 → onto sum scale (dec f (drop i s) i) ≡ Ok (sum + scale * b, i + 1)
     unfolding dec
     loop_last zero z k = absurd (omega arith)
     loop_last (suc f) z k = rw (cut, lt-ltb b 128 k)
@@ -90,10 +90,10 @@ module _ (s : List ℕ) (i sum scale : ℕ) where
     loop_more zero z k = absurd (omega arith)
     loop_more (suc f) z k = rw (cut, le-ltb b 128 k, sub-one (suc f)) (onto_below sum scale b (dec f (drop (i + 1) s) (i + 1)))
 
-    pub loop_tenth : (f : ℕ) → f ≡ 0 → b < 2 → onto sum scale (dec f (drop i s) i) ≡ Value (sum + scale * b) (i + 1)
+    pub loop_tenth : (f : ℕ) → f ≡ 0 → b < 2 → onto sum scale (dec f (drop i s) i) ≡ Ok (sum + scale * b, i + 1)
     unfolding dec
     loop_tenth f z k = rw (z, cut, lt-ltb b 2 k)
 
-    pub loop_over : (f : ℕ) → f ≡ 0 → 2 ≤ b → onto sum scale (dec f (drop i s) i) ≡ Refused 2
+    pub loop_over : (f : ℕ) → f ≡ 0 → 2 ≤ b → onto sum scale (dec f (drop i s) i) ≡ Err 2
     unfolding dec
     loop_over f z k = rw (z, cut, le-ltb b 2 k)

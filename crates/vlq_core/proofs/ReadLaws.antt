@@ -10,12 +10,10 @@ use lib.IntN.{ℤ}
 use lib.ListN.{length, drop, get_or, length-drop}
 use lib.Pow.{pow-add, pow_mono}
 use borrow.Author.Tests.{lt-ltb, le-ltb, ne_eqb, eq-eqb}
-use Rattle.vlq_core.specs.declared.Got.{Got}
-use Rattle.vlq_core.specs.declared.Got.TheVariants.{Value, Refused}
-use Rattle.index_types.specs.declared.Long.{Long}
-use Rattle.index_types.specs.declared.Long.TheVariants as long
-use Rattle.index_types.specs.declared.Int.{Int}
-use Rattle.index_types.specs.declared.Int.TheVariants as int
+use Rattle.std.specs.Prelude.{Ok, Err}
+use Rattle.vlq_core.specs.Answers.{Got}
+use Rattle.index_types.specs.Answers.{Long}
+use Rattle.index_types.specs.Answers.{Int}
 use Rattle.vlq_core.specs.Zigzag.{zag}
 use Rattle.vlq_core.specs.Reading.{below, dec, narrow, read_any, padded, shortest, read_at, signed_of, long_of, int_of}
 use Rattle.vlq_core.proofs.Split.{split}
@@ -23,12 +21,12 @@ use Rattle.vlq_core.proofs.Split.{split}
 -- ---- a value is below its bound, and its last byte lies in the list; a refusal is 1 or 2
 
 abbrev Good : (bound lo hi : ℕ) → Got → Type 0
-Good bound lo hi (Value v n) = (v < bound) × (lo < n) × (n ≤ hi)
-Good bound lo hi (Refused r) = (r ≡ 1) ⊎ (r ≡ 2)
+Good bound lo hi (Ok (v, n)) = (v < bound) × (lo < n) × (n ≤ hi)
+Good bound lo hi (Err r) = (r ≡ 1) ⊎ (r ≡ 2)
 
 below_good : (bound lo hi b : ℕ) (g : Got) → Good bound (lo + 1) hi g → Good (bound * 128) lo hi (below b g)
-below_good bound lo hi b (Value v n) h = (omega arith, omega arith, omega arith)
-below_good bound lo hi b (Refused r) h = h
+below_good bound lo hi b (Ok (v, n)) h = (omega arith, omega arith, omega arith)
+below_good bound lo hi b (Err r) h = h
 
 -- f groups and a last one that holds one bit; one group more
 pub bound_suc : (f : ℕ) → 2 ^ (7 * suc f + 1) ≡ 2 ^ (7 * f + 1) * 128
@@ -45,19 +43,19 @@ dec_good (suc f) (b ∷ l) at hi h = rw (bound_suc f) (by_top (below_good _ at h
         (λ (q : 128 ≤ b). rw (le-ltb b 128 q) rest) (split b 128)
 
 -- the position after groups lies past the first
-pub dec_next : (f : ℕ) (l : List ℕ) (at v n : ℕ) → dec f l at ≡ Value v n → at < n
+pub dec_next : (f : ℕ) (l : List ℕ) (at v n : ℕ) → dec f l at ≡ Ok (v, n) → at < n
 dec_next f l at v n e = (subst (Good (2 ^ (7 * f + 1)) at (at + length l)) e (dec_good f l at (at + length l) (omega arith))).1
 
 narrow_good : (k bound lo hi : ℕ) (g : Got) → Good bound lo hi g → Good (2 ^ k) lo hi (narrow k g)
-narrow_good k bound lo hi (Value v n) h = ⊎_elim (λ (q : v < 2 ^ k). rw (lt-ltb v (2 ^ k) q) (q, h.1, h.2)) (λ (q : 2 ^ k ≤ v). rw (le-ltb v (2 ^ k) q) (inr refl)) (split v (2 ^ k))
-narrow_good k bound lo hi (Refused r) h = h
+narrow_good k bound lo hi (Ok (v, n)) h = ⊎_elim (λ (q : v < 2 ^ k). rw (lt-ltb v (2 ^ k) q) (q, h.1, h.2)) (λ (q : 2 ^ k ≤ v). rw (le-ltb v (2 ^ k) q) (inr refl)) (split v (2 ^ k))
+narrow_good k bound lo hi (Err r) h = h
 
 module _ (k : ℕ) (s : List ℕ) (at : ℕ) where
   read_good : Good (2 ^ k) at (at + length (drop at s)) (read_any k s at)
   unfolding read_any
   read_good = narrow_good k _ at _ (dec 9 (drop at s) at) (dec_good 9 (drop at s) at _ (omega arith))
 
-  module _ (v n : ℕ) (e : Value v n ≡ read_any k s at) where
+  module _ (v n : ℕ) (e : Ok (v, n) ≡ read_any k s at) where
     good : (v < 2 ^ k) × (at < n) × (n ≤ at + length (drop at s))
     good = subst (Good (2 ^ k) at (at + length (drop at s))) (sym e) read_good
 
@@ -70,14 +68,14 @@ module _ (k : ℕ) (s : List ℕ) (at : ℕ) where
     any_next = let g = good in (g.1, omega (arith, length-drop at s))
 
   -- no other refusals
-  any_refusals : (r : ℕ) → Refused r ≡ read_any k s at → (r ≡ 1) ⊎ (r ≡ 2)
+  any_refusals : (r : ℕ) → Err r ≡ read_any k s at → (r ≡ 1) ⊎ (r ≡ 2)
   any_refusals r e = subst (Good (2 ^ k) at (at + length (drop at s))) (sym e) read_good
 
 -- ---- the width
 
 narrow_all : (k lo hi : ℕ) (g : Got) → Good (2 ^ k) lo hi g → narrow k g ≡ g
-narrow_all k lo hi (Value v n) h = rw (lt-ltb v (2 ^ k) h.0)
-narrow_all k lo hi (Refused r) h = refl
+narrow_all k lo hi (Ok (v, n)) h = rw (lt-ltb v (2 ^ k) h.0)
+narrow_all k lo hi (Err r) h = refl
 
 -- ten groups hold 64 bits
 pub any_64 : (s : List ℕ) (at : ℕ) → dec 9 (drop at s) at ≡ read_any 64 s at
@@ -86,15 +84,15 @@ any_64 s at = sym (narrow_all 64 at _ _ (dec_good 9 (drop at s) at (at + length 
 
 -- at either width, by the answer g of the groups
 module _ (k : ℕ) (s : List ℕ) (at : ℕ) {g : Got} (e : g ≡ dec 9 (drop at s) at) where
-  pub any_in : (v n : ℕ) → g ≡ Value v n → v < 2 ^ k → Value v n ≡ read_any k s at
+  pub any_in : (v n : ℕ) → g ≡ Ok (v, n) → v < 2 ^ k → Ok (v, n) ≡ read_any k s at
   unfolding read_any
   any_in v n d h = rw (← e, d, lt-ltb v (2 ^ k) h)
 
-  pub any_over : (v n : ℕ) → g ≡ Value v n → 2 ^ k ≤ v → Refused 2 ≡ read_any k s at
+  pub any_over : (v n : ℕ) → g ≡ Ok (v, n) → 2 ^ k ≤ v → Err 2 ≡ read_any k s at
   unfolding read_any
   any_over v n d h = rw (← e, d, le-ltb v (2 ^ k) h)
 
-  pub any_refused : (r : ℕ) → g ≡ Refused r → Refused r ≡ read_any k s at
+  pub any_refused : (r : ℕ) → g ≡ Err r → Err r ≡ read_any k s at
   unfolding read_any
   any_refused r d = ap (narrow k) (sym d ∙ e)
 
@@ -113,15 +111,15 @@ long_form s at n h e = rw (lt-ltb (at + 1) n h, eq-eqb (get_or s (n - 1) 0) 0 e)
 
 module _ (k : ℕ) (s : List ℕ) (at : ℕ) where
   -- a number that is not padded, and any refusal, are read as before
-  pub read_short : (v n : ℕ) → Value v n ≡ read_any k s at → padded s at n ≡ false → Value v n ≡ read_at k s at
+  pub read_short : (v n : ℕ) → Ok (v, n) ≡ read_any k s at → padded s at n ≡ false → Ok (v, n) ≡ read_at k s at
   unfolding read_at
   read_short v n e h = rw (← e, h)
 
-  pub read_padded : (v n : ℕ) → Value v n ≡ read_any k s at → padded s at n ≡ true → Refused 34 ≡ read_at k s at
+  pub read_padded : (v n : ℕ) → Ok (v, n) ≡ read_any k s at → padded s at n ≡ true → Err 34 ≡ read_at k s at
   unfolding read_at
   read_padded v n e h = rw (← e, h)
 
-  pub read_refused : (r : ℕ) → Refused r ≡ read_any k s at → Refused r ≡ read_at k s at
+  pub read_refused : (r : ℕ) → Err r ≡ read_any k s at → Err r ≡ read_at k s at
   unfolding read_at
   read_refused r e = rw (← e)
 
@@ -131,26 +129,26 @@ module _ (k : ℕ) (s : List ℕ) (at : ℕ) where
 
   -- what is read
   pub record Read (v n : ℕ) : Type 0 where
-    pub any : Value v n ≡ read_any k s at
+    pub any : Ok (v, n) ≡ read_any k s at
     pub form : padded s at n ≡ false
 
   abbrev GoodAt : Got → Type 0
-  GoodAt (Value v n) = Read v n
-  GoodAt (Refused r) = (r ≡ 1) ⊎ ((r ≡ 2) ⊎ (r ≡ 34))
+  GoodAt (Ok (v, n)) = Read v n
+  GoodAt (Err r) = (r ≡ 1) ⊎ ((r ≡ 2) ⊎ (r ≡ 34))
 
   read_good_at : GoodAt (read_at k s at)
   unfolding read_at
   read_good_at = by_any (read_any k s at) refl
     where
-      by_form : (v n : ℕ) (x : Bool) → padded s at n ≡ x → Value v n ≡ read_any k s at → GoodAt (cond x (Refused 34) (Value v n))
+      by_form : (v n : ℕ) (x : Bool) → padded s at n ≡ x → Ok (v, n) ≡ read_any k s at → GoodAt (cond x (Err 34) (Ok (v, n)))
       by_form v n true e q = inr (inr refl)
       by_form v n false e q = record { any = q; form = e }
 
       by_any : (g : Got) → read_any k s at ≡ g → GoodAt (shortest s at g)
-      by_any (Value v n) e = by_form v n (padded s at n) refl (sym e)
-      by_any (Refused r) e = ⊎_elim (λ (q : r ≡ 1). inl q) (λ (q : r ≡ 2). inr (inl q)) (any_refusals k s at r (sym e))
+      by_any (Ok (v, n)) e = by_form v n (padded s at n) refl (sym e)
+      by_any (Err r) e = ⊎_elim (λ (q : r ≡ 1). inl q) (λ (q : r ≡ 2). inr (inl q)) (any_refusals k s at r (sym e))
 
-  module _ (v n : ℕ) (e : Value v n ≡ read_at k s at) where
+  module _ (v n : ℕ) (e : Ok (v, n) ≡ read_at k s at) where
     pub read_is : Read v n
     read_is = subst GoodAt (sym e) read_good_at
 
@@ -163,7 +161,7 @@ module _ (k : ℕ) (s : List ℕ) (at : ℕ) where
     read_next = any_next k s at v n read_is.any
 
   -- no other refusals
-  pub read_refusals : (r : ℕ) → Refused r ≡ read_at k s at → (r ≡ 1) ⊎ ((r ≡ 2) ⊎ (r ≡ 34))
+  pub read_refusals : (r : ℕ) → Err r ≡ read_at k s at → (r ≡ 1) ⊎ ((r ≡ 2) ⊎ (r ≡ 34))
   read_refusals r e = subst GoodAt (sym e) read_good_at
 
 -- ---- a signed answer, of either width, says what any other answer would be
@@ -171,31 +169,31 @@ module _ {A : Type 0} (number : ℤ → ℕ → A) (refused : ℕ → A) where
   -- what any answer gives goes over a signed answer, for each way to read that one
   over_answer : {R : Type 0} (n : ℤ → ℕ → R) (r : ℕ → R) (f : R → A) → ((z : ℤ) (m : ℕ) → number z m ≡ f (n z m)) → ((k : ℕ) → refused k ≡ f (r k)) → (g : Got)
       → signed_of number refused g ≡ f (signed_of n r g)
-  over_answer n r f e q (Value v m) = e (zag v) m
-  over_answer n r f e q (Refused k) = q k
+  over_answer n r f e q (Ok (v, m)) = e (zag v) m
+  over_answer n r f e q (Err k) = q k
 
   abbrev of_long : Long → A
-  of_long (long.Number z n) = number z n
-  of_long (long.Refused r) = refused r
+  of_long (Ok (z, n)) = number z n
+  of_long (Err r) = refused r
 
   abbrev of_int : Int → A
-  of_int (int.Number z n) = number z n
-  of_int (int.Refused r) = refused r
+  of_int (Ok (z, n)) = number z n
+  of_int (Err r) = refused r
 
   over_long : (g : Got) (x : Long) → long_of g ≡ x → signed_of number refused g ≡ of_long x
-  over_long g x e = over_answer long.Number long.Refused of_long (λ z m. refl) (λ k. refl) g ∙ ap of_long e
+  over_long g x e = over_answer (λ z n. Ok (z, n)) Err of_long (λ z m. refl) (λ k. refl) g ∙ ap of_long e
 
   over_int : (g : Got) (x : Int) → int_of g ≡ x → signed_of number refused g ≡ of_int x
-  over_int g x e = over_answer int.Number int.Refused of_int (λ z m. refl) (λ k. refl) g ∙ ap of_int e
+  over_int g x e = over_answer (λ z n. Ok (z, n)) Err of_int (λ z m. refl) (λ k. refl) g ∙ ap of_int e
 
-  pub long_number : (g : Got) (z : ℤ) (n : ℕ) → long_of g ≡ long.Number z n → signed_of number refused g ≡ number z n
-  long_number g z n = over_long g (long.Number z n)
+  pub long_number : (g : Got) (z : ℤ) (n : ℕ) → long_of g ≡ Ok (z, n) → signed_of number refused g ≡ number z n
+  long_number g z n = over_long g (Ok (z, n))
 
-  pub long_refused : (g : Got) (r : ℕ) → long_of g ≡ long.Refused r → signed_of number refused g ≡ refused r
-  long_refused g r = over_long g (long.Refused r)
+  pub long_refused : (g : Got) (r : ℕ) → long_of g ≡ Err r → signed_of number refused g ≡ refused r
+  long_refused g r = over_long g (Err r)
 
-  pub int_number : (g : Got) (z : ℤ) (n : ℕ) → int_of g ≡ int.Number z n → signed_of number refused g ≡ number z n
-  int_number g z n = over_int g (int.Number z n)
+  pub int_number : (g : Got) (z : ℤ) (n : ℕ) → int_of g ≡ Ok (z, n) → signed_of number refused g ≡ number z n
+  int_number g z n = over_int g (Ok (z, n))
 
-  pub int_refused : (g : Got) (r : ℕ) → int_of g ≡ int.Refused r → signed_of number refused g ≡ refused r
-  int_refused g r = over_int g (int.Refused r)
+  pub int_refused : (g : Got) (r : ℕ) → int_of g ≡ Err r → signed_of number refused g ≡ refused r
+  int_refused g r = over_int g (Err r)

@@ -9,12 +9,13 @@ use lib.Dec.{ltb, eqb}
 use lib.ListN.{length, drop, take, get_or}
 use lib.Seq.{get_or-drop}
 use borrow.Author.Tests.{lt-ltb, le-ltb, eq-eqb}
-use Rattle.vlq_core.specs.declared.Got.{Got}
-use Rattle.vlq_core.specs.declared.Got.TheVariants.{Value, Refused}
+use Rattle.std.specs.Prelude.{Ok, Err}
+use Rattle.vlq_core.specs.Answers.{Got}
 use Rattle.vlq_core.specs.Groups.{groups, enc}
 use Rattle.vlq_core.specs.Reading.{below, dec, narrow, read_any, padded, read_at}
 use Rattle.vlq_core.proofs.Split.{split}
 use Rattle.vlq_core.proofs.ReadLaws.{dec_next, read_is}
+use Rattle.index_types.proofs.AnswerLaws.{pair_same}
 
 -- bytes
 abbrev pub Bytes : List ℕ → Type 0
@@ -31,13 +32,13 @@ unfolding groups
 zero_groups zero = refl
 zero_groups (suc f) = refl
 
-value_is : (v w n m : ℕ) → Value v n ≡ Value w m → (v ≡ w) × (n ≡ m)
-value_is v w n m e = let p : v ≡ w = cc in let q : n ≡ m = cc in (p, q)
+value_is : (v w n m : ℕ) → ◌≡◌ {A = Got} (Ok (v, n)) (Ok (w, m)) → (v ≡ w) × (n ≡ m)
+value_is v w n m = pair_same
 
-clash : (r v n : ℕ) → Refused r ≡ Value v n → ⊥
+clash : (r v n : ℕ) → ◌≡◌ {A = Got} (Err r) (Ok (v, n)) → ⊥
 clash r v n e = let z : ◌≡◌ {A = ℕ} 0 1 = cc in omega arith
 
-unique : (f : ℕ) (l : List ℕ) (at v n : ℕ) → Bytes l → dec f l at ≡ Value v n → (n ≡ at + 1) ⊎ (get_or l (n - at - 1) 0 ≢ 0) → take (n - at) l ≡ groups f v
+unique : (f : ℕ) (l : List ℕ) (at v n : ℕ) → Bytes l → dec f l at ≡ Ok (v, n) → (n ≡ at + 1) ⊎ (get_or l (n - at - 1) 0 ≢ 0) → take (n - at) l ≡ groups f v
 unfolding dec groups
 unique f [] at v n h e s = absurd (clash 1 v n e)
 unique zero (b ∷ bs) at v n h e s = ⊎_elim small (λ (q : 2 ≤ b). absurd (clash 2 v n (rw (le-ltb b 2 q) at e))) (split b 2)
@@ -55,11 +56,11 @@ unique (suc f) (b ∷ bs) at v n h e s = ⊎_elim small (λ (q : 128 ≤ b). big
         let k : n - at ≡ 1 = omega (arith, x.1) in
         rw (k, lt-ltb v 128 (omega (arith, x.0))) (ap (λ (y : ℕ). y ∷ []) x.0)
 
-    big : 128 ≤ b → (g : Got) → dec f bs (at + 1) ≡ g → below b g ≡ Value v n
-        → ((w m : ℕ) → Bytes bs → dec f bs (at + 1) ≡ Value w m → (m ≡ at + 1 + 1) ⊎ (get_or bs (m - (at + 1) - 1) 0 ≢ 0) → take (m - (at + 1)) bs ≡ groups f w)
+    big : 128 ≤ b → (g : Got) → dec f bs (at + 1) ≡ g → below b g ≡ Ok (v, n)
+        → ((w m : ℕ) → Bytes bs → dec f bs (at + 1) ≡ Ok (w, m) → (m ≡ at + 1 + 1) ⊎ (get_or bs (m - (at + 1) - 1) 0 ≢ 0) → take (m - (at + 1)) bs ≡ groups f w)
         → take (n - at) (b ∷ bs) ≡ groups (suc f) v
-    big q (Refused r) d x ih = absurd (clash r v n x)
-    big q (Value w m) d x ih =
+    big q (Err r) d x ih = absurd (clash r v n x)
+    big q (Ok (w, m)) d x ih =
         let y = value_is (b % 128 + 128 * w) v m n x in
         let past : at + 1 < m = dec_next f bs (at + 1) w m d in
         let last : get_or bs (m - (at + 1) - 1) 0 ≢ 0 = ⊎_elim (λ (z : n ≡ at + 1). absurd (omega (arith, y.1)))
@@ -90,14 +91,14 @@ not_padded s at n h e = ⊎_elim (λ (q : n < at + 2). inl (omega arith)) (λ (q
     let x : true ≡ false = sym (rw (lt-ltb (at + 1) n (omega arith), eq-eqb (get_or s (n - 1) 0) 0 z) refl) ∙ e in
     let y : ◌≡◌ {A = ℕ} 0 1 = cc in omega arith)) (split n (at + 2))
 
-pub read_unique : (k : ℕ) (s : List ℕ) (at v n : ℕ) → Bytes s → read_at k s at ≡ Value v n → take (n - at) (drop at s) ≡ enc v
+pub read_unique : (k : ℕ) (s : List ℕ) (at v n : ℕ) → Bytes s → read_at k s at ≡ Ok (v, n) → take (n - at) (drop at s) ≡ enc v
 unfolding enc read_any
 read_unique k s at v n h e = by_dec (dec 9 (drop at s) at) refl (sym (read_is k s at v n (sym e)).any) (read_is k s at v n (sym e)).form
   where
-    by_dec : (g : Got) → dec 9 (drop at s) at ≡ g → narrow k g ≡ Value v n → padded s at n ≡ false → take (n - at) (drop at s) ≡ groups 9 v
-    by_dec (Refused r) d x p = absurd (clash r v n x)
-    by_dec (Value w m) d x p = ⊎_elim (λ (q : w < 2 ^ k).
+    by_dec : (g : Got) → dec 9 (drop at s) at ≡ g → narrow k g ≡ Ok (v, n) → padded s at n ≡ false → take (n - at) (drop at s) ≡ groups 9 v
+    by_dec (Err r) d x p = absurd (clash r v n x)
+    by_dec (Ok (w, m)) d x p = ⊎_elim (λ (q : w < 2 ^ k).
         let y = value_is w v m n (rw (lt-ltb w (2 ^ k) q) at x) in
-        let d' : dec 9 (drop at s) at ≡ Value v n = d ∙ ap₂ Value y.0 y.1 in
+        let d' : dec 9 (drop at s) at ≡ Ok (v, n) = d ∙ ap₂ (λ x y. Ok (x, y)) y.0 y.1 in
         unique 9 (drop at s) at v n (bytes_drop at s h) d' (not_padded s at n (dec_next 9 (drop at s) at v n d') p))
         (λ (q : 2 ^ k ≤ w). absurd (clash 2 v n (rw (le-ltb w (2 ^ k) q) at x))) (split w (2 ^ k))

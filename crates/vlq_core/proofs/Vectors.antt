@@ -3,7 +3,7 @@ use mathlib.Core.Path.{◌≡◌, refl}
 use mathlib.Core.List.{List, [], ◌∷◌, map}
 use Prim.Native.Nat.{ℕ}
 use lib.IntN.{ℤ, pos, negsuc}
-use Rattle.vlq_core.specs.declared.Got.TheVariants.{Value, Refused}
+use Rattle.std.specs.Prelude.{Err}
 use Rattle.vlq_core.specs.Zigzag.{zig}
 use Rattle.vlq_core.specs.Groups.{groups, enc}
 use Rattle.vlq_core.specs.Reading.{dec, read_any, read_at}
@@ -12,6 +12,6 @@ use Rattle.vlq_core.specs.Reading.{dec, read_any, read_at}
 pub vectors :
     (map (λ (z : ℤ). enc (zig z)) (pos 0 ∷ pos 63 ∷ pos 64 ∷ negsuc 63 ∷ negsuc 64 ∷ negsuc 9223372036854775807 ∷ [])
     ≡ (0 ∷ []) ∷ (0x7e ∷ []) ∷ (0x80 ∷ 1 ∷ []) ∷ (0x7f ∷ []) ∷ (0x81 ∷ 1 ∷ []) ∷ (0xff ∷ 0xff ∷ 0xff ∷ 0xff ∷ 0xff ∷ 0xff ∷ 0xff ∷ 0xff ∷ 0xff ∷ 1 ∷ []) ∷ [])
-    × (map (λ (l : List ℕ). read_at 32 l 0) ((0x80 ∷ 0x80 ∷ 0 ∷ []) ∷ (0x80 ∷ []) ∷ (0x80 ∷ 0x80 ∷ 0x80 ∷ 0x80 ∷ 0x10 ∷ []) ∷ []) ≡ Refused 34 ∷ Refused 1 ∷ Refused 2 ∷ [])
+    × (map (λ (l : List ℕ). read_at 32 l 0) ((0x80 ∷ 0x80 ∷ 0 ∷ []) ∷ (0x80 ∷ []) ∷ (0x80 ∷ 0x80 ∷ 0x80 ∷ 0x80 ∷ 0x10 ∷ []) ∷ []) ≡ Err 34 ∷ Err 1 ∷ Err 2 ∷ [])
 unfolding enc groups read_at read_any dec
 vectors = (refl, refl)

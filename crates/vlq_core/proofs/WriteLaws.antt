@@ -12,7 +12,7 @@ use borrow.Author.Tests.{le-leb, lt-leb, leb-true, leb-false}
 use Rattle.stores.specs.Stores.{Put}
 use Rattle.stores.proofs.StoreLaws.{sets_write}
 use Rattle.stores.proofs.PutLaws.{put_as}
-use Rattle.index_types.specs.declared.Wrote.TheVariants.{Next, Refused}
+use Rattle.std.specs.Prelude.{Ok, Err}
 use Rattle.vlq_core.specs.Groups.{enc}
 use Rattle.vlq_core.specs.Writing.{written, put_bytes}
 use Rattle.vlq_core.proofs.GroupLaws.{enc_small, enc_big}
@@ -44,12 +44,12 @@ module _ (len at n : ℕ) where
 
 -- ---- a call that writes s; s' is s as the callees say it
 
-pub put_within : {s s' : List ℕ} → s' ≡ s → (l : List ℕ) (at r : ℕ) (l' : List ℕ) → Put s' l at r l' → at + length s' ≤ length l → written (Next r) l' ≡ put_bytes s l at
+pub put_within : {s s' : List ℕ} → s' ≡ s → (l : List ℕ) (at r : ℕ) (l' : List ℕ) → Put s' l at r l' → at + length s' ≤ length l → written (Ok r) l' ≡ put_bytes s l at
 unfolding put_bytes
 put_within {s} q l at r l' p h =
     let p' = put_as q l at r l' p in
     let room : at + length s ≤ length l = rw q at h in
-    rw (le-leb (at + length s) (length l) room) (ap₂ (λ (k : ℕ) (m : List ℕ). written (Next k) m) p'.0 (p'.1 ∙ sets_write s l at room))
+    rw (le-leb (at + length s) (length l) room) (ap₂ (λ (k : ℕ) (m : List ℕ). written (Ok k) m) p'.0 (p'.1 ∙ sets_write s l at room))
 
 -- one law for each way out: n is its length, t the test for room
 
@@ -57,12 +57,12 @@ module _ {s s' : List ℕ} (q : s' ≡ s) (l : List ℕ) (at n : ℕ) (e : n ≡
   test_is : t ≡ leb (at + length s) (length l)
   test_is = f ∙ ap (λ (k : ℕ). leb (at + k) (length l)) (e ∙ ap length q)
 
-  pub put_short : t ≡ false → written (Refused 32) l ≡ put_bytes s l at
+  pub put_short : t ≡ false → written (Err 32) l ≡ put_bytes s l at
   unfolding put_bytes
   put_short h = rw (← test_is, h)
 
   pub put_room : t ≡ true → at + length s' ≤ length l
   put_room h = rw e at (leb-true (at + n) (length l) (sym f ∙ h))
 
-  pub put_done : t ≡ true → (r : ℕ) (l' : List ℕ) → Put s' l at r l' → written (Next r) l' ≡ put_bytes s l at
+  pub put_done : t ≡ true → (r : ℕ) (l' : List ℕ) → Put s' l at r l' → written (Ok r) l' ≡ put_bytes s l at
   put_done h r l' p = put_within q l at r l' p (put_room h)

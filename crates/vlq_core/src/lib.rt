@@ -5,11 +5,7 @@
 ghost use Rattle.std.specs.Prelude.{◌≡◌, ◌+◌, leb};
 
 // A coded number that was read and the position after it, or the refusal code.
-#[derive(Clone, Copy)]
-pub enum Got {
-    Value(u64, usize),
-    Refused(u8),
-}
+pub type Got = Result<(u64, usize), u8>;
 
 // A coded number of a few groups and how many they are; no group stands for any other number.
 #[derive(Clone, Copy)]

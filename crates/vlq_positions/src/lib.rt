@@ -3,34 +3,18 @@
 #![tactic(auto)]
 
 ghost use Rattle.std.specs.Prelude.{◌≡◌};
-ghost use Rattle.vlq_positions.specs.Positions.{after_long, after_int, span_at, after_span};
-
-use index_types::{Int, Long};
+ghost use Rattle.vlq_positions.specs.Positions.{after, span_at};
 
 // The bytes from the first position up to the second, or the refusal code.
-#[derive(Clone, Copy)]
-pub enum Span {
-    Within(usize, usize),
-    Refused(u8),
-}
+pub type Span = Result<(usize, usize), u8>;
 
-// The position after a 64-bit number that was looked for at a position; a refusal leaves it.
-pub fn after_long(found: Long, at: usize) -> usize
-    ensures { result ≡ after_long found at }
+// The position after what was looked for at a position, a number or bytes; a refusal leaves it.
+pub fn after<T: Copy>(found: Result<(T, usize), u8>, at: usize) -> usize
+    ensures { result ≡ after found at }
 {
     match found {
-        Long::Number(_, next) => next,
-        Long::Refused(_) => at,
-    }
-}
-
-// The same of a 32-bit number.
-pub fn after_int(found: Int, at: usize) -> usize
-    ensures { result ≡ after_int found at }
-{
-    match found {
-        Int::Number(_, next) => next,
-        Int::Refused(_) => at,
+        Ok((_, next)) => next,
+        Err(_) => at,
     }
 }
 
@@ -39,17 +23,7 @@ pub fn get_bytes(src: &[u8], at: usize, n: usize) -> Span
     ensures { result ≡ span_at src.now at n }
 {
     if !vlq_core::has_room(src.len(), at, n) {
-        return Span::Refused(refusal::BYTES_END);
+        return Err(refusal::BYTES_END);
     }
-    Span::Within(at, at + n)
-}
-
-// The position after bytes that were looked for at a position; a refusal leaves it.
-pub fn after_span(found: Span, at: usize) -> usize
-    ensures { result ≡ after_span found at }
-{
-    match found {
-        Span::Within(_, end) => end,
-        Span::Refused(_) => at,
-    }
+    Ok((at, at + n))
 }

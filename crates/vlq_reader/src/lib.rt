@@ -4,7 +4,7 @@
 
 ghost use Rattle.std.specs.Prelude.{◌≡◌};
 ghost use Rattle.vlq_core.specs.Reading.{read_at, long_of, int_of};
-ghost use Rattle.vlq_positions.specs.Positions.{after_long, after_int, span_at, after_span};
+ghost use Rattle.vlq_positions.specs.Positions.{after, span_at};
 ghost use Rattle.vlq_reader.specs.Reader.{started, position_of, moved_to};
 
 use index_types::{Int, Long};
@@ -35,12 +35,12 @@ pub fn position<'a>(held: VlqReader<'a>) -> usize
 // Reads a signed 64-bit number; a refusal leaves the reader where it was.
 pub fn read_i64<'s, 'a>(reader: &'s mut VlqReader<'a>) -> Long
     ensures { (result ≡ long_of (read_at 64 reader.old.src.now reader.old.at))
-        × (reader.new ≡ moved_to reader.old (after_long result reader.old.at)) }
+        × (reader.new ≡ moved_to reader.old (after result reader.old.at)) }
 {
     let src = reader.src;
     let at = reader.at;
     let found = vlq::get_i64(src, at);
-    let next = vlq_positions::after_long(found, at);
+    let next = vlq_positions::after(found, at);
     reader.at = next;
     found
 }
@@ -48,12 +48,12 @@ pub fn read_i64<'s, 'a>(reader: &'s mut VlqReader<'a>) -> Long
 // Reads a signed 32-bit number; a refusal leaves the reader where it was.
 pub fn read_i32<'s, 'a>(reader: &'s mut VlqReader<'a>) -> Int
     ensures { (result ≡ int_of (read_at 32 reader.old.src.now reader.old.at))
-        × (reader.new ≡ moved_to reader.old (after_int result reader.old.at)) }
+        × (reader.new ≡ moved_to reader.old (after result reader.old.at)) }
 {
     let src = reader.src;
     let at = reader.at;
     let found = vlq::get_i32(src, at);
-    let next = vlq_positions::after_int(found, at);
+    let next = vlq_positions::after(found, at);
     reader.at = next;
     found
 }
@@ -61,12 +61,12 @@ pub fn read_i32<'s, 'a>(reader: &'s mut VlqReader<'a>) -> Int
 // Reads n bytes: where they stand; a refusal leaves the reader where it was.
 pub fn read_bytes<'s, 'a>(reader: &'s mut VlqReader<'a>, n: usize) -> Span
     ensures { (result ≡ span_at reader.old.src.now reader.old.at n)
-        × (reader.new ≡ moved_to reader.old (after_span result reader.old.at)) }
+        × (reader.new ≡ moved_to reader.old (after result reader.old.at)) }
 {
     let src = reader.src;
     let at = reader.at;
     let found = vlq_positions::get_bytes(src, at, n);
-    let next = vlq_positions::after_span(found, at);
+    let next = vlq_positions::after(found, at);
     reader.at = next;
     found
 }

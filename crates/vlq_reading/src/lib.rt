@@ -2,10 +2,10 @@
 // Internal: a number of few groups is read by `vlq_short`; the public calls are those of `vlq`.
 #![tactic(auto)]
 
-ghost use Rattle.std.specs.Prelude.{◌≡◌, ◌<◌, ◌≤◌, length, drop};
+ghost use Rattle.std.specs.Prelude.{◌≡◌, ◌<◌, ◌≤◌, length, drop, Ok};
 ghost use Rattle.vlq_core.specs.Zigzag.{zag};
 ghost use Rattle.vlq_core.specs.Reading.{dec, shortest, read_at, long_of, int_of};
-ghost use Rattle.vlq_core.specs.declared.Got.{Got};
+ghost use Rattle.vlq_core.specs.Answers.{Got};
 
 use index_types::{Int, Long};
 use vlq_core::Got;
@@ -33,43 +33,41 @@ fn get_groups(src: &[u8], at: usize) -> Got
     let mut sum: u64 = 0;
     let mut scale: u64 = 1;
     let mut i = at;
-    let mut more: usize = 9;
-    while 0 < more {
+    for _ in 0..9_usize {
         if src.len() <= i {
-            return Got::Refused(refusal::BYTES_END);
+            return Err(refusal::BYTES_END);
         }
         let b = vlq_core::wide(src[i]);
         if b < 128 {
-            return Got::Value(sum + scale * b, i + 1);
+            return Ok((sum + scale * b, i + 1));
         }
-        sum = sum + scale * (b % 128);
-        scale = scale * 128;
-        i = i + 1;
-        more = more - 1;
+        sum += scale * (b % 128);
+        scale *= 128;
+        i += 1;
     }
     if src.len() <= i {
-        return Got::Refused(refusal::BYTES_END);
+        return Err(refusal::BYTES_END);
     }
     let b = vlq_core::wide(src[i]);
     if b < 2 {
-        return Got::Value(sum + scale * b, i + 1);
+        return Ok((sum + scale * b, i + 1));
     }
-    Got::Refused(refusal::NUMBER_TOO_LARGE)
+    Err(refusal::NUMBER_TOO_LARGE)
 }
 
 // A number that was read, unless it is padded with zero groups.
 fn take_shortest(src: &[u8], at: usize, coded: u64, next: usize) -> Got
     requires { (at < next) × (next ≤ length src.now) }
-    ensures { result ≡ shortest src.now at (Got.Value coded next) }
+    ensures { result ≡ shortest src.now at (Ok (coded, next)) }
 {
     if next - at == 1 {
-        return Got::Value(coded, next);
+        return Ok((coded, next));
     }
     let last = next - 1;
     if src[last] == 0 {
-        return Got::Refused(refusal::NUMBER_PADDED);
+        return Err(refusal::NUMBER_PADDED);
     }
-    Got::Value(coded, next)
+    Ok((coded, next))
 }
 
 // The coded 64-bit number at a position.
@@ -77,8 +75,8 @@ pub fn get_coded(src: &[u8], at: usize) -> Got
     ensures { result ≡ read_at 64 src.now at }
 {
     match get_groups(src, at) {
-        Got::Value(coded, next) => take_shortest(src, at, coded, next),
-        Got::Refused(code) => Got::Refused(code),
+        Ok((coded, next)) => take_shortest(src, at, coded, next),
+        Err(code) => Err(code),
     }
 }
 
@@ -87,14 +85,14 @@ pub fn get_coded_32(src: &[u8], at: usize) -> Got
     ensures { result ≡ read_at 32 src.now at }
 {
     match get_groups(src, at) {
-        Got::Value(coded, next) => {
+        Ok((coded, next)) => {
             if coded < 0x1_0000_0000 {
                 take_shortest(src, at, coded, next)
             } else {
-                Got::Refused(refusal::NUMBER_TOO_LARGE)
+                Err(refusal::NUMBER_TOO_LARGE)
             }
         }
-        Got::Refused(code) => Got::Refused(code),
+        Err(code) => Err(code),
     }
 }
 
@@ -102,10 +100,8 @@ pub fn get_coded_32(src: &[u8], at: usize) -> Got
 pub fn get_i64(src: &[u8], at: usize) -> Long
     ensures { result ≡ long_of (read_at 64 src.now at) }
 {
-    match get_coded(src, at) {
-        Got::Value(coded, next) => Long::Number(unzigzag(coded), next),
-        Got::Refused(code) => Long::Refused(code),
-    }
+    let (coded, next) = get_coded(src, at)?;
+    Ok((unzigzag(coded), next))
 }
 
 // The signed 32-bit number at a position.
@@ -113,7 +109,7 @@ pub fn get_i32(src: &[u8], at: usize) -> Int
     ensures { result ≡ int_of (read_at 32 src.now at) }
 {
     match get_coded_32(src, at) {
-        Got::Value(coded, next) => Int::Number(unzigzag_i32(coded as u32), next),
-        Got::Refused(code) => Int::Refused(code),
+        Ok((coded, next)) => Ok((unzigzag_i32(coded as u32), next)),
+        Err(code) => Err(code),
     }
 }

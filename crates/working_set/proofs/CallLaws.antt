@@ -12,29 +12,22 @@ use Rattle.entries.specs.Order.{order_ok}
 use Rattle.entries.specs.Flip.{position}
 use Rattle.entries.specs.declared.Position.{Position}
 use Rattle.entries.specs.declared.Position.TheVariants.{At, Seen, Absent}
-use Rattle.records.specs.declared.Found.{Found}
-use Rattle.records.specs.declared.Found.TheVariants as found
+use Rattle.std.specs.Prelude.{Option, Some, None, Ok, Err}
 use Rattle.index_types.specs.declared.ListCounts.{ListCounts}
 use Rattle.records.specs.Records.{keys}
 use Rattle.records.specs.Find.{find_key, row_at, placed_row, place_of}
 use Rattle.records.specs.Checks.{records_ok, keys_ok}
 use Rattle.segment_id.specs.declared.Kind.TheVariants.{Box}
 use Rattle.buffer_core.specs.declared.Direction.{Direction}
-use Rattle.buffer_core.specs.declared.Lead.TheVariants.{NoLead}
 use Rattle.buffer_core.specs.declared.Look.TheVariants.{Fail}
-use Rattle.buffer_core.specs.declared.Low.{Low}
-use Rattle.buffer_core.specs.declared.Low.TheVariants.{Upto, Broken}
+use Rattle.buffer_core.specs.Answers.{Low}
 use Rattle.buffer_core.specs.declared.Walk.{Walk}
 use Rattle.buffer_core.specs.declared.Walk.TheVariants.{Hit, Ended, Failed}
-use Rattle.index_types.specs.declared.Flipped.TheVariants as flipped
-use Rattle.index_types.specs.declared.Popped.TheVariants as popped
-use Rattle.index_types.specs.declared.Tallied.TheVariants as tallied
 use Rattle.buffer_core.specs.Edition.{Edition, RowRead, bad, good}
 use Rattle.buffer_core.specs.Spills.{Sources, sources, head_ok}
 use Rattle.buffer_core.specs.Pop.{Popping, popping, Lists, lists, lists_ok, pop_ok, merge_of, merged, unspill_of, pop_core, pop_of}
 use Rattle.buffer_core.specs.Flip.{check_row, Effect, refuse, row_checked, lead_at, look_at, search_in, lead_of, look_of, after_walk, after_search, in_rows, head_first, in_order, spends, flip_effect, done_by, flipping, flip_core, flip_ok, flip_of}
 use Rattle.buffer_core.specs.Page.{paging, page_over, page_core, page_of}
-use Rattle.index_types.specs.declared.Paged.TheVariants as paged
 use Rattle.buffer_core.specs.Tally.{tally_over, tally_core, tally_of}
 use Rattle.spill_places.specs.Inspection.{spills_ok, inspect_row}
 use Rattle.working_set.specs.Part.{absent, held, held_by, held_in, PartOf, lacks}
@@ -75,7 +68,7 @@ module _ (E : Edition) (parent staged : List ℕ) (s : ℕ) (work : List ℕ) (w
   lead_alike : (n : ℕ) → m n ≡ false → lead_at E W n ≡ lead_at E T n
   lead_alike n h = ap lead_of (checked_alike n h)
 
-  lead_12 : (n : ℕ) → m n ≡ true → lead_at E W n ≡ NoLead 12
+  lead_12 : (n : ℕ) → m n ≡ true → lead_at E W n ≡ Err 12
   lead_12 n h = ap lead_of (checked_12 n h)
 
   look_alike : (target : ℕ) (d : Bool) (n : ℕ) → m n ≡ false → look_at E W target d n ≡ look_at E T target d n
@@ -93,10 +86,10 @@ module _ (E : Edition) (parent staged : List ℕ) (s : ℕ) (work : List ℕ) (w
   low_done : (capacity target : ℕ) (d seen : Bool) (x : Low)
       → Outcome m (low_reads E W target d x) (low_reads E T target d x)
       (after_search E W capacity target d seen x ≡ after_search E T capacity target d seen x) (after_search E W capacity target d seen x ≡ refuse 12)
-  low_done capacity target d seen (Upto low) =
+  low_done capacity target d seen (Ok low) =
       told m (λ a. after_walk_alike capacity _ _ a.0 a.1) (λ e. ap (after_walk E W capacity) e)
       (walked m (look_at E W target d) (look_at E T target d) (look_alike target d) (look_12 target d) low seen)
-  low_done capacity target d seen (Broken code) = none m refl
+  low_done capacity target d seen (Err code) = none m refl
 
   rows_done : (capacity target : ℕ) (d : Bool) (spills : ℕ) (seen : Bool)
       → Outcome m (rows_reads E W target d spills) (rows_reads E T target d spills)
@@ -130,23 +123,23 @@ module _ (E : Edition) (parent staged : List ℕ) (s : ℕ) (work : List ℕ) (w
   -- ---- the tally
   tally_done : (spills : ℤ) (zs : List ℤ)
       → Outcome m (tally_core_reads E W spills zs) (tally_core_reads E T spills zs)
-      (tally_core E W spills zs ≡ tally_core E T spills zs) (tally_core E W spills zs ≡ tallied.Refused 12)
+      (tally_core E W spills zs ≡ tally_core E T spills zs) (tally_core E W spills zs ≡ Err 12)
   unfolding tally_core_reads tally_core
   tally_done spills zs =
-      unless_test m (order_ok zs) (tallied.Refused 12) _ _ (tallied.Refused 10) _ _
-      (by_test m (is_negative spills) (tallied.Refused 12) _ _ (tallied.Refused 11) _ _
+      unless_test m (order_ok zs) (Err 12) _ _ (Err 10) _ _
+      (by_test m (is_negative spills) (Err 12) _ _ (Err 11) _ _
       (told m (λ e. ap (λ (x : RowRead). tally_over x zs) e) (λ e. ap (λ (x : RowRead). tally_over x zs) e)
       (gathered m (row_checked E W) (row_checked E T) checked_alike checked_12 0 (nat_abs spills))))
 
   -- ---- the page
   page_done : (spills : ℤ) (zs : List ℤ) (offset n : ℕ) (out : List ℤ)
       → Outcome m (cond (ltb page_places n) [] (tally_core_reads E W spills zs)) (cond (ltb page_places n) [] (tally_core_reads E T spills zs))
-      (page_core E W spills zs offset n out ≡ page_core E T spills zs offset n out) (page_core E W spills zs offset n out ≡ paging (paged.Refused 12) out)
+      (page_core E W spills zs offset n out ≡ page_core E T spills zs offset n out) (page_core E W spills zs offset n out ≡ paging (Err 12) out)
   unfolding tally_core_reads page_core
   page_done spills zs offset n out =
-      by_test m (ltb page_places n) (paging (paged.Refused 12) out) _ _ (paging (paged.Refused 33) out) _ _
-      (unless_test m (order_ok zs) (paging (paged.Refused 12) out) _ _ (paging (paged.Refused 10) out) _ _
-      (by_test m (is_negative spills) (paging (paged.Refused 12) out) _ _ (paging (paged.Refused 11) out) _ _
+      by_test m (ltb page_places n) (paging (Err 12) out) _ _ (paging (Err 33) out) _ _
+      (unless_test m (order_ok zs) (paging (Err 12) out) _ _ (paging (Err 10) out) _ _
+      (by_test m (is_negative spills) (paging (Err 12) out) _ _ (paging (Err 11) out) _ _
       (told m (λ e. ap (λ (x : RowRead). page_over x zs offset n out) e) (λ e. ap (λ (x : RowRead). page_over x zs offset n out) e)
       (gathered m (row_checked E W) (row_checked E T) checked_alike checked_12 0 (nat_abs spills)))))
 
@@ -158,7 +151,7 @@ merge_alike E (bad code) key spills c staged wc work tc table e deleted head = r
 merge_alike E (good zs) key spills c staged wc work tc table e deleted head = refl
 
 merge_12 : (E : Edition) (x : RowRead) (key : List ℕ) (spills : ℕ) (b : Lists) (head : List ℤ) → x ≡ bad 12
-    → merge_of E x key spills b head ≡ popping (popped.Refused 12) head b.staged b.deleted
+    → merge_of E x key spills b head ≡ popping (Err 12) head b.staged b.deleted
 unfolding merge_of
 merge_12 E x key spills b head e = rw e
 
@@ -168,7 +161,7 @@ module _ (E : Edition) where
   flip_law d parent h target c staged wc work tc table head k =
       rw (k.work_ok, k.table_ok)
       (unless_test (lacks E Box (sources parent staged c.count work wc.count)) (head_ok h head && (records_ok E.size E.limit c staged && true))
-      (flipping (flipped.Refused 12) head staged) _ _ (flipping (flipped.Refused 25) head staged) _ _
+      (flipping (Err 12) head staged) _ _ (flipping (Err 25) head staged) _ _
       (told _ (λ e. ap (λ (x : Effect). done_by E x c head staged) e) (λ e. ap (λ (x : Effect). done_by E x c head staged) e)
       (effect_done E parent staged c.count work wc.count table tc.count k.part c.capacity d target h.spills (take h.len head))))
 
@@ -177,7 +170,7 @@ module _ (E : Edition) where
   tally_law parent h c staged wc work tc table head k =
       rw (k.work_ok, k.table_ok)
       (unless_test (lacks E Box (sources parent staged c.count work wc.count)) (head_ok h head && (records_ok E.size E.limit c staged && true))
-      (tallied.Refused 12) _ _ (tallied.Refused 25) _ _
+      (Err 12) _ _ (Err 25) _ _
       (tally_done E parent staged c.count work wc.count table tc.count k.part h.spills (take h.len head)))
 
   pub page_law : PageLaw E
@@ -185,29 +178,29 @@ module _ (E : Edition) where
   page_law parent h c staged wc work tc table head offset n out k =
       rw (k.work_ok, k.table_ok)
       (unless_test (lacks E Box (sources parent staged c.count work wc.count)) ((head_ok h head && (records_ok E.size E.limit c staged && true)) && leb page_places (length out))
-      (paging (paged.Refused 12) out) _ _ (paging (paged.Refused 25) out) _ _
+      (paging (Err 12) out) _ _ (paging (Err 25) out) _ _
       (page_done E parent staged c.count work wc.count table tc.count k.part h.spills (take h.len head) offset n out))
 
   pub pop_law : PopLaw E
   unfolding pop_reads pop_of pop_ok lists_ok pop_core unspill_of
   pop_law kind parent h c staged wc work tc table e deleted head k =
       rw (k.work_ok, k.table_ok)
-      (unless_test m (head_ok h head && (records_ok E.size E.limit c staged && (true && keys_ok e deleted))) refused _ _ (popping (popped.Refused 25) head staged deleted) _ _
-      (by_test m (is_negative h.spills) refused _ _ (popping (popped.Refused 11) head staged deleted) _ _
+      (unless_test m (head_ok h head && (records_ok E.size E.limit c staged && (true && keys_ok e deleted))) refused _ _ (popping (Err 25) head staged deleted) _ _
+      (by_test m (is_negative h.spills) refused _ _ (popping (Err 11) head staged deleted) _ _
       (by_test m (ltb 0 h.len) refused _ _ _ _ _
-      (by_test m (eqb (nat_abs h.spills) 0) refused _ _ (popping (popped.Refused 19) head staged deleted) _ _
+      (by_test m (eqb (nat_abs h.spills) 0) refused _ _ (popping (Err 19) head staged deleted) _ _
       (by_read (m (nat_abs h.spills - 1)) refl)))))
     where
       m : ℕ → Bool
       m n = lacks E kind (sources parent staged c.count work wc.count) n
 
       refused : Popping
-      refused = popping (popped.Refused 12) head staged deleted
+      refused = popping (Err 12) head staged deleted
 
       by_read : (t : Bool) → lacks E kind (sources parent staged c.count work wc.count) (nat_abs h.spills - 1) ≡ t
           → Outcome (lacks E kind (sources parent staged c.count work wc.count)) ((nat_abs h.spills - 1) ∷ []) ((nat_abs h.spills - 1) ∷ [])
           (unspill_of E kind parent (nat_abs h.spills - 1) (lists c staged wc work e deleted) head ≡ unspill_of E kind parent (nat_abs h.spills - 1) (lists c staged tc table e deleted) head)
-          (unspill_of E kind parent (nat_abs h.spills - 1) (lists c staged wc work e deleted) head ≡ popping (popped.Refused 12) head staged deleted)
+          (unspill_of E kind parent (nat_abs h.spills - 1) (lists c staged wc work e deleted) head ≡ popping (Err 12) head staged deleted)
       by_read true q =
           stuck _ (nat_abs h.spills - 1) [] [] q
           (merge_12 E _ _ _ (lists c staged wc work e deleted) head (reads_12 E parent staged c.count work wc.count table tc.count k.part kind (nat_abs h.spills - 1) q))
@@ -218,14 +211,14 @@ module _ (E : Edition) where
           ∙ merge_alike E _ _ _ c staged wc work tc table e deleted head))
 
   -- ---- inspection
-  shown_alike : (size : ℕ) (staged work table : List ℕ) (f g l : Found)
+  shown_alike : (size : ℕ) (staged work table : List ℕ) (f g l : Option ℕ)
       → ((row : List ℕ) → held_by size work g ≡ held row → held_by size table l ≡ held row)
       → (held_by size staged f ≡ absent → held_by size work g ≡ absent → ⊥)
       → placed_row size staged work (place_of f g) ≡ placed_row size staged table (place_of f l)
-  shown_alike size staged work table (found.At i) g l p n = refl
-  shown_alike size staged work table found.Nothing (found.At i) (found.At j) p n = let q = p (row_at size i work) refl in cc
-  shown_alike size staged work table found.Nothing (found.At i) found.Nothing p n = absurd (absent_held refl (p (row_at size i work) refl))
-  shown_alike size staged work table found.Nothing found.Nothing l p n = absurd (n refl refl)
+  shown_alike size staged work table (Some i) g l p n = refl
+  shown_alike size staged work table None (Some i) (Some j) p n = let q = p (row_at size i work) refl in cc
+  shown_alike size staged work table None (Some i) None p n = absurd (absent_held refl (p (row_at size i work) refl))
+  shown_alike size staged work table None None l p n = absurd (n refl refl)
 
   pub inspect_law : InspectLaw E
   unfolding inspect_row spills_ok held_in

@@ -8,8 +8,7 @@ use lib.ListN.{length}
 use lib.IntN.{pos}
 use Rattle.stores.specs.Equal.{same_bytes}
 use Rattle.stores.proofs.EqualLaws.{same_true}
-use Rattle.records.specs.declared.Found.{Found}
-use Rattle.records.specs.declared.Found.TheVariants.{At, Nothing}
+use Rattle.std.specs.Prelude.{Option, Some, None}
 use Rattle.index_types.specs.declared.ListCounts.{ListCounts}
 use Rattle.records.specs.Records.{keys, record_of}
 use Rattle.records.specs.Find.{find_key, row_at, place_of}
@@ -31,19 +30,19 @@ use Rattle.working_set.proofs.Outcomes.{count_falls}
 use Rattle.working_set.proofs.Places.{absent_held}
 
 -- ---- what a list shows, by the row under a key
-held_row : (size : ℕ) (l : List ℕ) (f : Found) (row : List ℕ) → held_by size l f ≡ held row → found_row size l f ≡ row
-held_row size l (At i) row e = cc
-held_row size l Nothing row e = absurd (absent_held refl e)
+held_row : (size : ℕ) (l : List ℕ) (f : Option ℕ) (row : List ℕ) → held_by size l f ≡ held row → found_row size l f ≡ row
+held_row size l (Some i) row e = cc
+held_row size l None row e = absurd (absent_held refl e)
 
-row_held : (size : ℕ) (l : List ℕ) (f g : Found) (i : ℕ) (row : List ℕ) → f ≡ At i → found_row size l f ≡ row → held_by size l f ≡ held row
-row_held size l (At j) g i row e h = ap held h
-row_held size l Nothing g i row e h = let z : ◌≡◌ {A = ℕ} 0 1 = cc in absurd (omega arith)
+row_held : (size : ℕ) (l : List ℕ) (f g : Option ℕ) (i : ℕ) (row : List ℕ) → f ≡ Some i → found_row size l f ≡ row → held_by size l f ≡ held row
+row_held size l (Some j) g i row e h = ap held h
+row_held size l None g i row e h = let z : ◌≡◌ {A = ℕ} 0 1 = cc in absurd (omega arith)
 
-held_same : (size : ℕ) (l k : List ℕ) (f g : Found) → f ≡ g → found_row size l f ≡ found_row size k g → held_by size l f ≡ held_by size k g
-held_same size l k (At i) (At j) e h = ap held h
-held_same size l k (At i) Nothing e h = let z : ◌≡◌ {A = ℕ} 0 1 = cc in absurd (omega arith)
-held_same size l k Nothing (At j) e h = let z : ◌≡◌ {A = ℕ} 0 1 = cc in absurd (omega arith)
-held_same size l k Nothing Nothing e h = refl
+held_same : (size : ℕ) (l k : List ℕ) (f g : Option ℕ) → f ≡ g → found_row size l f ≡ found_row size k g → held_by size l f ≡ held_by size k g
+held_same size l k (Some i) (Some j) e h = ap held h
+held_same size l k (Some i) None e h = let z : ◌≡◌ {A = ℕ} 0 1 = cc in absurd (omega arith)
+held_same size l k None (Some j) e h = let z : ◌≡◌ {A = ℕ} 0 1 = cc in absurd (omega arith)
+held_same size l k None None e h = refl
 
 module _ (E : Edition) (ids : Parent → List ℕ) (L : EditionLaws E ids) where
   -- ---- a row put into a list
@@ -60,7 +59,7 @@ module _ (E : Edition) (ids : Parent → List ℕ) (L : EditionLaws E ids) where
     pub put_shows : held_in E.size (counts_with E key c l).count (bytes_with E key row c l) key ≡ held row
     unfolding held_in
     put_shows =
-        row_held E.size (bytes_with E key row c l) _ Nothing _ row
+        row_held E.size (bytes_with E key row c l) _ None _ row
         (find_after_put E.size c.count key rec l (record_length E.size key row k fits) (record_key E.size key row k) ok.bounds.within (slot_room E.size c key l ok.bounds f))
         (row_after_put E.size c.count key rec l (record_length E.size key row k fits) (record_key E.size key row k) ok.bounds.within (slot_room E.size c key l ok.bounds f)
         ∙ record_row E.size key row k small)
@@ -106,16 +105,16 @@ module _ (E : Edition) (ids : Parent → List ℕ) (L : EditionLaws E ids) where
 
 -- ---- the measure
 module _ (E : Edition) where
-  there : (size : ℕ) (l : List ℕ) (f g : Found) (row : List ℕ) → held_by size l g ≡ held row → is_missing (place_of f g) ≡ false
-  there size l (At i) g row e = refl
-  there size l Nothing (At j) row e = refl
-  there size l Nothing Nothing row e = absurd (absent_held refl e)
+  there : (size : ℕ) (l : List ℕ) (f g : Option ℕ) (row : List ℕ) → held_by size l g ≡ held row → is_missing (place_of f g) ≡ false
+  there size l (Some i) g row e = refl
+  there size l None (Some j) row e = refl
+  there size l None None row e = absurd (absent_held refl e)
 
-  lacks_less : (size : ℕ) (work more : List ℕ) (f g j : Found) → ((row : List ℕ) → held_by size work g ≡ held row → held_by size more j ≡ held row)
+  lacks_less : (size : ℕ) (work more : List ℕ) (f g j : Option ℕ) → ((row : List ℕ) → held_by size work g ≡ held row → held_by size more j ≡ held row)
       → is_missing (place_of f g) ≡ false → is_missing (place_of f j) ≡ false
-  lacks_less size work more (At i) g j p e = refl
-  lacks_less size work more Nothing (At i) j p e = there size more Nothing j (row_at size i work) (p (row_at size i work) refl)
-  lacks_less size work more Nothing Nothing j p e = let z : ◌≡◌ {A = ℕ} 0 1 = cc in absurd (omega arith)
+  lacks_less size work more (Some i) g j p e = refl
+  lacks_less size work more None (Some i) j p e = there size more None j (row_at size i work) (p (row_at size i work) refl)
+  lacks_less size work more None None j p e = let z : ◌≡◌ {A = ℕ} 0 1 = cc in absurd (omega arith)
 
   pub progress_law : ProgressLaw E
   unfolding place_at held_in

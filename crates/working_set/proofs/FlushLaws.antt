@@ -7,8 +7,7 @@ use mathlib.Core.List.{List, [], ◌∷◌, map}
 use native.Mathlib.Omega.{arith}
 use Rattle.stores.specs.Equal.{same_bytes}
 use Rattle.stores.proofs.EqualLaws.{same_true}
-use Rattle.records.specs.declared.Found.{Found}
-use Rattle.records.specs.declared.Found.TheVariants.{At, Nothing}
+use Rattle.std.specs.Prelude.{Option, Some, None}
 use Rattle.records.specs.Records.{records, keys, key_of, stored_row}
 use Rattle.records.specs.Find.{find_key, is_found, distinct}
 use Rattle.records.proofs.KeyLaws.{clash, differ}
@@ -43,9 +42,9 @@ held_shown : (size n : ℕ) (l key : List ℕ) → held_in size n l key ≡ show
 unfolding held_in
 held_shown size n l key = by_case (find_key key (keys size n l)) refl ∙ ap to_held (sym (lookup_is (records size n l) key))
   where
-    by_case : (f : Found) → f ≡ find_key key (keys size n l) → held_by size l f ≡ to_held (row_opt f (records size n l))
-    by_case (At i) e = ap (λ (r : List ℕ). held (stored_row r)) (sym (record_at size n i l (found_in key size n l i (At i) e refl)))
-    by_case Nothing e = refl
+    by_case : (f : Option ℕ) → f ≡ find_key key (keys size n l) → held_by size l f ≡ to_held (row_opt f (records size n l))
+    by_case (Some i) e = ap (λ (r : List ℕ). held (stored_row r)) (sym (record_at size n i l (found_in key size n l i (Some i) e refl)))
+    by_case None e = refl
 
 -- ---- puts
 shown_put : (t : Table) (k row j : List ℕ) → shown (put t k row) j ≡ put_row k row (shown t) j

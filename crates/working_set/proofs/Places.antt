@@ -5,8 +5,7 @@ use mathlib.Core.Bool.{Bool, true, false}
 use mathlib.Core.List.{List}
 use native.Mathlib.Omega.{arith}
 use lib.IntN.{pos}
-use Rattle.records.specs.declared.Found.{Found}
-use Rattle.records.specs.declared.Found.TheVariants.{At, Nothing}
+use Rattle.std.specs.Prelude.{Option, Some, None}
 use Rattle.records.specs.declared.Place.{Place}
 use Rattle.records.specs.declared.Place.TheVariants.{Staged, Table, Missing}
 use Rattle.records.specs.Records.{keys}
@@ -38,24 +37,24 @@ module _ (E : Edition) (parent staged : List ℕ) (m : ℕ) (work : List ℕ) (w
   unfolding place_at held_in
   placed kind n = by_staged (find_key (E.key kind parent (pos n)) (keys E.size m staged)) refl
     where
-      by_table : (i : ℕ) → find_key (E.key kind parent (pos n)) (keys E.size m staged) ≡ Nothing → find_key (E.key kind parent (pos n)) (keys E.size w work) ≡ At i
-          → (g : Found) → find_key (E.key kind parent (pos n)) (keys E.size t table) ≡ g → Placed kind n
-      by_table i s a (At j) b =
+      by_table : (i : ℕ) → find_key (E.key kind parent (pos n)) (keys E.size m staged) ≡ None → find_key (E.key kind parent (pos n)) (keys E.size w work) ≡ Some i
+          → (g : Option ℕ) → find_key (E.key kind parent (pos n)) (keys E.size t table) ≡ g → Placed kind n
+      by_table i s a (Some j) b =
           let p = part (E.key kind parent (pos n)) (row_at E.size i work) (rw a) in
           let q : held (row_at E.size j table) ≡ held (row_at E.size i work) = rw b at p in
           in_table i j (rw (s, a)) (rw (s, b)) (cc)
-      by_table i s a Nothing b =
+      by_table i s a None b =
           let p = part (E.key kind parent (pos n)) (row_at E.size i work) (rw a) in
           let q : absent ≡ held (row_at E.size i work) = rw b at p in
           absurd (absent_held refl q)
 
-      by_work : find_key (E.key kind parent (pos n)) (keys E.size m staged) ≡ Nothing → (g : Found) → find_key (E.key kind parent (pos n)) (keys E.size w work) ≡ g → Placed kind n
-      by_work s (At i) a = by_table i s a (find_key (E.key kind parent (pos n)) (keys E.size t table)) refl
-      by_work s Nothing a = nowhere (rw (s, a))
+      by_work : find_key (E.key kind parent (pos n)) (keys E.size m staged) ≡ None → (g : Option ℕ) → find_key (E.key kind parent (pos n)) (keys E.size w work) ≡ g → Placed kind n
+      by_work s (Some i) a = by_table i s a (find_key (E.key kind parent (pos n)) (keys E.size t table)) refl
+      by_work s None a = nowhere (rw (s, a))
 
-      by_staged : (g : Found) → find_key (E.key kind parent (pos n)) (keys E.size m staged) ≡ g → Placed kind n
-      by_staged (At i) s = in_staged i (rw s) (rw s)
-      by_staged Nothing s = by_work s (find_key (E.key kind parent (pos n)) (keys E.size w work)) refl
+      by_staged : (g : Option ℕ) → find_key (E.key kind parent (pos n)) (keys E.size m staged) ≡ g → Placed kind n
+      by_staged (Some i) s = in_staged i (rw s) (rw s)
+      by_staged None s = by_work s (find_key (E.key kind parent (pos n)) (keys E.size w work)) refl
 
   missing_true : (p : Place) → p ≡ Missing → is_missing p ≡ false → ⊥
   missing_true p e h = let q : is_missing p ≡ true = rw e in let z : ◌≡◌ {A = Bool} true false = sym q ∙ h in let v : ◌≡◌ {A = ℕ} 0 1 = cc in omega arith

@@ -7,10 +7,9 @@ use mathlib.Core.Path.{◌≡◌, refl, ap}
 use mathlib.Core.Bool.{Bool, true, false, cond, ◌||◌}
 use mathlib.Core.List.{List, [], ◌∷◌}
 use lib.Dec.{ltb, leb}
-use Rattle.buffer_core.specs.declared.Lead.{Lead}
-use Rattle.buffer_core.specs.declared.Lead.TheVariants.{Leads, NoLead}
-use Rattle.buffer_core.specs.declared.Low.{Low}
-use Rattle.buffer_core.specs.declared.Low.TheVariants.{Upto, Broken}
+use Rattle.std.specs.Prelude.{Ok, Err}
+use Rattle.buffer_core.specs.Answers.{Lead}
+use Rattle.buffer_core.specs.Answers.{Low}
 use Rattle.buffer_core.specs.declared.Look.{Look}
 use Rattle.buffer_core.specs.declared.Look.TheVariants.{Take, Stop, Next, Fail}
 use Rattle.buffer_core.specs.declared.Walk.{Walk}
@@ -25,7 +24,7 @@ use Rattle.working_set.proofs.Outcomes.{none, stuck, past, told}
 -- ---- the halving
 module _ (m : ℕ → Bool) where
   abbrev Halved : (qs rs : List ℕ) (a b : Low) → Type 0
-  Halved qs rs a b = Outcome m qs rs (a ≡ b) (a ≡ Broken 12)
+  Halved qs rs a b = Outcome m qs rs (a ≡ b) (a ≡ Err 12)
 
   by_half : (t : Bool) (u v l k : List ℕ) (a b c d : Low) → Halved u v a b → Halved l k c d → Halved (cond t u l) (cond t v k) (cond t a c) (cond t b d)
   by_half true u v l k a b c d x y = x
@@ -33,10 +32,10 @@ module _ (m : ℕ → Bool) where
 
   by_lead : (x : Lead) (target : ℕ) (u v l k : List ℕ) (a b c d : Low) → Halved u v a b → Halved l k c d
       → Halved (half_reads x target u l) (half_reads x target v k) (half x target a c) (half x target b d)
-  by_lead (Leads x) target u v l k a b c d p q = by_half (leb x target) u v l k a b c d p q
-  by_lead (NoLead code) target u v l k a b c d p q = none m refl
+  by_lead (Ok x) target u v l k a b c d p q = by_half (leb x target) u v l k a b c d p q
+  by_lead (Err code) target u v l k a b c d p q = none m refl
 
-  by_row : (n : ℕ) (x y : Lead) (target : ℕ) (u v l k : List ℕ) (a b c d : Low) → (t : Bool) → m n ≡ t → (m n ≡ false → x ≡ y) → (m n ≡ true → x ≡ NoLead 12)
+  by_row : (n : ℕ) (x y : Lead) (target : ℕ) (u v l k : List ℕ) (a b c d : Low) → (t : Bool) → m n ≡ t → (m n ≡ false → x ≡ y) → (m n ≡ true → x ≡ Err 12)
       → Halved u v a b → Halved l k c d → Halved (n ∷ half_reads x target u l) (n ∷ half_reads y target v k) (half x target a c) (half y target b d)
   by_row n x y target u v l k a b c d true e alike gone p q = stuck m n (half_reads x target u l) (half_reads y target v k) e (rw (gone e))
   by_row n x y target u v l k a b c d false e alike gone p q =
@@ -47,25 +46,25 @@ module _ (m : ℕ → Bool) where
   by_range true u v a b c x = x
   by_range false u v a b c x = none m refl
 
-  module _ (f g : ℕ → Lead) (alike : (n : ℕ) → m n ≡ false → f n ≡ g n) (gone : (n : ℕ) → m n ≡ true → f n ≡ NoLead 12) (target : ℕ) where
+  module _ (f g : ℕ → Lead) (alike : (n : ℕ) → m n ≡ false → f n ≡ g n) (gone : (n : ℕ) → m n ≡ true → f n ≡ Err 12) (target : ℕ) where
     pub sought : (k low high : ℕ)
         → Outcome m (search_reads f target k low high) (search_reads g target k low high)
-        (search_by f target k low high ≡ search_by g target k low high) (search_by f target k low high ≡ Broken 12)
+        (search_by f target k low high ≡ search_by g target k low high) (search_by f target k low high ≡ Err 12)
     unfolding search_reads search_by
     sought zero low high = none m refl
     sought (suc k) low high =
         let n : ℕ = middle low high in
-        by_range (ltb low high) _ _ _ _ (Upto low)
+        by_range (ltb low high) _ _ _ _ (Ok low)
         (by_row n (f n) (g n) target _ _ _ _ _ _ _ _ (m n) refl (alike n) (gone n) (sought k (n + 1) high) (sought k low n))
 
 -- ---- how much the halving reads
 half_length : (x : Lead) (target j : ℕ) (u l : List ℕ) → length u ≤ j → length l ≤ j → length (half_reads x target u l) ≤ j
-half_length (Leads x) target j u l a b = by_leb (leb x target)
+half_length (Ok x) target j u l a b = by_leb (leb x target)
   where
     by_leb : (t : Bool) → length (cond t u l) ≤ j
     by_leb true = a
     by_leb false = b
-half_length (NoLead code) target j u l a b = omega arith
+half_length (Err code) target j u l a b = omega arith
 
 pub halving_law : HalvingLaw
 unfolding search_reads pow2

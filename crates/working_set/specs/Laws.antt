@@ -1,5 +1,5 @@
 -- What is promised of a working set. W is the list that is borrowed, T the whole table; W is a part of T, and both pass refusal 25.
-use Rattle.std.specs.Prelude.{ℕ, zero, suc, ◌+◌, ◌≤◌, ◌<◌, ◌-◌, ◌≡◌, Bool, true, false, List, ℤ, pos, length}
+use Rattle.std.specs.Prelude.{ℕ, zero, suc, ◌+◌, ◌≤◌, ◌<◌, ◌-◌, ◌≡◌, Bool, true, false, List, ℤ, pos, length, Err}
 use Rattle.index_types.specs.declared.ListCounts.{ListCounts}
 use Rattle.records.specs.Checks.{records_ok}
 use Rattle.records.specs.Changes.{full_for}
@@ -7,10 +7,7 @@ use Rattle.segment_id.specs.declared.Kind.{Kind}
 use Rattle.segment_id.specs.declared.Kind.TheVariants.{Box}
 use Rattle.index_types.specs.declared.HeadCounts.{HeadCounts}
 use Rattle.buffer_core.specs.declared.Direction.{Direction}
-use Rattle.buffer_core.specs.declared.Lead.{Lead}
-use Rattle.index_types.specs.declared.Popped.TheVariants as popped
-use Rattle.index_types.specs.declared.Flipped.TheVariants as flipped
-use Rattle.index_types.specs.declared.Tallied.TheVariants as tallied
+use Rattle.buffer_core.specs.Answers.{Lead}
 use Rattle.buffer_core.specs.Edition.{Edition}
 use Rattle.buffer_core.specs.Spills.{sources}
 use Rattle.buffer_core.specs.Append.{counts_with, bytes_with}
@@ -18,7 +15,6 @@ use Rattle.buffer_core.specs.Pop.{Lists, lists, lists_ok, popping, pop_of}
 use Rattle.buffer_core.specs.Flip.{flipping, flip_of}
 use Rattle.buffer_core.specs.Tally.{tally_of}
 use Rattle.buffer_core.specs.Page.{paging, page_of}
-use Rattle.index_types.specs.declared.Paged.TheVariants as paged
 use Rattle.buffer_core.specs.Flush.{new_keys, table_after, flushed, flush_of}
 use Rattle.spill_places.specs.Inspection.{inspect_row}
 use Rattle.working_set.specs.Part.{Held, absent, held, held_in, PartOf, Part, lacks}
@@ -58,7 +54,7 @@ module _ (E : Edition) where
       → Outcome (lacks E Box (sources parent staged c.count work wc.count))
       (flip_reads E d parent h target c staged wc work head) (flip_reads E d parent h target c staged tc table head)
       (flip_of E d parent h target c staged wc work head ≡ flip_of E d parent h target c staged tc table head)
-      (flip_of E d parent h target c staged wc work head ≡ flipping (flipped.Refused 12) head staged)
+      (flip_of E d parent h target c staged wc work head ≡ flipping (Err 12) head staged)
 
   abbrev pub PopLaw : Type 0
   PopLaw =
@@ -67,7 +63,7 @@ module _ (E : Edition) where
       → Outcome (lacks E kind (sources parent staged c.count work wc.count))
       (pop_reads E h (lists c staged wc work e deleted) head) (pop_reads E h (lists c staged tc table e deleted) head)
       (pop_of E kind parent h (lists c staged wc work e deleted) head ≡ pop_of E kind parent h (lists c staged tc table e deleted) head)
-      (pop_of E kind parent h (lists c staged wc work e deleted) head ≡ popping (popped.Refused 12) head staged deleted)
+      (pop_of E kind parent h (lists c staged wc work e deleted) head ≡ popping (Err 12) head staged deleted)
 
   abbrev pub TallyLaw : Type 0
   TallyLaw =
@@ -76,7 +72,7 @@ module _ (E : Edition) where
       → Outcome (lacks E Box (sources parent staged c.count work wc.count))
       (tally_of_reads E parent h c staged wc work head) (tally_of_reads E parent h c staged tc table head)
       (tally_of E parent h c staged wc work head ≡ tally_of E parent h c staged tc table head)
-      (tally_of E parent h c staged wc work head ≡ tallied.Refused 12)
+      (tally_of E parent h c staged wc work head ≡ Err 12)
 
   abbrev pub PageLaw : Type 0
   PageLaw =
@@ -85,7 +81,7 @@ module _ (E : Edition) where
       → Outcome (lacks E Box (sources parent staged c.count work wc.count))
       (page_of_reads E parent h c staged wc work head n out) (page_of_reads E parent h c staged tc table head n out)
       (page_of E parent h c staged wc work head offset n out ≡ page_of E parent h c staged tc table head offset n out)
-      (page_of E parent h c staged wc work head offset n out ≡ paging (paged.Refused 12) out)
+      (page_of E parent h c staged wc work head offset n out ≡ paging (Err 12) out)
 
   -- a row that inspection shows of W is the one that it shows of T
   abbrev pub InspectLaw : Type 0

@@ -1,7 +1,5 @@
 -- What a record list shows under each key, and when one list is a part of another: the rows that are borrowed, of all the rows that are kept.
-use Rattle.std.specs.Prelude.{ℕ, ◌≡◌, Bool, true, false, List}
-use Rattle.records.specs.declared.Found.{Found}
-use Rattle.records.specs.declared.Found.TheVariants.{At, Nothing}
+use Rattle.std.specs.Prelude.{ℕ, ◌≡◌, Bool, true, false, List, Option, Some, None}
 use Rattle.records.specs.declared.Place.{Place}
 use Rattle.records.specs.declared.Place.TheVariants.{Staged, Table, Missing}
 use Rattle.index_types.specs.declared.ListCounts.{ListCounts}
@@ -16,9 +14,9 @@ pub data Held : Type 0 where
   absent : Held
   held : List ℕ → Held
 
-abbrev pub held_by : (size : ℕ) → List ℕ → Found → Held
-held_by size l (At i) = held (row_at size i l)
-held_by size l Nothing = absent
+abbrev pub held_by : (size : ℕ) → List ℕ → Option ℕ → Held
+held_by size l (Some i) = held (row_at size i l)
+held_by size l None = absent
 
 -- a record list as a map from keys to rows: what a database keeps
 unfoldable pub held_in : (size count : ℕ) → List ℕ → (key : List ℕ) → Held

@@ -1,6 +1,6 @@
 -- Which spill numbers a call reads, in the order in which it reads them, and the first of them whose row is missing: the one that the call refuses 12 for,
 -- and that is to be fetched. Each definition follows that of its call (`buffer_core`, Pop, Flip and Tally) and says what is read instead of what is answered.
-use Rattle.std.specs.Prelude.{ℕ, zero, suc, ◌+◌, ◌-◌, Bool, false, cond, ◌&&◌, ◌⊎◌, ◌≡◌, List, [], ◌∷◌, ◌++◌, eqb, ltb, leb, ℤ, nat_abs, take, length}
+use Rattle.std.specs.Prelude.{ℕ, zero, suc, ◌+◌, ◌-◌, Bool, false, cond, ◌&&◌, ◌⊎◌, ◌≡◌, List, [], ◌∷◌, ◌++◌, eqb, ltb, leb, ℤ, nat_abs, take, length, Ok, Err}
 use Rattle.entries.specs.Unspent.{page_places}
 use Rattle.signed.specs.Sign.{is_negative}
 use Rattle.entries.specs.Order.{order_ok}
@@ -10,10 +10,8 @@ use Rattle.entries.specs.declared.Position.TheVariants.{At, Seen, Absent}
 use Rattle.index_types.specs.declared.ListCounts.{ListCounts}
 use Rattle.index_types.specs.declared.HeadCounts.{HeadCounts}
 use Rattle.buffer_core.specs.declared.Direction.{Direction}
-use Rattle.buffer_core.specs.declared.Lead.{Lead}
-use Rattle.buffer_core.specs.declared.Lead.TheVariants.{Leads, NoLead}
-use Rattle.buffer_core.specs.declared.Low.{Low}
-use Rattle.buffer_core.specs.declared.Low.TheVariants.{Upto, Broken}
+use Rattle.buffer_core.specs.Answers.{Lead}
+use Rattle.buffer_core.specs.Answers.{Low}
 use Rattle.buffer_core.specs.declared.Look.{Look}
 use Rattle.buffer_core.specs.declared.Look.TheVariants.{Take, Stop, Next, Fail}
 use Rattle.buffer_core.specs.Edition.{Edition, RowRead, bad, good}
@@ -41,8 +39,8 @@ missing_of m (n ∷ ns) = cond (m n) (suc (missing_of m ns)) (missing_of m ns)
 
 -- ---- the halving
 abbrev pub half_reads : Lead → (target : ℕ) → (upper lower : List ℕ) → List ℕ
-half_reads (Leads x) target upper lower = cond (leb x target) upper lower
-half_reads (NoLead code) target upper lower = []
+half_reads (Ok x) target upper lower = cond (leb x target) upper lower
+half_reads (Err code) target upper lower = []
 
 unfoldable pub search_reads : (ℕ → Lead) → (target : ℕ) → ℕ → (low high : ℕ) → List ℕ
 search_reads f target zero low high = []
@@ -78,8 +76,8 @@ head_reads Absent rows = rows
 
 module _ (E : Edition) where
   abbrev pub low_reads : Sources → (target : ℕ) → (spend : Bool) → Low → List ℕ
-  low_reads w target d (Upto low) = walk_reads (look_at E w target d) low
-  low_reads w target d (Broken code) = []
+  low_reads w target d (Ok low) = walk_reads (look_at E w target d) low
+  low_reads w target d (Err code) = []
 
   unfoldable pub rows_reads : Sources → (target : ℕ) → (spend : Bool) → (spills : ℕ) → List ℕ
   rows_reads w target d spills =

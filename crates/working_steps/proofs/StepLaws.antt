@@ -11,13 +11,10 @@ use Rattle.records.specs.Checks.{records_ok}
 use Rattle.records.proofs.CheckLaws.{and_left, and_right}
 use Rattle.index_types.specs.declared.ListCounts.{ListCounts}
 use Rattle.index_types.specs.declared.RowEdition.TheVariants.{One}
-use Rattle.index_types.specs.declared.Appended.{Appended}
-use Rattle.index_types.specs.declared.Appended.TheVariants as appended
-use Rattle.index_types.specs.declared.Popped.{Popped}
-use Rattle.index_types.specs.declared.Popped.TheVariants as popped
-use Rattle.index_types.specs.declared.Flipped.{Flipped}
-use Rattle.index_types.specs.declared.Flipped.TheVariants as flipped
-use Rattle.index_types.specs.declared.Flushed.TheVariants as flushed
+use Rattle.std.specs.Prelude.{Ok, Err}
+use Rattle.index_types.specs.Answers.{Appended}
+use Rattle.index_types.specs.Answers.{Popped}
+use Rattle.index_types.specs.Answers.{Flipped}
 use Rattle.segment_id.specs.declared.Kind.{Kind}
 use Rattle.segment_id.specs.declared.Kind.TheVariants.{Box, Tx}
 use Rattle.buffer_core.specs.declared.Direction.{Direction}
@@ -54,11 +51,11 @@ has_room b = leb (new_keys edition_1 b) (b.table_counts.capacity - b.table_count
 flush_made : (b : Lists) → lists_ok edition_1 b ≡ true → has_room b ≡ true → flush_of edition_1 b ≡ flushed_lists edition_1 b
 flush_made b ok e = ((working_sets One).flushes b ok (leb-true (new_keys edition_1 b) (b.table_counts.capacity - b.table_counts.count) e)).0
 
-flush_full : (b : Lists) → lists_ok edition_1 b ≡ true → has_room b ≡ false → flush_of edition_1 b ≡ flushing_as (flushed.Refused 22) b.table b.staged b.deleted
+flush_full : (b : Lists) → lists_ok edition_1 b ≡ true → has_room b ≡ false → flush_of edition_1 b ≡ flushing_as (Err 22) b.table b.staged b.deleted
 unfolding flush_of flush_core
 flush_full b ok e =
-    ap (λ (t : Bool). cond t (flush_core edition_1 b) (flushing_as (flushed.Refused 25) b.table b.staged b.deleted)) ok
-    ∙ ap (λ (t : Bool). cond t (flushed_lists edition_1 b) (flushing_as (flushed.Refused 22) b.table b.staged b.deleted)) e
+    ap (λ (t : Bool). cond t (flush_core edition_1 b) (flushing_as (Err 25) b.table b.staged b.deleted)) ok
+    ∙ ap (λ (t : Bool). cond t (flushed_lists edition_1 b) (flushing_as (Err 22) b.table b.staged b.deleted)) e
 
 flush_ready : (parents : ℕ) (s : State) → Ready parents s → Ready parents (of_flush (flushed_by (flush_of edition_1 s.lists) (counts_in s.lists)) s).after
 unfolding step_of flush_by
@@ -82,8 +79,8 @@ module _ (parents : ℕ) (w : State) (tc : ListCounts) (table : List ℕ) (rw : 
 
     append_same : (a : Appended) (head : List ℤ) (staged : List ℕ) → Ready parents (append_after w (appending a head staged)).after
         → Ready parents (append_after u (appending a head staged)).after → Out (append_after w (appending a head staged)) (append_after u (appending a head staged))
-    append_same (appended.Done g c) head staged x y = as_table refl (record { work_ready = x; table_ready = y; same = refl; part = part })
-    append_same (appended.Refused code) head staged x y = as_table refl (record { work_ready = x; table_ready = y; same = refl; part = part })
+    append_same (Ok (g, c)) head staged x y = as_table refl (record { work_ready = x; table_ready = y; same = refl; part = part })
+    append_same (Err code) head staged x y = as_table refl (record { work_ready = x; table_ready = y; same = refl; part = part })
 
   appends : (k : Kind) (p : ℕ) → p < parents → (z : ℤ) → Out (step_of edition_1 (Append k p z) w) (step_of edition_1 (Append k p z) u)
   unfolding step_of append_by
@@ -98,10 +95,10 @@ module _ (parents : ℕ) (w : State) (tc : ListCounts) (table : List ℕ) (rw : 
 
     flip_same : (a : Flipped) (head : List ℤ) (staged : List ℕ) → Ready parents (flip_after w (flipping a head staged)).after → Ready parents (flip_after u (flipping a head staged)).after
         → Out (flip_after w (flipping a head staged)) (flip_after u (flipping a head staged))
-    flip_same (flipped.Done c) head staged x y = as_table refl (record { work_ready = x; table_ready = y; same = refl; part = part })
-    flip_same (flipped.Refused code) head staged x y = as_table refl (record { work_ready = x; table_ready = y; same = refl; part = part })
+    flip_same (Ok c) head staged x y = as_table refl (record { work_ready = x; table_ready = y; same = refl; part = part })
+    flip_same (Err code) head staged x y = as_table refl (record { work_ready = x; table_ready = y; same = refl; part = part })
 
-    flip_lack : (y : Stepping) (o : Flipping) → o ≡ flipping (flipped.Refused 12) (head_of Box p w.numbers) w.lists.staged → Out (flip_after w o) y
+    flip_lack : (y : Stepping) (o : Flipping) → o ≡ flipping (Err 12) (head_of Box p w.numbers) w.lists.staged → Out (flip_after w o) y
     flip_lack y o e =
         lacks (ap (λ (x : Flipping). (flip_after w x).said) e)
         (ap (λ (x : Flipping). (flip_after w x).after) e ∙ (λ i. record { ids = w.ids; numbers = put_same (head_at Box p) 512 w.numbers i; lengths = w.lengths; spills = w.spills; lists = w.lists }))
@@ -114,7 +111,7 @@ module _ (parents : ℕ) (w : State) (tc : ListCounts) (table : List ℕ) (rw : 
     flip_here = flip_on w.lists.table_counts w.lists.table
 
     flip_out : {missing : ℕ → Bool} {on_part on_all : List ℕ}
-        → set_laws.Outcome missing on_part on_all (flip_here ≡ flip_on tc table) (flip_here ≡ flipping (flipped.Refused 12) (head_of Box p w.numbers) w.lists.staged)
+        → set_laws.Outcome missing on_part on_all (flip_here ≡ flip_on tc table) (flip_here ≡ flipping (Err 12) (head_of Box p w.numbers) w.lists.staged)
         → Ready parents (flip_after p w flip_here).after → Ready parents (flip_after p u (flip_on tc table)).after → Out (flip_after p w flip_here) (flip_after p u (flip_on tc table))
     flip_out (set_laws.same m r e) x y =
         let o = flip_on tc table in
@@ -137,10 +134,10 @@ module _ (parents : ℕ) (w : State) (tc : ListCounts) (table : List ℕ) (rw : 
 
     pop_same : (a : Popped) (head : List ℤ) (staged deleted : List ℕ) → Ready parents (pop_after w (popping a head staged deleted)).after
         → Ready parents (pop_after u (popping a head staged deleted)).after → Out (pop_after w (popping a head staged deleted)) (pop_after u (popping a head staged deleted))
-    pop_same (popped.Number z g c e) head staged deleted x y = as_table refl (record { work_ready = x; table_ready = y; same = refl; part = part })
-    pop_same (popped.Refused code) head staged deleted x y = as_table refl (record { work_ready = x; table_ready = y; same = refl; part = part })
+    pop_same (Ok (z, g, c, e)) head staged deleted x y = as_table refl (record { work_ready = x; table_ready = y; same = refl; part = part })
+    pop_same (Err code) head staged deleted x y = as_table refl (record { work_ready = x; table_ready = y; same = refl; part = part })
 
-    pop_lack : (y : Stepping) (o : Popping) → o ≡ popping (popped.Refused 12) (head_of k p w.numbers) w.lists.staged w.lists.deleted → Out (pop_after w o) y
+    pop_lack : (y : Stepping) (o : Popping) → o ≡ popping (Err 12) (head_of k p w.numbers) w.lists.staged w.lists.deleted → Out (pop_after w o) y
     pop_lack y o e =
         lacks (ap (λ (x : Popping). (pop_after w x).said) e)
         (ap (λ (x : Popping). (pop_after w x).after) e ∙ (λ i. record { ids = w.ids; numbers = put_same (head_at k p) 512 w.numbers i; lengths = w.lengths; spills = w.spills; lists = w.lists }))
@@ -149,7 +146,7 @@ module _ (parents : ℕ) (w : State) (tc : ListCounts) (table : List ℕ) (rw : 
     pop_on b = pop_of edition_1 k (parent_id p w.ids) (head_counts k p w.lengths w.spills) b (head_of k p w.numbers)
 
     pop_out : {missing : ℕ → Bool} {on_part on_all : List ℕ}
-        → set_laws.Outcome missing on_part on_all (pop_on w.lists ≡ pop_on u.lists) (pop_on w.lists ≡ popping (popped.Refused 12) (head_of k p w.numbers) w.lists.staged w.lists.deleted)
+        → set_laws.Outcome missing on_part on_all (pop_on w.lists ≡ pop_on u.lists) (pop_on w.lists ≡ popping (Err 12) (head_of k p w.numbers) w.lists.staged w.lists.deleted)
         → Ready parents (pop_after w (pop_on w.lists)).after → Ready parents (pop_after u (pop_on u.lists)).after → Out (pop_after w (pop_on w.lists)) (pop_after u (pop_on u.lists))
     pop_out (set_laws.same m r e) x y =
         let o = pop_on u.lists in

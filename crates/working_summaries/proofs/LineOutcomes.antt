@@ -16,14 +16,11 @@ use Rattle.entries.specs.declared.Position.TheVariants.{At, Seen, Absent}
 use Rattle.segment_id.specs.declared.Kind.TheVariants.{Box}
 use Rattle.index_types.specs.declared.ListCounts.{ListCounts}
 use Rattle.index_types.specs.declared.HeadCounts.{HeadCounts}
-use Rattle.index_types.specs.declared.Flipped.TheVariants as flipped
-use Rattle.index_types.specs.declared.Popped.TheVariants as popped
-use Rattle.index_types.specs.declared.Summarized.{Summarized}
-use Rattle.index_types.specs.declared.Summarized.TheVariants as summarized
+use Rattle.std.specs.Prelude.{Ok, Err}
+use Rattle.index_types.specs.Answers.{Summarized}
 use Rattle.records.specs.Checks.{records_ok, keys_ok}
 use Rattle.buffer_core.specs.declared.Direction.{Direction}
-use Rattle.buffer_core.specs.declared.Low.{Low}
-use Rattle.buffer_core.specs.declared.Low.TheVariants.{Upto, Broken}
+use Rattle.buffer_core.specs.Answers.{Low}
 use Rattle.buffer_core.specs.declared.Look.{Look}
 use Rattle.buffer_core.specs.declared.Look.TheVariants.{Take, Stop, Next, Fail}
 use Rattle.buffer_core.specs.declared.Walk.{Walk}
@@ -182,8 +179,8 @@ module _ (E : Edition) (parent staged : List ℕ) (s : ℕ) (work : List ℕ) (w
         → Outcome m (below_reads E W S target d x) (below_reads E T S target d x)
         (after_lines E W capacity S (walk_after (line_look E W S target d) seen x) ≡ after_lines E T capacity S (walk_after (line_look E T S target d) seen x))
         (after_lines E W capacity S (walk_after (line_look E W S target d) seen x) ≡ with_summary (refuse 12) S)
-    low_done capacity seen (Upto low) = walk_done capacity seen low
-    low_done capacity seen (Broken code) = none m refl
+    low_done capacity seen (Ok low) = walk_done capacity seen low
+    low_done capacity seen (Err code) = none m refl
 
     lines_done : (capacity spills : ℕ) (seen : Bool)
         → Outcome m (in_lines_reads E W S target d spills) (in_lines_reads E T S target d spills)
@@ -214,12 +211,12 @@ module _ (E : Edition) (parent staged : List ℕ) (s : ℕ) (work : List ℕ) (w
   -- ---- a summary made afresh
   made_done : (spills : ℤ) (zs : List ℤ) (lines : ℕ) (S : List ℕ)
       → Outcome m (summary_core_reads E W spills zs lines) (summary_core_reads E T spills zs lines)
-      (summary_core E W spills zs lines S ≡ summary_core E T spills zs lines S) (summary_core E W spills zs lines S ≡ with_summary (summarized.Refused 12) S)
+      (summary_core E W spills zs lines S ≡ summary_core E T spills zs lines S) (summary_core E W spills zs lines S ≡ with_summary (Err 12) S)
   unfolding summary_core_reads summary_core
   made_done spills zs lines S =
-      unless_test m (order_ok zs) (with_summary (summarized.Refused 12) S) _ _ (with_summary (summarized.Refused 10) S) _ _
-      (by_test m (is_negative spills) (with_summary (summarized.Refused 12) S) _ _ (with_summary (summarized.Refused 11) S) _ _
-      (by_test m (ltb lines (nat_abs spills)) (with_summary (summarized.Refused 12) S) _ _ (with_summary (summarized.Refused 36) S) _ _
+      unless_test m (order_ok zs) (with_summary (Err 12) S) _ _ (with_summary (Err 10) S) _ _
+      (by_test m (is_negative spills) (with_summary (Err 12) S) _ _ (with_summary (Err 11) S) _ _
+      (by_test m (ltb lines (nat_abs spills)) (with_summary (Err 12) S) _ _ (with_summary (Err 36) S) _ _
       (told m (λ e. ap (λ (x : RowRead). put_lines x (nat_abs spills) lines S) e) (λ e. ap (λ (x : RowRead). put_lines x (nat_abs spills) lines S) e)
       (gathered m (row_checked E W) (row_checked E T) alike gone 0 (nat_abs spills)))))
 
@@ -229,7 +226,7 @@ module _ (E : Edition) where
   flip_lines_law d parent h target c staged wc work tc table head lines S k =
       rw (k.work_ok, k.table_ok)
       (unless_test (lacks E Box (sources parent staged c.count work wc.count)) ((head_ok h head && (records_ok E.size E.limit c staged && true)) && lines_ok lines S)
-      (with_summary (flipping (flipped.Refused 12) head staged) S) _ _ (with_summary (flipping (flipped.Refused 25) head staged) S) _ _
+      (with_summary (flipping (Err 12) head staged) S) _ _ (with_summary (flipping (Err 25) head staged) S) _ _
       (told _ (λ e. ap (λ (x : WithSummary Effect). done_lines E x c head staged) e) (λ e. ap (λ (x : WithSummary Effect). done_lines E x c head staged) e)
       (effect_done E parent staged c.count work wc.count table tc.count k.part c.capacity d target h.spills (take h.len head) lines S)))
 
@@ -238,13 +235,13 @@ module _ (E : Edition) where
   summary_law parent h c staged wc work tc table head lines S k =
       rw (k.work_ok, k.table_ok)
       (unless_test (lacks E Box (sources parent staged c.count work wc.count)) ((head_ok h head && (records_ok E.size E.limit c staged && true)) && lines_ok lines S)
-      (with_summary (summarized.Refused 12) S) _ _ (with_summary (summarized.Refused 25) S) _ _
+      (with_summary (Err 12) S) _ _ (with_summary (Err 25) S) _ _
       (made_done E parent staged c.count work wc.count table tc.count k.part h.spills (take h.len head) lines S))
 
   -- ---- a pop
   module _ (parent : List ℕ) (h : HeadCounts) (b : Lists) (head : List ℤ) (lines : ℕ) (S : List ℕ) where
     abbrev refused : ℕ → WithSummary Popping
-    refused code = with_summary (popping (popped.Refused code) head b.staged b.deleted) S
+    refused code = with_summary (popping (Err code) head b.staged b.deleted) S
 
     pop_25 : lines_ok lines S ≡ false → pop_lines_of E parent h b head lines S ≡ refused 25
     unfolding pop_lines_of
@@ -267,7 +264,7 @@ module _ (E : Edition) where
     pop_is l f = rw (l, f) (by_ok (pop_ok E h b head))
       where
         by_ok : (t : Bool) → cond (t && true) (after_pop (pop_core E Box parent h b head) h S) (refused 25)
-            ≡ after_pop (cond t (pop_core E Box parent h b head) (popping (popped.Refused 25) head b.staged b.deleted)) h S
+            ≡ after_pop (cond t (pop_core E Box parent h b head) (popping (Err 25) head b.staged b.deleted)) h S
         by_ok true = refl
         by_ok false = refl
 
@@ -295,7 +292,7 @@ module _ (E : Edition) where
           → Outcome (lacks E Box (sources parent staged c.count work wc.count))
           (pop_lines_reads E h (lists c staged wc work e deleted) head lines S) (pop_lines_reads E h (lists c staged tc table e deleted) head lines S)
           (pop_lines_of E parent h (lists c staged wc work e deleted) head lines S ≡ pop_lines_of E parent h (lists c staged tc table e deleted) head lines S)
-          (pop_lines_of E parent h (lists c staged wc work e deleted) head lines S ≡ with_summary (popping (popped.Refused 12) head staged deleted) S)
+          (pop_lines_of E parent h (lists c staged wc work e deleted) head lines S ≡ with_summary (popping (Err 12) head staged deleted) S)
       by_lines false l f q =
           rw (reads_none parent h (lists c staged wc work e deleted) head lines S l, reads_none parent h (lists c staged tc table e deleted) head lines S l)
           (none _ (pop_25 parent h (lists c staged wc work e deleted) head lines S l ∙ sym (pop_25 parent h (lists c staged tc table e deleted) head lines S l)))

@@ -18,8 +18,8 @@ use Rattle.entries.specs.declared.Position.TheVariants.{At, Seen, Absent}
 use Rattle.index_types.specs.declared.ListCounts.{ListCounts}
 use Rattle.index_types.specs.declared.HeadCounts.{HeadCounts}
 use Rattle.buffer_core.specs.declared.Direction.{Direction}
-use Rattle.buffer_core.specs.declared.Low.{Low}
-use Rattle.buffer_core.specs.declared.Low.TheVariants.{Upto, Broken}
+use Rattle.std.specs.Prelude.{Ok, Err}
+use Rattle.buffer_core.specs.Answers.{Low}
 use Rattle.buffer_core.specs.declared.Look.{Look}
 use Rattle.buffer_core.specs.declared.Look.TheVariants.{Take, Stop, Next, Fail}
 use Rattle.buffer_core.specs.Edition.{Edition, RowRead, bad, good}
@@ -115,7 +115,7 @@ module _ (S : List ℕ) (target spills : ℕ) (r : Rising S spills) where
   abbrev Before : ℕ → Type 0
   Before l = (i : ℕ) → i < l → at_line S i 0 ≤ target
 
-  found_before : (k low high l : ℕ) → high ≤ spills → Before low → search_by (line_lead S) target k low high ≡ Upto l → Before l
+  found_before : (k low high l : ℕ) → high ≤ spills → Before low → search_by (line_lead S) target k low high ≡ Ok l → Before l
   unfolding search_by
   found_before zero low high l h b e = let s : low ≡ l = cc in λ i q. b i (omega arith)
   found_before (suc k) low high l h b e =
@@ -124,18 +124,18 @@ module _ (S : List ℕ) (target spills : ℕ) (r : Rising S spills) where
       (λ m u. found_before k low (middle low high) l (omega arith) b u)
     where
       Up : Type 0
-      Up = middle low high < high → at_line S (middle low high) 0 ≤ target → search_by (line_lead S) target k (middle low high + 1) high ≡ Upto l → (i : ℕ) → i < l → at_line S i 0 ≤ target
+      Up = middle low high < high → at_line S (middle low high) 0 ≤ target → search_by (line_lead S) target k (middle low high + 1) high ≡ Ok l → (i : ℕ) → i < l → at_line S i 0 ≤ target
 
       Down : Type 0
-      Down = middle low high < high → search_by (line_lead S) target k low (middle low high) ≡ Upto l → (i : ℕ) → i < l → at_line S i 0 ≤ target
+      Down = middle low high < high → search_by (line_lead S) target k low (middle low high) ≡ Ok l → (i : ℕ) → i < l → at_line S i 0 ≤ target
 
       by_half : (t : Bool) → leb (at_line S (middle low high) 0) target ≡ t → middle low high < high
-          → cond t (search_by (line_lead S) target k (middle low high + 1) high) (search_by (line_lead S) target k low (middle low high)) ≡ Upto l → Up → Down → (i : ℕ) → i < l → at_line S i 0 ≤ target
+          → cond t (search_by (line_lead S) target k (middle low high + 1) high) (search_by (line_lead S) target k low (middle low high)) ≡ Ok l → Up → Down → (i : ℕ) → i < l → at_line S i 0 ≤ target
       by_half true q m u up down = up m (leb-true (at_line S (middle low high) 0) target q) u
       by_half false q m u up down = down m u
 
       by_range : (t : Bool) → ltb low high ≡ t
-          → cond t (cond (leb (at_line S (middle low high) 0) target) (search_by (line_lead S) target k (middle low high + 1) high) (search_by (line_lead S) target k low (middle low high))) (Upto low) ≡ Upto l
+          → cond t (cond (leb (at_line S (middle low high) 0) target) (search_by (line_lead S) target k (middle low high + 1) high) (search_by (line_lead S) target k low (middle low high))) (Ok low) ≡ Ok l
           → Up → Down → (i : ℕ) → i < l → at_line S i 0 ≤ target
       by_range true q u up down = by_half (leb (at_line S (middle low high) 0) target) refl (middle_below low high (ltb-true low high q)) u up down
       by_range false q u up down = let s : low ≡ l = cc in λ i p. b i (omega arith)
@@ -143,12 +143,12 @@ module _ (S : List ℕ) (target spills : ℕ) (r : Rising S spills) where
 module _ (E : Edition) where
   module _ (w : Sources) (S : List ℕ) (target : ℕ) (d : Bool) where
     below_spans : (x : Low) (n : ℕ) → In n (below_reads E w S target d x)
-        → (target ≤ at_line S n 1) × (((l : ℕ) → x ≡ Upto l → (i : ℕ) → i < l → at_line S i 0 ≤ target) → at_line S n 0 ≤ target)
+        → (target ≤ at_line S n 1) × (((l : ℕ) → x ≡ Ok l → (i : ℕ) → i < l → at_line S i 0 ≤ target) → at_line S n 0 ≤ target)
     unfolding line_reads
-    below_spans (Upto low) n i =
+    below_spans (Ok low) n i =
         let a = in_searched (passed_over S target) (walk_reads (line_look E w S target d) low) n i in
         (ltb-false (at_line S n 1) target a.0, λ f. f low refl n (in_walk (line_look E w S target d) low n a.1))
-    below_spans (Broken code) n i = absurd i
+    below_spans (Err code) n i = absurd i
 
     lines_span : (spills n : ℕ) → In n (in_lines_reads E w S target d spills) → (target ≤ at_line S n 1) × (Rising S spills → at_line S n 0 ≤ target)
     unfolding in_lines_reads
@@ -219,8 +219,8 @@ module _ (E : Edition) where
   lines_two w S target d spills n k ns e = by_low (search_in (line_lead S) target 0 spills) e
     where
       by_low : (x : Low) → below_reads E w S target d x ≡ n ∷ k ∷ ns → target ≤ at_line S n 0
-      by_low (Upto low) q = two_rows E w S target d low n k ns q
-      by_low (Broken code) q = nope (cc)
+      by_low (Ok low) q = two_rows E w S target d low n k ns q
+      by_low (Err code) q = nope (cc)
 
   flip_two : (d : Direction) (parent : List ℕ) (h : HeadCounts) (target : ℤ) (c : ListCounts) (staged : List ℕ) (e : ListCounts) (table : List ℕ) (head : List ℤ) (lines : ℕ) (S : List ℕ) (n k : ℕ) (ns : List ℕ)
       → flip_lines_reads E d parent h target c staged e table head lines S ≡ n ∷ k ∷ ns → nat_abs target ≤ at_line S n 0

@@ -1,11 +1,8 @@
 -- What is promised of the calls with a summary over a working set W, a part of the table T: each does on W what it does on T, or answers 12 and changes nothing, the
 -- summary included. And how many rows a spend reads: with lines that do not fall, one, unless the target is the first number of that row.
-use Rattle.std.specs.Prelude.{ℕ, ◌≤◌, ◌<◌, ◌≡◌, Bool, List, ◌∷◌, ℤ, nat_abs}
+use Rattle.std.specs.Prelude.{ℕ, ◌≤◌, ◌<◌, ◌≡◌, Bool, List, ◌∷◌, ℤ, nat_abs, Err}
 use Rattle.index_types.specs.declared.ListCounts.{ListCounts}
 use Rattle.index_types.specs.declared.HeadCounts.{HeadCounts}
-use Rattle.index_types.specs.declared.Flipped.TheVariants as flipped
-use Rattle.index_types.specs.declared.Popped.TheVariants as popped
-use Rattle.index_types.specs.declared.Summarized.TheVariants as summarized
 use Rattle.segment_id.specs.declared.Kind.TheVariants.{Box}
 use Rattle.buffer_core.specs.declared.Direction.{Direction}
 use Rattle.buffer_core.specs.Edition.{Edition}
@@ -33,7 +30,7 @@ module _ (E : Edition) where
       → Outcome (lacks E Box (sources parent staged c.count work wc.count))
       (flip_lines_reads E d parent h target c staged wc work head lines S) (flip_lines_reads E d parent h target c staged tc table head lines S)
       (flip_lines_of E d parent h target c staged wc work head lines S ≡ flip_lines_of E d parent h target c staged tc table head lines S)
-      (flip_lines_of E d parent h target c staged wc work head lines S ≡ with_summary (flipping (flipped.Refused 12) head staged) S)
+      (flip_lines_of E d parent h target c staged wc work head lines S ≡ with_summary (flipping (Err 12) head staged) S)
 
   abbrev pub PopLinesLaw : Type 0
   PopLinesLaw =
@@ -42,7 +39,7 @@ module _ (E : Edition) where
       → Outcome (lacks E Box (sources parent staged c.count work wc.count))
       (pop_lines_reads E h (lists c staged wc work e deleted) head lines S) (pop_lines_reads E h (lists c staged tc table e deleted) head lines S)
       (pop_lines_of E parent h (lists c staged wc work e deleted) head lines S ≡ pop_lines_of E parent h (lists c staged tc table e deleted) head lines S)
-      (pop_lines_of E parent h (lists c staged wc work e deleted) head lines S ≡ with_summary (popping (popped.Refused 12) head staged deleted) S)
+      (pop_lines_of E parent h (lists c staged wc work e deleted) head lines S ≡ with_summary (popping (Err 12) head staged deleted) S)
 
   abbrev pub SummaryLaw : Type 0
   SummaryLaw =
@@ -51,7 +48,7 @@ module _ (E : Edition) where
       → Outcome (lacks E Box (sources parent staged c.count work wc.count))
       (summary_reads E parent h c staged wc work head lines S) (summary_reads E parent h c staged tc table head lines S)
       (summary_of E parent h c staged wc work head lines S ≡ summary_of E parent h c staged tc table head lines S)
-      (summary_of E parent h c staged wc work head lines S ≡ with_summary (summarized.Refused 12) S)
+      (summary_of E parent h c staged wc work head lines S ≡ with_summary (Err 12) S)
 
   -- ---- what to fetch: the missing row of a pop with a summary is that of the pop, and the one of a summary made afresh is that of the tally
   abbrev pub PopNamedLaw : Type 0

@@ -1,13 +1,12 @@
 -- Which spill numbers a call with a summary reads, in the order in which it reads them. An append and the tally by a summary read no row: they borrow no table.
-use Rattle.std.specs.Prelude.{ℕ, Bool, false, cond, ◌&&◌, List, [], ◌∷◌, ltb, leb, ℤ, nat_abs, take}
+use Rattle.std.specs.Prelude.{ℕ, Bool, false, cond, ◌&&◌, List, [], ◌∷◌, ltb, leb, ℤ, nat_abs, take, Ok, Err}
 use Rattle.signed.specs.Sign.{is_negative}
 use Rattle.entries.specs.Order.{order_ok}
 use Rattle.entries.specs.Flip.{position}
 use Rattle.index_types.specs.declared.ListCounts.{ListCounts}
 use Rattle.index_types.specs.declared.HeadCounts.{HeadCounts}
 use Rattle.buffer_core.specs.declared.Direction.{Direction}
-use Rattle.buffer_core.specs.declared.Low.{Low}
-use Rattle.buffer_core.specs.declared.Low.TheVariants.{Upto, Broken}
+use Rattle.buffer_core.specs.Answers.{Low}
 use Rattle.buffer_core.specs.Edition.{Edition}
 use Rattle.buffer_core.specs.Spills.{Sources, sources}
 use Rattle.buffer_core.specs.Pop.{Lists}
@@ -32,8 +31,8 @@ module _ (E : Edition) where
   line_reads w S target d low = searched (passed_over S target) (walk_reads (line_look E w S target d) low)
 
   abbrev pub below_reads : Sources → (S : List ℕ) (target : ℕ) → (spend : Bool) → Low → List ℕ
-  below_reads w S target d (Upto low) = line_reads w S target d low
-  below_reads w S target d (Broken code) = []
+  below_reads w S target d (Ok low) = line_reads w S target d low
+  below_reads w S target d (Err code) = []
 
   -- the halving over the lines reads no row
   unfoldable pub in_lines_reads : Sources → (S : List ℕ) (target : ℕ) → (spend : Bool) → (spills : ℕ) → List ℕ

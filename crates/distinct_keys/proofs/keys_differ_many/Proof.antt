@@ -3,7 +3,7 @@ use Rattle.std.proofs.Common.{◌≡◌, ◌+◌, ◌*◌, ◌≤◌, length, dr
 use Rattle.records.specs.Records.{keys}
 use Rattle.records.specs.Find.{distinct}
 use Rattle.records.proofs.TurnLaws.{rest_part}
-use Rattle.distinct_keys.proofs.TreeLaws.{left_block, whole_block, not_true, not_false}
+use Rattle.distinct_keys.proofs.TreeLaws.{left_block, whole_block}
 use Rattle.distinct_keys.proofs.keys_differ_many.Statement.{statement}
 use Rattle.distinct_keys.proofs.keys_differ_many.Tie as tie
 

@@ -80,7 +80,7 @@ search_search_requires_2 : (t : ℕ) → search_lts.Need-search-requires-else-fi
 ) (search_at t) search'.Post
 search_search_requires_2 t c κs = (falls_down c.before.before.before.before.before.before.before.args.low c.before.before.before.before.before.before.before.args.high t c.before.before.before.before.before.before.before.requires.0 c.before.before.before.if-low-high.true, (c.before.before.before.before.before.before.before.requires.1.0, c.before.before.before.before.before.before.before.requires.1.1, omega (arith, middle_below c.before.before.before.before.before.before.before.args.low c.before.before.before.before.before.before.before.args.high c.before.before.before.if-low-high.true), c.before.before.before.before.before.before.before.requires.1.3))
 
-search_enum_known_lead_2 : (t : ℕ) → search_lts.Need-enum_known-lead-in-NoLead-1 (
+search_enum_known_lead_2 : (t : ℕ) → search_lts.Need-enum_known-lead-in-Err-1 (
   lead_of_reads.Asked,
   lead_of_reads.Learnt,
   search_below t,
@@ -97,7 +97,7 @@ search_returns : (t : ℕ) → search_lts.Need-returns-then-first-target (
 search_returns t c =
     let a = c.before.before.before.before.before.before.before.before.args in
     let w = sources a.parent.now a.staged.now a.staged_count a.table.now a.table_count in
-    search_up (lead_at (edition_of a.edition) w) a.target a.low a.high c.before.before.before.before.if-low-high.true _ c.before.before.before.lead_of-lead.ensures _ _ c.before.before.in-Leads.is c.before.if-first-target.true c.search.ensures
+    search_up (lead_at (edition_of a.edition) w) a.target a.low a.high c.before.before.before.before.if-low-high.true _ c.before.before.before.lead_of-lead.ensures _ _ c.before.before.in-Ok.is c.before.if-first-target.true c.search.ensures
 
 search_returns_2 : (t : ℕ) → search_lts.Need-returns-else-first-target (
   lead_of_reads.Asked,
@@ -108,9 +108,9 @@ search_returns_2 : (t : ℕ) → search_lts.Need-returns-else-first-target (
 search_returns_2 t c =
     let a = c.before.before.before.before.before.before.before.before.args in
     let w = sources a.parent.now a.staged.now a.staged_count a.table.now a.table_count in
-    search_down (lead_at (edition_of a.edition) w) a.target a.low a.high c.before.before.before.before.if-low-high.true _ c.before.before.before.lead_of-lead.ensures _ _ c.before.before.in-Leads.is c.before.if-first-target.false c.search-else-first-target.ensures
+    search_down (lead_at (edition_of a.edition) w) a.target a.low a.high c.before.before.before.before.if-low-high.true _ c.before.before.before.lead_of-lead.ensures _ _ c.before.before.in-Ok.is c.before.if-first-target.false c.search-else-first-target.ensures
 
-search_returns_3 : (t : ℕ) → search_lts.Need-returns-in-NoLead (
+search_returns_3 : (t : ℕ) → search_lts.Need-returns-in-Err (
   lead_of_reads.Asked,
   lead_of_reads.Learnt,
   search_below t,
@@ -119,7 +119,7 @@ search_returns_3 : (t : ℕ) → search_lts.Need-returns-in-NoLead (
 search_returns_3 t c =
     let a = c.before.before.before.before.before.before.args in
     let w = sources a.parent.now a.staged.now a.staged_count a.table.now a.table_count in
-    search_bad (lead_at (edition_of a.edition) w) a.target a.low a.high c.before.before.if-low-high.true _ c.before.lead_of-lead.ensures _ c.in-NoLead.is
+    search_bad (lead_at (edition_of a.edition) w) a.target a.low a.high c.before.before.if-low-high.true _ c.before.lead_of-lead.ensures _ c.in-Err.is
 
 search_returns_4 : (t : ℕ) → search_lts.Need-returns-else-low-high (
   lead_of_reads.Asked,

@@ -49,7 +49,7 @@ loop-again : tie.Need-loop-low-preserved-then-first-target invariant_loop decrea
 loop-again c =
     let a = c.before.before.before.before.before.before.before.before.args in
     let l = c.before.before.before.before.loop-low in
-    (l.invariant.0, omega (arith, middle_below l.low l.high c.before.before.before.loop-low-test.true, l.invariant.0), l.invariant.2 ∙ inside_up (edition_of a.edition) (sources a.parent.now a.staged.now a.staged_count a.table.now a.table_count) a.target a.spend l.low l.high c.before.before.before.loop-low-test.true _ c.before.before.lead_of-lead.ensures _ c.before.in-Leads.is c.if-first-target.true)
+    (l.invariant.0, omega (arith, middle_below l.low l.high c.before.before.before.loop-low-test.true, l.invariant.0), l.invariant.2 ∙ inside_up (edition_of a.edition) (sources a.parent.now a.staged.now a.staged_count a.table.now a.table_count) a.target a.spend l.low l.high c.before.before.before.loop-low-test.true _ c.before.before.lead_of-lead.ensures _ c.before.in-Ok.is c.if-first-target.true)
 
 loop-less-2 : tie.Need-loop-low-smaller invariant_loop decreases_loop
 loop-less-2 c = falls_down c.before.before.before.before.loop-low.low c.before.before.before.before.loop-low.high _ refl c.before.before.before.loop-low-test.true
@@ -58,7 +58,7 @@ loop-again-2 : tie.Need-loop-low-preserved invariant_loop decreases_loop
 loop-again-2 c =
     let a = c.before.before.before.before.before.before.before.before.args in
     let l = c.before.before.before.before.loop-low in
-    (omega (arith, middle_below l.low l.high c.before.before.before.loop-low-test.true, l.invariant.0), l.invariant.1, l.invariant.2 ∙ inside_down (edition_of a.edition) (sources a.parent.now a.staged.now a.staged_count a.table.now a.table_count) a.target a.spend l.low l.high c.before.before.before.loop-low-test.true _ c.before.before.lead_of-lead.ensures _ c.before.in-Leads.is c.if-first-target.false)
+    (omega (arith, middle_below l.low l.high c.before.before.before.loop-low-test.true, l.invariant.0), l.invariant.1, l.invariant.2 ∙ inside_down (edition_of a.edition) (sources a.parent.now a.staged.now a.staged_count a.table.now a.table_count) a.target a.spend l.low l.high c.before.before.before.loop-low-test.true _ c.before.before.lead_of-lead.ensures _ c.before.in-Ok.is c.if-first-target.false)
 
 enum_told : tie.Need-enum_told-1 invariant_loop decreases_loop
 enum_told c = search rules
@@ -69,11 +69,11 @@ ask_requires c κs =
     let l = c.before.before.before.loop-low in
     (s.requires.0, omega (arith, middle_below l.low l.high c.before.before.loop-low-test.true, l.invariant.0))
 
-returns : tie.Need-returns-in-NoLead invariant_loop decreases_loop
+returns : tie.Need-returns-in-Err invariant_loop decreases_loop
 returns c =
     let a = c.before.before.before.before.before.before.before.before.args in
     let l = c.before.before.before.before.loop-low in
-    c.ask.ensures ∙ inside_asks (edition_of a.edition) (sources a.parent.now a.staged.now a.staged_count a.table.now a.table_count) a.target a.spend l.low l.high c.before.before.before.loop-low-test.true _ c.before.before.lead_of-lead.ensures _ c.before.in-NoLead.is ∙ sym l.invariant.2
+    c.ask.ensures ∙ inside_asks (edition_of a.edition) (sources a.parent.now a.staged.now a.staged_count a.table.now a.table_count) a.target a.spend l.low l.high c.before.before.before.loop-low-test.true _ c.before.before.lead_of-lead.ensures _ c.before.in-Err.is ∙ sym l.invariant.2
 
 seek_down_requires : tie.Need-seek_down-requires invariant_loop decreases_loop
 seek_down_requires c κs = (c.before.before.before.before.before.requires.0, c.before.loop-low.invariant.1)

@@ -3,7 +3,7 @@ use Prim.Native.Nat.{ℕ, ◌<◌, ◌-◌}
 use mathlib.Core.Path.{refl, ap}
 use native.Mathlib.Omega.{arith}
 use borrow.Author.Rules.{rules}
-use Rattle.buffer_core.specs.declared.Lead.TheVariants.{Leads}
+use Rattle.std.specs.Prelude.{Ok}
 use Rattle.summary_core.specs.Flip.{line_lead}
 use Rattle.flip_search.proofs.SearchLaws.{middle_below, falls_up, falls_down, search_up, search_down, search_end}
 use borrow.Fn.Kinds.{In}
@@ -84,7 +84,7 @@ search_returns : (t : ℕ) → search_lts.Need-returns-then-first-target (
 ) (search_at t) search'.Post
 search_returns t c =
     let a = c.before.before.before.before.before.args in
-    search_up (line_lead a.summary.now) a.target a.low a.high c.before.before.before.if-low-high.true _ (ap Leads c.before.before.number_at-first.ensures) _ _ refl c.before.if-first-target.true c.search.ensures
+    search_up (line_lead a.summary.now) a.target a.low a.high c.before.before.before.if-low-high.true _ (ap Ok c.before.before.number_at-first.ensures) _ _ refl c.before.if-first-target.true c.search.ensures
 
 search_returns_2 : (t : ℕ) → search_lts.Need-returns-else-first-target (
   number_at_reads.Asked,
@@ -94,7 +94,7 @@ search_returns_2 : (t : ℕ) → search_lts.Need-returns-else-first-target (
 ) (search_at t) search'.Post
 search_returns_2 t c =
     let a = c.before.before.before.before.before.args in
-    search_down (line_lead a.summary.now) a.target a.low a.high c.before.before.before.if-low-high.true _ (ap Leads c.before.before.number_at-first.ensures) _ _ refl c.before.if-first-target.false c.search-else-first-target.ensures
+    search_down (line_lead a.summary.now) a.target a.low a.high c.before.before.before.if-low-high.true _ (ap Ok c.before.before.number_at-first.ensures) _ _ refl c.before.if-first-target.false c.search-else-first-target.ensures
 
 search_returns_3 : (t : ℕ) → search_lts.Need-returns-else-low-high (
   number_at_reads.Asked,

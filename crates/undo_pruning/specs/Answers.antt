@@ -1,0 +1,5 @@
+-- The answers of calls: what an accepted call gives, or the number of the refusal.
+use Rattle.std.specs.Prelude.{ℕ, Result}
+
+abbrev pub Pruned : Type 0
+Pruned = Result ℕ ℕ
