@@ -1,11 +1,11 @@
 -- Laws of `write`: its length, what stands before, in and behind the part written, writes that meet; and the loop that writes one place at a time.
-use Prim.Native.Nat.{ℕ, suc, ◌+◌, ◌≤◌, ◌<◌}
+use Prim.Native.Nat.{ℕ, suc, ◌+◌, ◌-◌, ◌≤◌, ◌<◌}
 use mathlib.Core.Path.{◌≡◌, sym, ap, ◌∙◌}
 use mathlib.Core.List.{List, [], ◌∷◌, ◌++◌, append_assoc, append-nil}
 use native.Mathlib.Omega.{arith}
 use native.Mathlib.Numerals.{add-one}
 use lib.ListN.{length, get_or, take, drop, set, length-take, length-drop, length-append, drop_of_length-le}
-use lib.Seq.{drop-drop, take-length, take_at, drop_at, paste, paste-zero, paste-suc, get_or-drop, get_or-take, set_split, append_snoc, sets, sets-eq}
+use lib.Seq.{drop-drop, take-length, take_at, drop_at, paste, paste-zero, paste-suc, drop-paste, get_or-drop, get_or-take, set_split, append_snoc, sets, sets-eq}
 use Rattle.stores.specs.Stores.{write}
 
 module _ {A : Type 0} where
@@ -26,6 +26,15 @@ module _ {A : Type 0} where
   pub write_end : (d d' s : List A) (at j : ℕ) → d' ≡ so_far d at s j → j ≡ length s → d' ≡ write at s d
   unfolding write so_far
   write_end d d' s at j e h = e ∙ rw (h, take-length)
+
+  -- what lies behind the part written so far is as it was
+  pub write_ahead : (d d' s : List A) (at j k : ℕ) (z : A) → d' ≡ so_far d at s j → at + j ≤ length d → j ≤ length s → at + j ≤ k → get_or d' k z ≡ get_or d k z
+  unfolding so_far
+  write_ahead d d' s at j k z e h g m =
+      let q : at + j + (k - (at + j)) ≡ k = omega arith in
+      let f : get_or (drop (at + j) d') (k - (at + j)) z ≡ get_or (drop (at + j) d) (k - (at + j)) z
+      = rw e (ap (λ (l : List A). get_or l (k - (at + j)) z) (drop-paste d at s j (omega arith) g)) in
+      rw (get_or-drop, get_or-drop, q) at f
 
   -- ---- a write
 

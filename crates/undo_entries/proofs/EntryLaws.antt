@@ -1,20 +1,18 @@
 -- Laws of the undo entry: its length, one law for each way out of encoding and decoding, and that an encoding is decoded to its entry.
 use Prim.Native.Nat.{ℕ, ◌+◌, ◌≤◌, ◌<◌}
-use mathlib.Core.Path.{◌≡◌, refl, sym, ap, ◌∙◌}
-use mathlib.Core.Bool.{Bool, true, false, cond}
-use mathlib.Core.List.{List, [], ◌∷◌, ◌++◌, append_assoc, append-nil}
+use mathlib.Core.Path.{◌≡◌, ap, ◌∙◌}
+use mathlib.Core.Bool.{Bool, true, false}
+use mathlib.Core.List.{List, ◌∷◌, ◌++◌}
 use native.Mathlib.Omega.{arith}
-use lib.ListN.{length, get_or, take, drop, replicate, length-append, length-replicate}
-use lib.Seq.{take_at, drop_at}
-use borrow.Author.Tests.{eq-eqb, ne_eqb, lt-ltb, le-ltb, le-leb, lt-leb}
+use lib.ListN.{length, get_or, take, drop, length-append}
+use borrow.Author.Tests.{ne_eqb, lt-ltb, le-ltb, le-leb, lt-leb}
 use Rattle.stores.specs.Stores.{write, Put}
 use Rattle.stores.proofs.StoreLaws.{sets_write}
 use Rattle.big_endian.specs.BigEndian.{eight_bytes, value_at}
-use Rattle.big_endian.proofs.ByteLaws.{length_eight, value_at_back}
-use Rattle.undo_entries.specs.Entry.{tagged, encoding, encoded, encoded_of, no_header, accepted, refused_with, numbers_of, decoded_of}
+use Rattle.big_endian.proofs.ByteLaws.{length_eight}
+use Rattle.undo_entries.specs.Entry.{encoding, encoded, encoded_of, no_header, accepted, refused_with, numbers_of, decoded_of}
 use Rattle.undo_entries.specs.declared.UndoEntry.{UndoEntry}
 use Rattle.std.specs.Prelude.{Ok, Err}
-use Rattle.undo_entries.specs.declared.Decoded.{Decoded}
 
 pub length_numbers : (m n : ℕ) → length (eight_bytes m ++ eight_bytes n) ≡ 16
 length_numbers m n = omega (arith, length-append (eight_bytes m) (eight_bytes n), length_eight m, length_eight n)

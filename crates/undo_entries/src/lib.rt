@@ -93,9 +93,8 @@ fn header_of(bytes: &[u8]) -> [u8; 32]
     requires { 33 ≤ length bytes.now }
     ensures { result ≡ take 32 (drop 1 bytes.now) }
 {
-    let mut header = [0u8; 32];
-    stores::copy_bytes(&mut header, 0, &bytes[1..33]);
-    header
+    let (parts, _) = bytes[1..33].as_chunks::<32>();
+    parts[0]
 }
 
 // The two numbers at a position, which end the entry.
